@@ -72,6 +72,8 @@ impl Tool for Replacing {
 
     ghost answer_of = { λ tool texts. icebram_answer tool.modes texts };
 
+    type Made = Vec<u8>;
+
     fn answer(&self, alloc: Global, loaded: &Vec<Vec<u8>>) -> Result<Vec<u8>, Stop<'_>> {
         replaced_by(
             alloc,

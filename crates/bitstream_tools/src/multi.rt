@@ -55,6 +55,8 @@ impl Tool for Joining {
 
     ghost answer_of = { λ tool images. join_answer tool.options images };
 
+    type Made = Vec<u8>;
+
     fn answer(&self, alloc: Global, loaded: &Vec<Vec<u8>>) -> Result<Vec<u8>, Stop<'_>> {
         match join(alloc, loaded, self.options) {
             Ok(file) => Ok(file),

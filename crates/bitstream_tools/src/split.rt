@@ -63,6 +63,8 @@ impl Tool for Splitting {
 
     ghost answer_of = { λ tool texts. icesplit_answer tool.wanted texts };
 
+    type Made = Vec<u8>;
+
     fn answer(&self, alloc: Global, loaded: &Vec<Vec<u8>>) -> Result<Vec<u8>, Stop<'_>> {
         split_bytes(alloc, loaded_at(loaded, 0), self.wanted)
     }

@@ -22,10 +22,12 @@ use Rattle.tool_parts.specs.Outcomes.{asked}
 use Rattle.tool_parts.proofs.Appended.{helped-kept}
 use Rattle.tool_parts.proofs.CommandLines.{helped-no}
 use Rattle.module_tools.specs.declared.request.TheConstants.{VLOGRUN_HELP}
-use Rattle.module_tools.specs.Vlogrun.{run_of, run_over, vlogrun, vlogrun_answer, vlogrun_command, vlogrun_name, vlogrun_outcome, vlogrun_task_by, vlogrun_task_of, vlogrun_usage}
+use Rattle.module_tools.specs.declared.told.Told.{Told}
+use Rattle.module_tools.specs.declared.told.Told.TheVariants.{Lines}
+use Rattle.module_tools.specs.Vlogrun.{run_of, run_over, told_by, vlogrun, vlogrun_answer, vlogrun_command, vlogrun_name, vlogrun_outcome, vlogrun_task_by, vlogrun_task_of, vlogrun_usage}
 use Rattle.design_parts.specs.Lines.{fabric_events, fabric_text}
 use Rattle.design_parts.proofs.Lines.{run-shown}
-use Rattle.icestorm_cli.specs.Runs.{IsModuleOf, PromisesRun, RunsFabric, shows_registers}
+use Rattle.icestorm_cli.specs.Runs.{IsModuleOf, PromisesRun, RunsFabric, shows_registers, tells_waves}
 
 -- ---- the lines
 
@@ -33,16 +35,16 @@ done-same : (one other : List ℕ) → Done one ≡ Done other → one ≡ other
 done-same one other same = cc
 
 -- what is written where the events have no fault
-over-done : (registers : Bool) (m : Parts) (events lines : List ℕ) (fault : Option EventFault) → run_over registers m events fault ≡ Done lines
+over-done : (registers : Bool) (m : Parts) (events lines : List ℕ) (fault : Option EventFault) → run_over (Lines registers) m events fault ≡ Done lines
     → lines ≡ run_text m (events_of m.ports events) registers
 over-done registers m events lines None is = sym (done-same _ _ is)
 over-done registers m events lines (Some fault) is = absurd cc
 
 -- what is written of a text that spells a module
-spelled-done : (registers : Bool) (m : Parts) (text events lines : List ℕ) → IsSpelling text m → run_of registers (outcome_of text) events ≡ Done lines
+spelled-done : (registers : Bool) (m : Parts) (text events lines : List ℕ) → IsSpelling text m → run_of (Lines registers) (outcome_of text) events ≡ Done lines
     → lines ≡ run_text m (events_of m.ports events) registers
 spelled-done registers m text events lines spells done =
-    over-done registers m events lines (event_fault m.ports events) (sym (ap (λ outcome. run_of registers outcome events) (outcome-spelled text m spells)) ∙ done)
+    over-done registers m events lines (event_fault m.ports events) (sym (ap (λ outcome. run_of (Lines registers) outcome events) (outcome-spelled text m spells)) ∙ done)
 
 -- the lines of the module of a design
 module-shown : (db : Database) (image : Configuration) (m : Parts) → IsModuleOf db image m → (registers : Bool) (events : List ℕ) (entries : List Entry)
@@ -61,22 +63,25 @@ module-shown db image m is registers events entries run =
 abbrev TaskRuns : Bool → Task → Type 0
 TaskRuns registers task = (texts : List (List ℕ)) (bytes : List ℕ) → task.answer texts ≡ Done bytes → RunsFabric registers texts bytes
 
-task-of : (registers : Bool) (text events : Option Text) → TaskRuns registers (vlogrun_task_of registers text events)
-task-of registers (Some text) events = λ texts bytes done db image m is spells entries run.
+task-of : (registers waves : Bool) (text events : Option Text) → waves ≡ false → TaskRuns registers (vlogrun_task_of (told_by registers waves) text events)
+task-of registers false (Some text) events no = λ texts bytes done db image m is spells entries run.
     spelled-done registers m (get_or texts 0 []) (get_or texts 1 []) bytes spells done ∙ module-shown db image m is registers (get_or texts 1 []) entries run
-task-of registers None events = λ texts bytes done. absurd cc
+task-of registers false None events no = λ texts bytes done. absurd cc
+task-of registers true text events no = absurd cc
 
-target-of : (registers : Bool) (text events : Option Text) → (vlogrun_task_of registers text events).target ≡ None
-target-of registers (Some text) events = refl
-target-of registers None events = refl
+target-of : (told : Option Told) (text events : Option Text) → (vlogrun_task_of told text events).target ≡ None
+target-of (Some told) (Some text) events = refl
+target-of (Some told) None events = refl
+target-of None text events = refl
 
 module _ (args : List Text) where
-  task-runs : TaskRuns (shows_registers args) (asked vlogrun args)
+  task-runs : tells_waves args ≡ false → TaskRuns (shows_registers args) (asked vlogrun args)
   unfolding asked
-  task-runs = by_case (is_taken vlogrun_command args)
+  task-runs no = by_case (is_taken vlogrun_command args)
     where
       by_case : (taken : Bool) → TaskRuns (shows_registers args) (if taken then vlogrun_task_by (matches_of vlogrun_command args) else usage_error vlogrun_name vlogrun_usage)
-      by_case true = task-of (shows_registers args) (first_of (codes "module") (matches_of vlogrun_command args)) (first_of (codes "events") (matches_of vlogrun_command args))
+      by_case true =
+          task-of (shows_registers args) (tells_waves args) (first_of (codes "module") (matches_of vlogrun_command args)) (first_of (codes "events") (matches_of vlogrun_command args)) no
       by_case false = λ texts bytes done. absurd cc
 
   -- the lines go to standard output
@@ -85,11 +90,12 @@ module _ (args : List Text) where
   task-target = by_case (is_taken vlogrun_command args)
     where
       by_case : (taken : Bool) → (if taken then vlogrun_task_by (matches_of vlogrun_command args) else usage_error vlogrun_name vlogrun_usage).target ≡ None
-      by_case true = target-of (shows_registers args) (first_of (codes "module") (matches_of vlogrun_command args)) (first_of (codes "events") (matches_of vlogrun_command args))
+      by_case true =
+          target-of (told_by (shows_registers args) (tells_waves args)) (first_of (codes "module") (matches_of vlogrun_command args)) (first_of (codes "events") (matches_of vlogrun_command args))
       by_case false = refl
 
   pub run-kept : {F I O E : Type 0} (by : Outside F I O E) (status : ℕ) (old new : Scene F I O E) → Does by (vlogrun_outcome args) status old new
       → PromisesRun args status (by.contents old.files) (by.left old.input) (by.held old.output) (by.held new.output)
-  run-kept by status old new does done asks =
+  run-kept by status old new does done asks no =
       let same : asked vlogrun args ≡ vlogrun_outcome args = helped-no vlogrun_name VLOGRUN_HELP.now args (asked vlogrun args) asks in
-      helped-kept (RunsFabric (shows_registers args)) by (asked vlogrun args) (vlogrun_outcome args) status old new same task-runs task-target does done
+      helped-kept (RunsFabric (shows_registers args)) by (asked vlogrun args) (vlogrun_outcome args) status old new same (task-runs no) task-target does done

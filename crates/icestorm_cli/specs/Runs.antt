@@ -37,8 +37,12 @@ RunsFabric registers texts bytes =
 abbrev pub shows_registers : List (List ℕ) → Bool
 shows_registers args = has_flag (codes "registers") (matches_of vlogrun_command args)
 
--- Where a run of `vlogrun` with these arguments has status 0, and isn't asked for help, and its text spells the module of a design, the bytes
--- that it appended are the lines of the run of the design's fabric.
+-- whether they ask for waves
+abbrev pub tells_waves : List (List ℕ) → Bool
+tells_waves args = has_flag (codes "vcd") (matches_of vlogrun_command args)
+
+-- Where a run of `vlogrun` with these arguments has status 0, and isn't asked for help or for waves, and its text spells the module of a
+-- design, the bytes that it appended are the lines of the run of the design's fabric.
 abbrev pub PromisesRun : List (List ℕ) → ℕ → Option FileMap → Option (List ℕ) → Option (List ℕ) → Option (List ℕ) → Type 0
 PromisesRun args status contents left held new_held =
-    status ≡ 0 → asks_for_help args ≡ false → AppendsFor (RunsFabric (shows_registers args)) (vlogrun_outcome args) contents left held new_held
+    status ≡ 0 → asks_for_help args ≡ false → tells_waves args ≡ false → AppendsFor (RunsFabric (shows_registers args)) (vlogrun_outcome args) contents left held new_held

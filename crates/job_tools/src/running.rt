@@ -40,6 +40,8 @@ impl<'a> Tool for Telling<'a> {
 
     ghost answer_of = { λ tool texts. Done tool.text.now };
 
+    type Made = Vec<u8>;
+
     fn answer(&self, alloc: Global, _loaded: &Vec<Vec<u8>>) -> Result<Vec<u8>, Stop<'_>> {
         Ok(Vec::from_slice(alloc, self.text)?)
     }

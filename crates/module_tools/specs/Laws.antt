@@ -4,7 +4,8 @@ use Rattle.clap.specs.Words.{Row, Text, first_of, is_simple_and_free}
 use Rattle.clap.proofs.OnLiterals.{clap_on_literals}
 use Rattle.tool_run.specs.Tasks.{usage_error}
 use Rattle.tool_parts.specs.Commands.{has_flag, values_of}
-use Rattle.module_tools.specs.Vlogrun.{vlogrun_command, vlogrun_name, vlogrun_task_by, vlogrun_task_of}
+use Rattle.module_tools.specs.declared.told.Told.{Told}
+use Rattle.module_tools.specs.Vlogrun.{told_by, vlogrun_command, vlogrun_name, vlogrun_task_by, vlogrun_task_of}
 use Rattle.module_tools.specs.Vlogsweep.{most_lists, sweep_task, vlogsweep_command, vlogsweep_name, vlogsweep_task_by, vlogsweep_task_of, vlogsweep_usage}
 
 -- ---- vlogrun
@@ -13,12 +14,13 @@ pub vlogrun-simple : is_simple_and_free vlogrun_command ≡ true
 unfolding clap_on_literals
 vlogrun-simple = refl
 
-of-speaks : (registers : Bool) (text events : Option Text) → (vlogrun_task_of registers text events).tool_name ≡ vlogrun_name
-of-speaks registers (Some text) events = refl
-of-speaks registers None events = refl
+of-speaks : (told : Option Told) (text events : Option Text) → (vlogrun_task_of told text events).tool_name ≡ vlogrun_name
+of-speaks (Some told) (Some text) events = refl
+of-speaks (Some told) None events = refl
+of-speaks None text events = refl
 
 pub vlogrun-speaks : (rows : List Row) → (vlogrun_task_by rows).tool_name ≡ vlogrun_name
-vlogrun-speaks rows = of-speaks (has_flag (codes "registers") rows) (first_of (codes "module") rows) (first_of (codes "events") rows)
+vlogrun-speaks rows = of-speaks (told_by (has_flag (codes "registers") rows) (has_flag (codes "vcd") rows)) (first_of (codes "module") rows) (first_of (codes "events") rows)
 
 -- ---- vlogsweep
 

@@ -9,6 +9,8 @@ mod request;
 mod running;
 mod sweep_request;
 mod sweeping;
+mod told;
+mod tracing;
 
 pub use request::{VLOGRUN_HELP, VLOGRUN_USAGE};
 pub use running::run_vlogrun;

@@ -2,11 +2,12 @@
 ghost use Rattle.std.specs.Prelude.{◌≡◌, IfOk};
 ghost use Rattle.clap.specs.Words.{app_of, found_of, rows_of};
 ghost use Rattle.tool_run.specs.Needs.{text_of};
-ghost use Rattle.module_tools.specs.Vlogrun.{vlogrun_command, vlogrun_task_by, vlogrun_task_for, vlogrun_task_of};
+ghost use Rattle.module_tools.specs.Vlogrun.{told_by, vlogrun_command, vlogrun_task_by, vlogrun_task_for, vlogrun_task_of};
 
+use crate::told::Told;
 use clap::{ArgMatches, Command};
 use std::alloc::{AllocError, Global};
-use tool_parts::{flag, has_flag, positional, required, value, with};
+use tool_parts::{flag, has_flag, long_flag, positional, required, value, with};
 
 /// The command line of `vlogrun`.
 pub const VLOGRUN_USAGE: &str = "vlogrun [-s] MODULE [EVENTS]";
@@ -15,11 +16,12 @@ pub const VLOGRUN_USAGE: &str = "vlogrun [-s] MODULE [EVENTS]";
 pub const VLOGRUN_HELP: &str = "\
 vlogrun: runs a module of the Verilog subset over a list of events.
 
-Usage: vlogrun [-s] MODULE [EVENTS]
+Usage: vlogrun [-s | --vcd] MODULE [EVENTS]
 
   MODULE    the text of a module, as icebox_vlog writes it
   EVENTS    the events; standard input if it is missing
   -s        shows the registers too
+  --vcd     writes the waves of the run, for a wave viewer, in place of lines
 
 Each line of EVENTS is the name of an input, one space, and 0 or 1: that input
 gets that bit. At the start all inputs are 0. Where the bit is the old one nothing
@@ -31,7 +33,12 @@ outputs, in the order of the ports. With -s a space follows, the registers of on
 bit, and for each register of 16 bits a space and four hexadecimal digits, in the
 order of their declarations.
 
-Example: vlogrun counter.v counter.events
+With --vcd vlogrun writes a value change dump, which GTKWave and other viewers
+show: at time 0 the values of all ports, registers and wires at the start, and at
+time k those that event k changed. -s and --vcd aren't taken together.
+
+Examples: vlogrun counter.v counter.events
+          vlogrun --vcd counter.v counter.events >counter.vcd
 
 Limits: a module has at most 67108864 bytes, a list of events 1048576.
 
@@ -41,29 +48,40 @@ taken; 3 reading failed; 4 writing failed; 5 out of memory; 6 an input is longer
 than its limit.
 ";
 
-/// What the arguments ask for: the module, the events, and whether registers are shown.
+/// What the arguments ask for: what is told of the run, the module, and the events.
 #[derive(Clone, Copy)]
 pub(crate) struct Request<'a> {
-    pub(crate) registers: bool,
+    pub(crate) told: Told,
     pub(crate) module: &'a str,
     pub(crate) events: Option<&'a str>,
 }
 
+// What is told of the run, by the flags: registers and waves aren't asked for together.
+fn told_by(registers: bool, waves: bool) -> Option<Told>
+    ensures { result ≡ told_by registers waves }
+{
+    match (registers, waves) {
+        (registers, false) => Some(Told::Lines { registers }),
+        (false, true) => Some(Told::Waves),
+        (true, true) => None,
+    }
+}
+
 // What the arguments ask for by what was found in them: there has to be a module.
 fn wanted<'a>(
-    registers: bool,
+    told: Option<Told>,
     module: Option<&'a str>,
     events: Option<&'a str>,
 ) -> Option<Request<'a>>
-    ensures { vlogrun_task_for result ≡ vlogrun_task_of registers (text_of «module».entry) (text_of events.entry) }
+    ensures { vlogrun_task_for result ≡ vlogrun_task_of told (text_of «module».entry) (text_of events.entry) }
 {
-    match module {
-        Some(module) => Some(Request {
-            registers,
+    match (told, module) {
+        (Some(told), Some(module)) => Some(Request {
+            told,
             module,
             events,
         }),
-        None => None,
+        _ => None,
     }
 }
 
@@ -73,6 +91,7 @@ pub(crate) fn command<'a>(alloc: Global) -> Result<Command<'a>, AllocError>
 {
     let command = Command::new(alloc, "vlogrun");
     let command = with(command, flag(alloc, "registers", 's'))?;
+    let command = with(command, long_flag(alloc, "vcd"))?;
     let command = with(command, required(alloc, "module"))?;
     with(command, positional(alloc, "events"))
 }
@@ -81,8 +100,8 @@ pub(crate) fn command<'a>(alloc: Global) -> Result<Command<'a>, AllocError>
 pub(crate) fn request_in<'a>(matches: &ArgMatches<'a>) -> Option<Request<'a>>
     ensures { vlogrun_task_for result ≡ vlogrun_task_by (rows_of (found_of matches.now)) }
 {
-    let registers = has_flag(matches, "registers");
+    let told = told_by(has_flag(matches, "registers"), has_flag(matches, "vcd"));
     let module = value(matches, "module");
     let events = value(matches, "events");
-    wanted(registers, module, events)
+    wanted(told, module, events)
 }

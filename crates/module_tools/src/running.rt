@@ -6,9 +6,12 @@ ghost use Rattle.tool_run.specs.Tasks.{Done};
 ghost use Rattle.vlog_cycle.specs.Events.{event_fault};
 ghost use Rattle.vlog_forms.specs.Outcome.{outcome_of};
 ghost use Rattle.module_tools.specs.Vlogrun.{run_of, run_over, vlogrun_outcome, vlogrun_task_for};
+ghost use Rattle.module_tools.specs.declared.told.Told.TheVariants.{Lines};
 
 use crate::faults::{event_refusal, vlog_refusal};
 use crate::request::{Request, VLOGRUN_HELP, VLOGRUN_USAGE, command, request_in};
+use crate::told::Told;
+use crate::tracing::Tracing;
 use clap::{ArgMatches, Command};
 use ice_io::{Files, Sink, Source};
 use std::alloc::{AllocError, Global};
@@ -23,7 +26,7 @@ pub(crate) const MODULE_LIMIT: usize = 67_108_864;
 /// The most bytes of a list of events.
 const EVENTS_LIMIT: usize = 1_048_576;
 
-/// Runs the module that it loads over the events that it loads.
+/// Runs the module that it loads over the events that it loads, and tells its lines.
 #[derive(Clone, Copy, Debug, PartialEq, Eq)]
 pub(crate) struct Running {
     pub(crate) registers: bool,
@@ -31,8 +34,11 @@ pub(crate) struct Running {
 
 impl Tool for Running {
     ghost use Rattle.module_tools.specs.Vlogrun.{vlogrun_answer};
+    ghost use Rattle.module_tools.specs.declared.told.Told.TheVariants.{Lines};
 
-    ghost answer_of = { λ tool texts. vlogrun_answer tool.registers texts };
+    ghost answer_of = { λ tool texts. vlogrun_answer (Lines tool.registers) texts };
+
+    type Made = Vec<u8>;
 
     fn answer(&self, alloc: Global, loaded: &Vec<Vec<u8>>) -> Result<Vec<u8>, Stop<'_>> {
         run_texts(
@@ -52,8 +58,8 @@ fn run_texts(
     events: &[u8],
     registers: bool,
 ) -> Result<Vec<u8>, Stop<'static>>
-    ensures bytes { IfOk result (λ bytes. run_of registers (outcome_of text.now) events.now ≡ Done bytes.items) }
-    ensures stops { IfErr result (StopsWith (run_of registers (outcome_of text.now) events.now)) }
+    ensures bytes { IfOk result (λ bytes. run_of (Lines registers) (outcome_of text.now) events.now ≡ Done bytes.items) }
+    ensures stops { IfErr result (StopsWith (run_of (Lines registers) (outcome_of text.now) events.now)) }
 {
     match parse(alloc, text) {
         Ok(module) => run_module(alloc, &module, events, registers),
@@ -69,8 +75,8 @@ fn run_module(
     events: &[u8],
     registers: bool,
 ) -> Result<Vec<u8>, Stop<'static>>
-    ensures bytes { IfOk result (λ bytes. run_over registers «module».now events.now (event_fault «module».now.ports events.now) ≡ Done bytes.items) }
-    ensures stops { IfErr result (StopsWith (run_over registers «module».now events.now (event_fault «module».now.ports events.now))) }
+    ensures bytes { IfOk result (λ bytes. run_over (Lines registers) «module».now events.now (event_fault «module».now.ports events.now) ≡ Done bytes.items) }
+    ensures stops { IfErr result (StopsWith (run_over (Lines registers) «module».now events.now (event_fault «module».now.ports events.now))) }
 {
     match read_events(alloc, module, events) {
         Ok(events) => match run_text(alloc, module, &events, registers) {
@@ -105,15 +111,18 @@ fn run_files<F: Files, I: Source, O: Sink, E: Sink>(
             limit: EVENTS_LIMIT,
         },
     ];
-    let tool = Running {
-        registers: request.registers,
-    };
     let job = Job {
         tool_name: "vlogrun",
         loads: &loads,
         target: None,
     };
-    perform(alloc, &tool, &job, files, input, output, errors)
+    match request.told {
+        Told::Lines { registers } => {
+            let tool = Running { registers };
+            perform(alloc, &tool, &job, files, input, output, errors)
+        }
+        Told::Waves => perform(alloc, &Tracing, &job, files, input, output, errors),
+    }
 }
 
 // Does what the arguments ask for.

@@ -37,6 +37,8 @@ impl Tool for Sweeping<'_> {
 
     ghost answer_of = { λ tool texts. vlogsweep_answer (names_of tool.names.items) texts };
 
+    type Made = Vec<u8>;
+
     fn answer(&self, alloc: Global, loaded: &Vec<Vec<u8>>) -> Result<Vec<u8>, Stop<'_>> {
         let (text, texts) = (loaded_at(loaded, 0), behind_first(loaded));
         sweep_texts(alloc, text, &self.names, texts)

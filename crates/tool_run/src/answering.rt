@@ -1,5 +1,5 @@
 // What a tool makes of its needs, loaded whole or taken in pieces.
-ghost use Rattle.std.specs.Prelude.{map, vec_items};
+ghost use Rattle.std.specs.Prelude.{map};
 ghost use Rattle.tool_run.specs.Answering.{Answers};
 ghost use Rattle.tool_run.specs.Needs.{IsSound, need_of};
 
@@ -17,9 +17,9 @@ pub(crate) fn answer_whole<'a, T: Tool, F: Files, I: Source>(
     loads: &[Load<'a>],
     files: &mut F,
     input: &mut I,
-) -> Result<Result<Vec<u8>, Stop<'a>>, LoadStop<'a>>
+) -> Result<Result<T::Made, Stop<'a>>, LoadStop<'a>>
     requires { IsSound (map need_of loads.now) }
-    ensures { Answers F.contents F.steady F.load_faults F.store_faults I.left I.faults (map need_of loads.now) (T.answer_of tool.now) vec_items result
+    ensures { Answers F.contents F.steady F.load_faults F.store_faults I.left I.faults (map need_of loads.now) (T.answer_of tool.now) T.Made.bytes result
         files.old files.new input.old input.new }
 {
     let mut loaded = Vec::new(alloc);

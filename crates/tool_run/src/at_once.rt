@@ -26,6 +26,8 @@ impl Tool for AtOnce {
 
     ghost answer_of = { λ tool texts. at_once_answer tool };
 
+    type Made = Vec<u8>;
+
     fn answer(&self, alloc: Global, _loaded: &Vec<Vec<u8>>) -> Result<Vec<u8>, Stop<'_>> {
         match *self {
             AtOnce::Tells(text) => Ok(Vec::from_slice(alloc, text.as_bytes())?),

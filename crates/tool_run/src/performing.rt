@@ -117,8 +117,8 @@ fn tell_stop<E: Sink>(errors: &mut E, tool_name: &str, stop: LoadStop<'_>) -> u8
     }
 }
 
-/// Loads what the job needs, in order, makes the tool's answer of it, and delivers that to the target. All of the answer
-/// is made before its first byte goes out. The status is 0 where all was done, 1 where the tool refuses what it was given,
+/// Loads what the job needs, in order, makes the tool's answer of it, and delivers that to the target. The tool refuses, if it
+/// does, before the first byte goes out. The status is 0 where all was done, 1 where the tool refuses what it was given,
 /// 2 where it doesn't take the command line, 3 where a read failed, 4 where a write failed, 5 where memory ran out, and 6
 /// where an input has more bytes than its limit.
 pub fn perform<T: Tool, F: Files, I: Source, O: Sink, E: Sink>(

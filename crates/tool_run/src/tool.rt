@@ -4,6 +4,7 @@ ghost use Rattle.tool_run.specs.Tasks.{Answer, Done};
 ghost use Rattle.tool_run.specs.Stops.{StopsWith};
 
 use crate::line::Refusal;
+use ice_io::Content;
 use std::alloc::{AllocError, Global};
 
 /// Why a tool gives no bytes.
@@ -32,8 +33,11 @@ pub trait Tool {
     /// What the tool makes of the bytes of its needs, in their order.
     ghost answer_of: { Self → List (List ℕ) → Answer };
 
+    /// The bytes for the target, as the tool gives them.
+    type Made: Content;
+
     /// The bytes for the target, or why there are none.
-    fn answer(&self, alloc: Global, loaded: &Vec<Vec<u8>>) -> Result<Vec<u8>, Stop<'_>>
-        ensures bytes { IfOk result (λ bytes. answer_of self.now (map vec_items loaded.now.items) ≡ Done bytes.items) }
+    fn answer(&self, alloc: Global, loaded: &Vec<Vec<u8>>) -> Result<Self::Made, Stop<'_>>
+        ensures bytes { IfOk result (λ made. answer_of self.now (map vec_items loaded.now.items) ≡ Done (Self.Made.bytes made)) }
         ensures stops { IfErr result (StopsWith (answer_of self.now (map vec_items loaded.now.items))) };
 }

@@ -21,5 +21,5 @@ pub use circuit::{Circuit, circuit_of};
 pub use clocking::clock;
 pub use groups::Group;
 pub use marks::marks_of;
-pub use parts::fill_cells;
+pub use parts::{fill_cells, show_cells};
 pub use settling::settle;

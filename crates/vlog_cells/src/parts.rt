@@ -2,13 +2,13 @@
 ghost use Rattle.std.specs.Prelude.{◌≡◌, ◌<◌, ◌≤◌, ◌+◌, ◌*◌, ◌^◌, ℕ, List, false, get_or, length};
 ghost use Rattle.vlog_cells.specs.Changes.{with_word};
 ghost use Rattle.vlog_cells.specs.Marks.{IsRead, IsTracked};
-ghost use Rattle.vlog_cells.specs.Circuits.{ArePartsAt};
+ghost use Rattle.vlog_cells.specs.Circuits.{ArePartsAt, shown_by};
 ghost use Rattle.vlog_plan.specs.Cells.{cells_of, part_at, parts_below};
 ghost use Rattle.vlog_plan.specs.Values.{bit_of};
 ghost use Rattle.vlog_plan.specs.declared.gates.Gate.{Gate as gate_of};
 
 use crate::marks::write;
-use vlog_plan::{bit_of, copy_bits, set_bit, word_at};
+use vlog_plan::{bit_at, bit_of, copy_bits, set_bit, word_at};
 
 /// The bit of a word at its place.
 fn part_at(words: &[u16], place: usize) -> bool
@@ -37,6 +37,16 @@ pub fn fill_cells(bits: &[bool], words: &[u16], cells: &mut [bool])
     let (parts, constants) = rest.split_at_mut(16 * words.len());
     fill_parts(words, parts);
     copy_bits(&[false, true], constants);
+}
+
+/// Gives each place the bit of a cell: that of the first cell to the first place, and so on.
+pub fn show_cells(roots: &[usize], cells: &[bool], shown: &mut [bool])
+    ensures { length shown.old ≡ length roots.now → shown.new ≡ shown_by roots.now cells.now }
+{
+    for (place, root) in roots.iter().enumerate() {
+        let bit = bit_at(cells, *root);
+        set_bit(shown, place, bit);
+    }
 }
 
 /// Gives the sixteen cells from one on the bits of a word.

@@ -4,6 +4,8 @@ pub mod EventLines
 pub mod Rooms
 -- what the cells of a runner have
 pub mod Sources
+-- where the bits of inputs and wires stand
+pub mod Reading
 -- the text of runs that go on
 pub mod Texts
 -- worked values of the definitions

@@ -1,6 +1,6 @@
 -- What the cells of a runner have: those before the first wire's the bits of their names.
 use Rattle.std.proofs.Common.{◌≡◌, ℕ, ◌+◌, ◌*◌, ◌<◌, ◌≤◌, Bool, false, List, ◌++◌, Some, ap, arith, get_or, length, subst, sym, take, ◌∙◌}
-use Rattle.std.proofs.lemmas.List.{ext_get_or, get_or-take, get_or_append_left, length-take-le}
+use Rattle.std.proofs.lemmas.List.{ext_get_or, get_or-take, get_or_append_left, length-take-le, take_at}
 use Rattle.vlog_module.specs.Parts.{Parts}
 use Rattle.vlog_plan.specs.declared.layout.Layout.{Layout}
 use Rattle.vlog_plan.specs.Cells.{tail_of}
@@ -12,7 +12,7 @@ use Rattle.vlog_plan.specs.Named.{values_of}
 use Rattle.vlog_plan.specs.Plans.{Places}
 use Rattle.vlog_plan.specs.Run.{input_names, readable}
 use Rattle.vlog_plan.proofs.Showing.{bits-count, words-count}
-use Rattle.vlog_cells.specs.Circuits.{IsCircuit}
+use Rattle.vlog_cells.specs.Circuits.{IsCircuit, shown_by}
 use Rattle.vlog_cells.proofs.Following.{ShowsCells}
 use Rattle.vlog_cells.proofs.Modules.{IsUnder, module-under}
 use Rattle.vlog_cells.proofs.Passed.{first-within, own, size}
@@ -49,13 +49,21 @@ module _ (m : Parts) (entry : Entry) (r : Runner) (shows : Shows r m entry) wher
       ∙ ap (λ list. get_or list cell false) shows.cells
       ∙ get_or_append_left bits (tail_of r.words.items) false cell (omega (arith, name, bits-count m entry shows.shown.named))
 
-  pub first-cells : take r.layout.first_wire r.cells.items ≡ take r.layout.first_wire bits
-  first-cells =
-      let first : ℕ = r.layout.first_wire in
+  pub first-cells : (end : ℕ) → end ≤ r.layout.first_wire → take end r.cells.items ≡ take end bits
+  first-cells end few =
       let within = first-within m r.layout r.circuit shows.laid_out made in
-      let some_size : length (take first r.cells.items) ≡ first = length-take-le first r.cells.items (omega (arith, within, cells-room)) in
-      let other_size : length (take first bits) ≡ first = length-take-le first bits (omega (arith, within, bits-count m entry shows.shown.named)) in
-      ext_get_or false (take first r.cells.items) (take first bits) (some_size ∙ sym other_size)
+      let some_size : length (take end r.cells.items) ≡ end = length-take-le end r.cells.items (omega (arith, few, within, cells-room)) in
+      let other_size : length (take end bits) ≡ end = length-take-le end bits (omega (arith, few, within, bits-count m entry shows.shown.named)) in
+      ext_get_or false (take end r.cells.items) (take end bits) (some_size ∙ sym other_size)
       (λ cell inside.
-      let below : cell < first = omega (arith, inside, some_size) in
-      get_or-take first r.cells.items cell false below ∙ source-cell cell below ∙ sym (get_or-take first bits cell false below))
+      let below : cell < end = omega (arith, inside, some_size) in
+      get_or-take end r.cells.items cell false below ∙ source-cell cell (omega (arith, below, few)) ∙ sym (get_or-take end bits cell false below))
+
+  -- what the cells of all names show
+  pub shown-bits : take r.circuit.bits (shown_by r.circuit.roots.items r.cells.items) ≡ bits
+  shown-bits =
+      ap (take r.circuit.bits) shows.cells
+      ∙ take_at bits (tail_of r.words.items) r.circuit.bits (bits-count m entry shows.shown.named ∙ sym shows.bit_count)
+
+  pub roots-room : r.circuit.bits ≤ length r.circuit.roots.items
+  roots-room = omega (arith, size m r.layout r.circuit shows.laid_out made, shows.bit_count)

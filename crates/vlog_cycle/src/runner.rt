@@ -6,7 +6,7 @@ ghost use Rattle.vlog_cells.specs.Circuits.{IsCircuit};
 use crate::starting::{Started, Wires, started_of};
 use crate::steps::is_same_bit;
 use std::alloc::{AllocError, Global};
-use vlog_cells::{Change, Circuit, clock, settle};
+use vlog_cells::{Change, Circuit, clock, settle, show_cells};
 use vlog_module::Module;
 use vlog_plan::{
     Event, Layout, Memory, Start, Written, bit_at, lay_out, word_at, word_in, write_outputs,
@@ -48,7 +48,7 @@ impl Runner {
     ghost use Rattle.vlog_module.specs.Maps.{value_in};
     ghost use Rattle.vlog_module.specs.Parts.{Parts};
     ghost use Rattle.vlog_plan.specs.Entries.{Entry};
-    ghost use Rattle.vlog_plan.specs.ModuleSlots.{memory_names, register_names, word_names};
+    ghost use Rattle.vlog_plan.specs.ModuleSlots.{memory_names, register_names, wire_names, word_names};
     ghost use Rattle.vlog_plan.specs.Named.{has_name, values_of};
     ghost use Rattle.vlog_plan.specs.Run.{followed, input_names, last_of, module_run, run_from, start};
     ghost use Rattle.vlog_cycle.specs.Showing.{Shows, input_count};
@@ -191,27 +191,43 @@ impl Runner {
         }
     }
 
+    /// The bits of the inputs, in the order of the ports.
+    pub fn input_bits(&self) -> &[bool]
+        ensures { (m : Parts) (entry : Entry) → Shows self.now m entry → result.now ≡ values_of entry.inputs }
+    {
+        part(&self.cells, 0, self.layout.input_count)
+    }
+
     /// The bits of the registers of one bit, in the order of their declaration.
-    pub(crate) fn registers(&self) -> &[bool]
+    pub fn registers(&self) -> &[bool]
         ensures { (m : Parts) (entry : Entry) → Shows self.now m entry → result.now ≡ values_of entry.registers }
     {
         part(&self.cells, self.layout.input_count, self.layout.first_wire)
     }
 
     /// The registers of 16 bits, in the order of their declaration.
-    pub(crate) fn words(&self) -> &[u16]
+    pub fn words(&self) -> &[u16]
         ensures { (m : Parts) (entry : Entry) → Shows self.now m entry → result.now ≡ values_of entry.words }
     {
         &self.words
     }
+
+    /// Gives each place the bit of a wire, in the order of their declaration. There have to be as many places as wires.
+    pub fn copy_wires(&self, wires: &mut [bool])
+        ensures { (m : Parts) (entry : Entry) → Shows self.now m entry → length wires.old ≡ length (wire_names m.items) → wires.new ≡ values_of entry.wires }
+    {
+        let circuit = &self.circuit;
+        let roots = part(&circuit.roots, self.layout.first_wire, circuit.bits);
+        show_cells(roots, &self.cells, wires);
+    }
 }
 
-/// The bits from one slot to another, where there are so many.
-fn part(bits: &[bool], from: usize, end: usize) -> &[bool]
-    ensures { from ≤ end → end ≤ length bits.now → result.now ≡ drop from (take end bits.now) }
+/// What stands from one slot to another, where there are so many.
+fn part<T>(items: &[T], from: usize, end: usize) -> &[T]
+    ensures { from ≤ end → end ≤ length items.now → result.now ≡ drop from (take end items.now) }
 {
-    if from <= end && end <= bits.len() {
-        &bits[from..end]
+    if from <= end && end <= items.len() {
+        &items[from..end]
     } else {
         &[]
     }

@@ -1,4 +1,5 @@
 mod events;
 mod runs;
 mod texts;
+mod waves;
 mod words;

@@ -8,7 +8,7 @@ use fabric_tools::{
     ICEBOX_EXPLAIN_HELP, ICEBOX_EXPLAIN_USAGE, ICEBOX_STAT_HELP, ICEBOX_STAT_USAGE,
 };
 use job_tools::{SELFRUN_HELP, SELFRUN_USAGE};
-use module_tools::{VLOGRUN_HELP, VLOGRUN_USAGE, VLOGSWEEP_HELP, VLOGSWEEP_USAGE};
+use module_tools::{VLOGRUN_HELP, VLOGSWEEP_HELP, VLOGSWEEP_USAGE};
 
 /// The words of a help.
 struct Help {
@@ -101,11 +101,12 @@ static HELPS: [Help; 11] = [
     },
     Help {
         help: VLOGRUN_HELP,
-        usage: VLOGRUN_USAGE,
+        usage: "vlogrun [-s | --vcd] MODULE [EVENTS]",
         heads: &[
             "  MODULE    the text of a module",
             "  EVENTS    the events;",
             "  -s        shows the registers too",
+            "  --vcd     writes the waves of the run",
         ],
     },
     Help {

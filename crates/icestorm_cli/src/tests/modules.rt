@@ -71,6 +71,43 @@ fn runs_a_module(rt: HostRuntime) {
     assert!(rt; writes(rt.alloc(), &["vlogrun", "-s", "m"], &toggle) == Ok(true));
 }
 
+/// The waves of the inverter.
+const WAVES: &str = "\
+$timescale 1 ns $end
+$scope module chip $end
+$var wire 1 ! io_0_1_0 $end
+$var wire 1 \" io_0_2_0 $end
+$var wire 1 # n_0 $end
+$var wire 1 $ n_1 $end
+$var wire 1 % n_2 $end
+$var wire 1 & n_3 $end
+$upscope $end
+$enddefinitions $end
+#0
+$dumpvars
+0!
+1\"
+0#
+0$
+1%
+1&
+$end
+#1
+#2
+1!
+0\"
+1#
+1$
+0%
+0&
+";
+
+#[test]
+fn writes_waves(rt: HostRuntime) {
+    let inverter = (INVERTER, "io_0_1_0 0\nio_0_1_0 1\n", WAVES);
+    assert!(rt; writes(rt.alloc(), &["vlogrun", "--vcd", "m"], &inverter) == Ok(true));
+}
+
 static REFUSED: [Run; 6] = [
     (
         "module m (a); input a; wire w = v; endmodule",

@@ -25,7 +25,7 @@ const USAGE: &str = "icestorm: usage: TOOL ...\n";
 /// A command line, its status and its line.
 type Refused = (&'static [&'static str], u8, &'static str);
 
-static USAGE_ERROR: [Refused; 26] = [
+static USAGE_ERROR: [Refused; 27] = [
     (&["icepack", "a", "b", "c"], 2, ICEPACK_USAGE),
     (&["icepack", "-x"], 2, ICEPACK_USAGE),
     (&["icepack", "-u", "-s"], 2, ICEPACK_USAGE),
@@ -58,6 +58,7 @@ static USAGE_ERROR: [Refused; 26] = [
     (&["icebox_vlog", "-n", LONG, "A"], 2, ICEBOX_VLOG_USAGE),
     (&["vlogrun"], 2, VLOGRUN_USAGE),
     (&["vlogrun", "-s", "m", "e", "x"], 2, VLOGRUN_USAGE),
+    (&["vlogrun", "-s", "--vcd", "m"], 2, VLOGRUN_USAGE),
     (&["icebox"], 2, USAGE),
     (&[], 2, USAGE),
 ];

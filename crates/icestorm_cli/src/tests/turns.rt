@@ -103,7 +103,7 @@ type Job = (
     Part,
 );
 
-static JOBS: [Job; 21] = [
+static JOBS: [Job; 22] = [
     (
         &["icepack", "image", "out"],
         Way::InParts,
@@ -220,6 +220,13 @@ static JOBS: [Job; 21] = [
     ),
     (
         &["vlogrun", "-s", "module"],
+        Way::Whole,
+        &["module"],
+        "events",
+        Part::Small,
+    ),
+    (
+        &["vlogrun", "--vcd", "module"],
         Way::Whole,
         &["module"],
         "events",

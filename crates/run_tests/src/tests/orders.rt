@@ -81,6 +81,8 @@ impl Tool for Stamp {
 
     ghost answer_of = { λ tool texts. if tool.refuses then Refused (codes "no") else Done (33 ∷ []) };
 
+    type Made = Vec<u8>;
+
     fn answer(&self, alloc: Global, _loaded: &Vec<Vec<u8>>) -> Result<Vec<u8>, Stop> {
         stamp_answer(alloc, self.refuses)
     }

@@ -15,7 +15,7 @@ returns-in-Ok g c =
       made = (
         texts,
         subst (λ (all : List (List ℕ)). AreTextsOf (g.F.Files.contents c.args.files.now) (g.I.Source.left c.args.input.now) needs all) (sym read) l.texts.1,
-        gives_of vec_items c.answer.result (g.T.Tool.answer_of c.args.tool.now texts) c.answer.ensures.bytes c.answer.ensures.stops,
+        gives_of g.T.Made.Content.bytes c.answer.result (g.T.Tool.answer_of c.args.tool.now texts) c.answer.ensures.bytes c.answer.ensures.stops,
       );
       stops = tt;
       end = λ reads. l.end reads;

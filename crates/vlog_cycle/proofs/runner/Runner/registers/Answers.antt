@@ -13,5 +13,5 @@ returns c m entry shows =
     let at = registers-read m entry r.layout bits shows.laid_out shows.shown.named refl in
     c.part.ensures at.ordered (omega (arith, at.within, bits-count m entry shows.shown.named, cells-room m entry r shows, ap (λ (list : List Bool). length list) c.deref.ensures.value))
     ∙ ap (λ list. drop r.layout.input_count (take r.layout.first_wire list)) c.deref.ensures.value
-    ∙ ap (drop r.layout.input_count) (first-cells m entry r shows)
+    ∙ ap (drop r.layout.input_count) (first-cells m entry r shows r.layout.first_wire (omega arith))
     ∙ at.are

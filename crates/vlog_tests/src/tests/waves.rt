@@ -1,0 +1,160 @@
+// Waves of a register that keeps a wire at rising edges, beside one that reads word 5 of a memory.
+
+ghost use Rattle.std.specs.Prelude.{◌<◌, All, length};
+ghost use Rattle.vlog_plan.specs.Run.{input_names};
+
+use ice_io::{Content, MemSink, PutFault};
+use std::alloc::{AllocError, Global};
+use vlog_cycle::{Event, read_events};
+use vlog_text::{Module, parse};
+use vlog_waves::Waves;
+
+const MODULE: &[u8] = b"module m (c, q, d);
+  input c;
+  output q;
+  input d;
+  reg r = 1'b0;
+  reg [15:0] w = 16'h0000;
+  reg [15:0] mem [0:255];
+  wire o = 1'b0;
+  wire i = 1'b1;
+  wire n = d;
+  assign q = r;
+  always @(posedge c) if (1'b1) begin if (1'b0) r <= 1'b0; else r <= 16'haaaa >> {1'b0, 1'b0, 1'b0, n}; end
+  always @(posedge c) if (i & i) w <= mem[{o, o, o, o, o, i, o, i}];
+  initial mem[5] = 16'h1234;
+endmodule
+";
+
+const BEGINNING: &str = "$timescale 1 ns $end
+$scope module m $end
+$var wire 1 ! c $end
+$var wire 1 \" q $end
+$var wire 1 # d $end
+$var reg 1 $ r $end
+$var reg 16 % w [15:0] $end
+$var wire 1 & o $end
+$var wire 1 ' i $end
+$var wire 1 ( n $end
+$upscope $end
+$enddefinitions $end
+#0
+$dumpvars
+0!
+0\"
+0#
+0$
+b0000000000000000 %
+0&
+1'
+0(
+$end
+";
+
+/// How many bytes a sink takes in all, what comes of the waves then, and how many bytes are written.
+#[derive(Clone, Copy)]
+struct Case<'a> {
+    events: &'a str,
+    lines: &'a str,
+    room: usize,
+    done: Result<(), PutFault>,
+}
+
+/// Whether the waves go to the sink as the case wants: it takes at most eleven bytes in one write.
+fn are_written(alloc: Global, waves: Waves, case: &Case<'_>) -> Result<bool, AllocError> {
+    let mut sink = MemSink::new(alloc, case.room, 11, Vec::new(alloc))?;
+    let done = waves.write_to(&mut sink);
+    let mut wanted = Vec::from_slice(alloc, BEGINNING.as_bytes())?;
+    wanted.extend_from_slice(case.lines.as_bytes())?;
+    wanted.truncate(case.room);
+    Ok(done == case.done && sink.bytes() == wanted.as_slice())
+}
+
+/// Whether they do for a module and events, each of an input of the module.
+fn are_waves_over(
+    alloc: Global,
+    module: Module,
+    events: Vec<Event>,
+    case: &Case<'_>,
+) -> Result<bool, AllocError>
+    requires { All (λ event. event.pin < length (input_names «module».ports)) events.items }
+{
+    let waves = Waves::new(alloc, module, events)?;
+    are_written(alloc, waves, case)
+}
+
+/// Whether they do for the events of a text.
+fn are_waves_of(alloc: Global, module: Module, case: &Case<'_>) -> Result<bool, AllocError> {
+    match read_events(alloc, &module, case.events.as_bytes()) {
+        Ok(events) => are_waves_over(alloc, module, events, case),
+        Err(_) => Ok(false),
+    }
+}
+
+/// Whether they do.
+fn are_waves(alloc: Global, case: &Case<'_>) -> Result<bool, AllocError> {
+    match parse(alloc, MODULE) {
+        Ok(module) => are_waves_of(alloc, module, case),
+        Err(_) => Ok(false),
+    }
+}
+
+/// Event 3 changes nothing.
+const EVENTS: &str = "d 1\nc 1\nc 1\nc 0\n";
+
+const LINES: &str = "#1
+1#
+1(
+#2
+1!
+1\"
+1$
+b0001001000110100 %
+#3
+#4
+0!
+";
+
+#[test]
+fn tells_what_each_event_changes(rt: HostRuntime) {
+    let case = Case {
+        events: EVENTS,
+        lines: LINES,
+        room: 400,
+        done: Ok(()),
+    };
+    assert!(rt; are_waves(rt.alloc(), &case) == Ok(true));
+}
+
+#[test]
+fn tells_the_start_alone_where_there_are_no_events(rt: HostRuntime) {
+    let case = Case {
+        events: "",
+        lines: "",
+        room: 400,
+        done: Ok(()),
+    };
+    assert!(rt; are_waves(rt.alloc(), &case) == Ok(true));
+}
+
+#[test]
+fn counts_what_a_full_sink_took_of_the_beginning(rt: HostRuntime) {
+    let case = Case {
+        events: EVENTS,
+        lines: LINES,
+        room: 40,
+        done: Err(PutFault::Failed { written: 40 }),
+    };
+    assert!(rt; are_waves(rt.alloc(), &case) == Ok(true));
+}
+
+#[test]
+fn counts_what_a_full_sink_took_of_the_events(rt: HostRuntime) {
+    let case = Case {
+        events: EVENTS,
+        lines: LINES,
+        room: 330,
+        done: Err(PutFault::Failed { written: 330 }),
+    };
+    assert!(rt; are_waves(rt.alloc(), &case) == Ok(true));
+}

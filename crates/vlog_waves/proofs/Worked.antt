@@ -1,0 +1,54 @@
+-- Worked values of the definitions.
+use Rattle.std.proofs.Common.{◌≡◌, ℕ, Bool, true, false, [], ◌∷◌, refl}
+use Rattle.std.specs.Prelude.{codes}
+use Rattle.std.specs.Fmt.{digits}
+use Rattle.text_lines.specs.Written.{text_of}
+use Rattle.vlog_module.specs.declared.atoms.Atom.TheVariants.{Bit, Whole}
+use Rattle.vlog_module.specs.declared.item.Item.TheVariants.{Register, Word, Wire, Assign, Flip}
+use Rattle.vlog_module.specs.declared.item.Right.TheVariants.{Whole as RightWhole}
+use Rattle.vlog_module.specs.Parts.{Parts}
+use Rattle.vlog_plan.specs.declared.event.Event.{Event}
+use Rattle.vlog_plan.specs.Run.{changed, followed, module_run, run_from, settled, start}
+use Rattle.vlog_waves.specs.Variables.{values_in, variables_of}
+use Rattle.vlog_waves.specs.Waves.{head_lines, identifier, identifier_digits, waves_text, word_digits}
+
+-- ---- identifiers: one digit up to number 93, two up to number 8835
+
+first_digit : identifier 0 ≡ codes "!"
+unfolding identifier identifier_digits
+first_digit = refl
+
+last_digit : identifier 93 ≡ codes "~"
+unfolding identifier identifier_digits
+last_digit = refl
+
+first_two : identifier 94 ≡ codes "!\""
+unfolding identifier identifier_digits
+first_two = refl
+
+last_two : identifier 8835 ≡ codes "~~"
+unfolding identifier identifier_digits
+last_two = refl
+
+first_three : identifier 8836 ≡ codes "!!\""
+unfolding identifier identifier_digits
+first_three = refl
+
+-- ---- a run
+
+event : ℕ → Bool → Event
+event pin bit = record { pin = pin; bit = bit }
+
+-- the register becomes 0 at rising edges of `c`; the second event changes nothing
+small : Parts
+small = record {
+  name = codes "m";
+  ports = record { name = codes "c"; output = false } ∷ record { name = codes "q"; output = true } ∷ [];
+  items = Register (codes "r") true ∷ Word (codes "w") 4660 ∷ Wire (codes "n") (RightWhole (codes "c")) ∷ Assign (codes "q") (Whole (codes "n"))
+      ∷ Flip false (codes "c") (Bit true) (Bit false) false (codes "r") (record { word = 0; ins = Bit false ∷ Bit false ∷ Bit false ∷ Bit false ∷ [] }) ∷ [];
+}
+
+told : waves_text small (event 0 true ∷ event 0 true ∷ [])
+    ≡ codes "$timescale 1 ns $end\n$scope module m $end\n$var wire 1 ! c $end\n$var wire 1 \" q $end\n$var reg 1 # r $end\n$var reg 16 $ w [15:0] $end\n$var wire 1 % n $end\n$upscope $end\n$enddefinitions $end\n#0\n$dumpvars\n0!\n0\"\n1#\nb0001001000110100 $\n0%\n$end\n#1\n1!\n1\"\n0#\n1%\n#2\n"
+unfolding digits waves_text text_of head_lines variables_of values_in identifier identifier_digits word_digits module_run run_from followed changed start settled small event
+told = refl

@@ -1,0 +1,53 @@
+use Rattle.std.proofs.Common.{◌≡◌, ◌+◌, ◌<◌, vec_capacity, vec_len, ℕ, List, [], ◌∷◌, ap, arith, length, length-append, suc, refl}
+use Rattle.std.proofs.lemmas.Result.{on_err_weaker, on_ok_weaker}
+use Rattle.std.specs.Prelude.{decimal}
+use Rattle.text_lines.specs.Written.{text_of}
+use Rattle.vlog_waves.proofs.Texts.{failed, length-one, short-made}
+use Rattle.vlog_waves.proofs.lines.push_time.Goals as goal
+
+pub returns-in_err-push_byte-clause-full : goal.returns-in_err-push_byte-clause-full
+returns-in_err-push_byte-clause-full c =
+    let byte : ℕ = 35 in
+    let rest : List ℕ = decimal c.args.time in
+    let line : length (byte ∷ rest) ≡ suc (length rest) = refl in
+    let full : vec_capacity c.args.text.now < vec_len c.args.text.now + length (text_of ((byte ∷ rest) ∷ [])) = omega (arith, length-one (byte ∷ rest), line, c.in_err-push_byte.ensures.full) in
+    failed c.from_residual.result full
+
+pub returns-in_err-push_number-clause-full : goal.returns-in_err-push_number-clause-full
+returns-in_err-push_number-clause-full c =
+    let start = c.args.text.now.items in
+    let byte : ℕ = 35 in
+    let rest : List ℕ = decimal c.args.time in
+    let line : length (byte ∷ rest) ≡ suc (length rest) = refl in
+    let full : vec_capacity c.args.text.now < vec_len c.args.text.now + length (text_of ((byte ∷ rest) ∷ [])) =
+    omega (arith, length-one (byte ∷ rest), line, c.in_err-push_number.ensures.full, c.in_ok-push_byte.ensures.room, ap length (c.in_ok-push_byte.ensures.text), length-append start (byte ∷ []), c.args.text.now.ok.0, c.push_byte.new.text.ok.0) in
+    failed c.from_residual-in_err-push_number.result full
+
+pub returns-clause-text : goal.returns-clause-text
+returns-clause-text c =
+    on_ok_weaker c.push_byte-2.result
+    (λ made. short-made c.args.text.now.items c.push_byte.new.text.items c.push_number.new.text.items c.push_byte-2.new.text.items (35) (decimal c.args.time) c.in_ok-push_byte.ensures.text c.in_ok-push_number.ensures.text made) c.push_byte-2.ensures.text
+
+pub returns-clause-full : goal.returns-clause-full
+returns-clause-full c =
+    let start = c.args.text.now.items in
+    let byte : ℕ = 35 in
+    let rest : List ℕ = decimal c.args.time in
+    let line : length (byte ∷ rest) ≡ suc (length rest) = refl in
+    on_err_weaker c.push_byte-2.result
+    (λ full. omega (
+      arith,
+      length-one (byte ∷ rest),
+      line,
+      full,
+      c.in_ok-push_byte.ensures.room,
+      c.in_ok-push_number.ensures.room,
+      ap length c.in_ok-push_byte.ensures.text,
+      length-append start (byte ∷ []),
+      ap length c.in_ok-push_number.ensures.text,
+      length-append c.push_byte.new.text.items rest,
+      c.args.text.now.ok.0,
+      c.push_byte.new.text.ok.0,
+      c.push_number.new.text.ok.0,
+    ))
+    c.push_byte-2.ensures.full

@@ -1,0 +1,4 @@
+pub mod Variables
+pub mod Waves
+pub mod Whole
+pub mod inside

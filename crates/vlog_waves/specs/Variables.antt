@@ -1,0 +1,44 @@
+-- The variables of a module, and their values in an entry of its run.
+use Rattle.std.specs.Prelude.{ℕ, Bool, false, List, [], ◌∷◌, ◌++◌, drop, get_or, map, if◌then◌else◌}
+use Rattle.vlog_module.specs.declared.modules.Port.{Port}
+use Rattle.vlog_module.specs.Parts.{Parts}
+use Rattle.vlog_plan.specs.Entries.{Entry}
+use Rattle.vlog_plan.specs.ModuleSlots.{register_names, wire_names, word_names}
+use Rattle.vlog_plan.specs.Named.{values_of}
+
+-- what a variable is: a wire of one bit, a register of one bit, or one of 16 bits
+pub data Kind : Type 0 where
+  wire_kind : Kind
+  register_kind : Kind
+  word_kind : Kind
+
+pub record Variable : Type 0 where
+  pub kind : Kind
+  pub name : List ℕ
+
+abbrev pub of_kind : Kind → List (List ℕ) → List Variable
+of_kind kind names = map (λ name. record { kind = kind; name = name }) names
+
+-- the ports in their order, then the registers of one bit, those of 16 bits and the wires, each in the order of their declaration
+unfoldable pub variables_of : Parts → List Variable
+variables_of m =
+    of_kind wire_kind (map (λ port. port.name) m.ports)
+    ++ (of_kind register_kind (register_names m.items) ++ (of_kind word_kind (word_names m.items) ++ of_kind wire_kind (wire_names m.items)))
+
+-- the value of a variable
+pub data Value : Type 0 where
+  one_bit : Bool → Value
+  sixteen_bits : ℕ → Value
+
+-- the bits of ports in their order, where those of inputs and those of outputs stand apart
+abbrev pub port_bits : List Port → List Bool → List Bool → List Bool
+port_bits [] inputs outputs = []
+port_bits (port ∷ ports) inputs outputs =
+    if port.output then get_or outputs 0 false ∷ port_bits ports inputs (drop 1 outputs)
+    else get_or inputs 0 false ∷ port_bits ports (drop 1 inputs) outputs
+
+-- the values of the variables of a module, in their order
+unfoldable pub values_in : Parts → Entry → List Value
+values_in m entry =
+    map one_bit (port_bits m.ports (values_of entry.inputs) (values_of entry.outputs))
+    ++ (map one_bit (values_of entry.registers) ++ (map sixteen_bits (values_of entry.words) ++ map one_bit (values_of entry.wires)))

@@ -1,0 +1,7 @@
+-- The bytes of waves that are made while they are written.
+use Rattle.std.specs.Prelude.{ℕ, List}
+use Rattle.vlog_waves.specs.declared.waves.Waves.{Waves}
+use Rattle.vlog_waves.specs.Waves.{waves_text}
+
+abbrev pub waves_in : Waves → List ℕ
+waves_in waves = waves_text waves.«module» waves.events.items

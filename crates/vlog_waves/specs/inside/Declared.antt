@@ -1,0 +1,27 @@
+-- The names of the variables of a kind that items declare.
+use Rattle.std.specs.Prelude.{ℕ, List}
+use Rattle.vlog_module.specs.declared.item.Item.{Item}
+use Rattle.vlog_plan.specs.ModuleSlots.{register_names, wire_names, wire_start, word_names}
+use Rattle.vlog_plan.specs.Named.{names_of}
+use Rattle.vlog_plan.specs.Run.{register_start, word_start}
+use Rattle.vlog_waves.specs.Variables.{Kind as kind_told}
+use Rattle.vlog_waves.specs.Variables.Kind.{wire_kind, register_kind, word_kind}
+use Rattle.vlog_waves.specs.declared.items.Kind.{Kind}
+use Rattle.vlog_waves.specs.declared.items.Kind.TheVariants.{Wire, Register, Word}
+
+abbrev pub kind_of : Kind → kind_told
+kind_of Wire = wire_kind
+kind_of Register = register_kind
+kind_of Word = word_kind
+
+-- the name that an item declares, if it is one of this kind
+abbrev pub declared_by : Kind → Item → List (List ℕ)
+declared_by Wire item = names_of (wire_start item)
+declared_by Register item = names_of (register_start item)
+declared_by Word item = names_of (word_start item)
+
+-- the names of this kind, in the order of their declaration
+abbrev pub names_of_kind : Kind → List Item → List (List ℕ)
+names_of_kind Wire items = wire_names items
+names_of_kind Register items = register_names items
+names_of_kind Word items = word_names items

@@ -1,0 +1,26 @@
+-- Runs whose changes are told.
+use Rattle.std.specs.Prelude.{◌≡◌, ℕ, suc, List, [], ◌∷◌, ◌++◌}
+use Rattle.vlog_module.specs.Parts.{Parts}
+use Rattle.vlog_plan.specs.declared.event.Event.{Event}
+use Rattle.vlog_plan.specs.Entries.{Entry}
+use Rattle.vlog_plan.specs.Run.{followed}
+use Rattle.vlog_cycle.specs.Showing.{Shows}
+use Rattle.vlog_waves.specs.Variables.{values_in}
+use Rattle.vlog_waves.specs.Waves.{changed_lines, time_line}
+use Rattle.vlog_waves.specs.declared.tracer.Tracer.{Tracer}
+use Rattle.vlog_waves.specs.inside.Values.{Fits, values_held}
+
+-- the runner shows an entry of the module, whose values were told last
+pub record Traces (tracer : Tracer) (m : Parts) (entry : Entry) : Type 0 where
+  pub shows : Shows tracer.runner m entry
+  pub fits : Fits m tracer.values
+  pub held : values_held tracer.values ≡ values_in m entry
+
+-- the lines of an event
+abbrev pub lines_of_event : Parts → ℕ → Entry → Event → List (List ℕ)
+lines_of_event m time before event = time_line time ∷ changed_lines 0 (values_in m before) (values_in m (followed m before event))
+
+-- the lines of events behind an entry
+abbrev pub lines_after : Parts → ℕ → Entry → List Event → List (List ℕ)
+lines_after m time before [] = []
+lines_after m time before (event ∷ events) = lines_of_event m time before event ++ lines_after m (suc time) (followed m before event) events

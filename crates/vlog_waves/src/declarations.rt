@@ -1,0 +1,131 @@
+// The lines before the first event: the declarations, and the values at the start.
+ghost use Rattle.std.specs.Prelude.{◌≡◌, ◌+◌, ◌<◌, ◌^◌, ◌∷◌, ◌++◌, [], IfOk, OnOk, codes, length, map};
+ghost use Rattle.text_lines.specs.Written.{text_of};
+ghost use Rattle.vlog_waves.specs.Variables.{of_kind, variables_of};
+ghost use Rattle.vlog_waves.specs.Variables.Kind.{wire_kind};
+ghost use Rattle.vlog_waves.specs.Waves.{head_lines, kind_text, range_text, start_lines, variable_line, variable_lines};
+ghost use Rattle.vlog_waves.specs.inside.Declared.{declared_by, kind_of, names_of_kind};
+ghost use Rattle.vlog_waves.specs.inside.Values.{Fits, values_held};
+
+use crate::items::{Kind, declared_name};
+use crate::lines::{push_byte, push_identifier};
+use crate::starting::push_values;
+use crate::values::Values;
+use std::alloc::{AllocError, Global};
+use vlog_module::{Item, Module, Port};
+
+/// How the line of a variable begins.
+fn front(kind: Kind) -> &'static [u8]
+    ensures { result.now ≡ codes "$var " ++ kind_text (kind_of kind) }
+{
+    match kind {
+        Kind::Wire => b"$var wire 1 ",
+        Kind::Register => b"$var reg 1 ",
+        Kind::Word => b"$var reg 16 ",
+    }
+}
+
+/// How the line of a variable ends.
+fn end(kind: Kind) -> &'static [u8]
+    ensures { result.now ≡ range_text (kind_of kind) ++ codes " $end\n" }
+{
+    match kind {
+        Kind::Wire | Kind::Register => b" $end\n",
+        Kind::Word => b" [15:0] $end\n",
+    }
+}
+
+/// Adds the line of a variable.
+fn push_variable(
+    text: &mut Vec<u8>,
+    kind: Kind,
+    number: usize,
+    name: &[u8],
+) -> Result<(), AllocError>
+    ensures { OnOk result (text.new.items ≡ text.old.items ++ text_of (variable_line number (record { kind = kind_of kind; name = name.now }) ∷ [])) }
+{
+    text.extend_from_slice(front(kind))?;
+    push_identifier(text, number)?;
+    push_byte(text, b' ')?;
+    text.extend_from_slice(name)?;
+    text.extend_from_slice(end(kind))?;
+    Ok(())
+}
+
+/// Adds the lines of the ports, which are the first variables.
+fn push_ports(text: &mut Vec<u8>, ports: &[Port]) -> Result<(), AllocError>
+    ensures { OnOk result (text.new.items ≡ text.old.items ++ text_of (variable_lines 0 (of_kind wire_kind (map (λ port. port.name) ports.now)))) }
+{
+    for number in 0..ports.len() {
+        push_variable(text, Kind::Wire, number, ports[number].name.bytes())?;
+    }
+    Ok(())
+}
+
+/// Adds the line of the variable that an item declares, if it is one of this kind, and returns the next variable's number.
+fn push_item(
+    text: &mut Vec<u8>,
+    item: &Item,
+    kind: Kind,
+    number: usize,
+) -> Result<usize, AllocError>
+    requires { number + length (declared_by kind item.now) < 2 ^ 64 }
+    ensures text { OnOk result (text.new.items ≡ text.old.items ++ text_of (variable_lines number (of_kind (kind_of kind) (declared_by kind item.now)))) }
+    ensures next { IfOk result (λ next. next ≡ number + length (declared_by kind item.now)) }
+{
+    match declared_name(item, kind) {
+        Some(name) => {
+            push_variable(text, kind, number, name.bytes())?;
+            Ok(number + 1)
+        }
+        None => Ok(number),
+    }
+}
+
+/// Adds the lines of the variables of a kind that items declare. They have numbers from this one on.
+fn push_items(
+    text: &mut Vec<u8>,
+    items: &[Item],
+    kind: Kind,
+    number: usize,
+) -> Result<(), AllocError>
+    requires { number + length (names_of_kind kind items.now) < 2 ^ 64 }
+    ensures { OnOk result (text.new.items ≡ text.old.items ++ text_of (variable_lines number (of_kind (kind_of kind) (names_of_kind kind items.now)))) }
+{
+    let mut next = number;
+    for item in items {
+        next = push_item(text, item, kind, next)?;
+    }
+    Ok(())
+}
+
+/// Adds the lines of all variables.
+fn push_variables(text: &mut Vec<u8>, module: &Module, values: &Values) -> Result<(), AllocError>
+    requires { Fits «module».now values.now }
+    ensures { OnOk result (text.new.items ≡ text.old.items ++ text_of (variable_lines 0 (variables_of «module».now))) }
+{
+    let items = module.items();
+    push_ports(text, module.ports())?;
+    push_items(text, items, Kind::Register, values.first_register())?;
+    push_items(text, items, Kind::Word, values.first_word())?;
+    push_items(text, items, Kind::Wire, values.first_wire())
+}
+
+/// The lines before the first event, for a module that has these values at the start.
+pub(crate) fn beginning(
+    alloc: Global,
+    module: &Module,
+    values: &Values,
+) -> Result<Vec<u8>, AllocError>
+    requires { Fits «module».now values.now }
+    ensures { IfOk result (λ text. text.items ≡ text_of (head_lines «module».now ++ start_lines (values_held values.now))) }
+{
+    let mut text = Vec::from_slice(alloc, b"$timescale 1 ns $end\n$scope module ")?;
+    text.extend_from_slice(module.name().bytes())?;
+    text.extend_from_slice(b" $end\n")?;
+    push_variables(&mut text, module, values)?;
+    text.extend_from_slice(b"$upscope $end\n$enddefinitions $end\n#0\n$dumpvars\n")?;
+    push_values(&mut text, values)?;
+    text.extend_from_slice(b"$end\n")?;
+    Ok(text)
+}

@@ -1,0 +1,18 @@
+//! The waves of a run: a value change dump of a module of the Verilog subset over events, as simulators write it and wave viewers
+//! read it.
+#![tactic(auto)]
+
+mod changes;
+mod declarations;
+mod items;
+mod lines;
+mod sending;
+mod starting;
+mod tracer;
+mod values;
+mod waves;
+
+pub use waves::Waves;
+
+// The events of a run.
+pub use vlog_plan::Event;

@@ -1,0 +1,76 @@
+// Waves on their way to a sink.
+ghost use Rattle.std.specs.Prelude.{◌≡◌, ◌+◌, ◌*◌, ◌<◌, ◌≤◌, ◌^◌, ◌++◌, All, length, OnErr};
+ghost use Rattle.ice_io.specs.Faults.{Rose};
+ghost use Rattle.text_lines.specs.Written.{text_of};
+ghost use Rattle.vlog_module.specs.Parts.{Parts};
+ghost use Rattle.vlog_plan.specs.Entries.{Entry};
+ghost use Rattle.vlog_plan.specs.Run.{start};
+ghost use Rattle.vlog_cycle.specs.Showing.{input_count};
+ghost use Rattle.vlog_waves.specs.Variables.{values_in};
+ghost use Rattle.vlog_waves.specs.Waves.{head_lines, start_lines, waves_text};
+ghost use Rattle.vlog_waves.specs.inside.Sent.{Sends};
+ghost use Rattle.vlog_waves.specs.inside.Tracing.{Traces, lines_after};
+ghost use Rattle.vlog_waves.specs.inside.Values.{event_room};
+
+use crate::tracer::Tracer;
+use ice_io::{PutFault, Sink, write_whole};
+use vlog_module::{Module, Port};
+use vlog_plan::Event;
+
+/// Writes a piece of a text of which `sent` bytes are written, and returns how many are written then.
+fn write_piece<K: Sink>(sink: &mut K, piece: &[u8], sent: usize) -> Result<usize, PutFault>
+    requires { sent + length piece.now < 2 ^ 64 }
+    ensures sends { Sends (K.held sink.old) (K.held sink.new) sent piece.now result }
+    ensures never_falls { K.faults sink.old ≤ K.faults sink.new }
+    ensures failed { OnErr result (Rose (K.faults sink.old) (K.faults sink.new)) }
+{
+    match write_whole(sink, piece) {
+        Ok(()) => Ok(sent + piece.len()),
+        Err(PutFault::Failed { written }) => Err(PutFault::Failed {
+            written: sent + written,
+        }),
+    }
+}
+
+/// Writes the lines of events behind `before` bytes of a text, and returns how many are written then.
+fn write_events<K: Sink>(
+    sink: &mut K,
+    ports: &[Port],
+    events: &[Event],
+    tracer: &mut Tracer,
+    before: usize,
+) -> Result<usize, PutFault>
+    requires inputs { All (λ event. event.pin < input_count tracer.old.runner) events.now }
+    requires few { before + length events.now * event_room tracer.old.values < 2 ^ 64 }
+    ensures sends { (m : Parts) (entry : Entry) → Traces tracer.old m entry → ports.now ≡ m.ports
+        → Sends (K.held sink.old) (K.held sink.new) before (text_of (lines_after m 1 entry events.now)) result }
+    ensures never_falls { K.faults sink.old ≤ K.faults sink.new }
+    ensures failed { OnErr result (Rose (K.faults sink.old) (K.faults sink.new)) }
+{
+    let mut sent = before;
+    for place in 0..events.len() {
+        tracer.event(ports, events[place], place as u64 + 1);
+        sent = write_piece(sink, &tracer.text, sent)?;
+    }
+    Ok(sent)
+}
+
+/// Writes the waves of a run of which the lines before the first event are made, and returns how many bytes these are.
+pub(crate) fn write_run<K: Sink>(
+    sink: &mut K,
+    module: &Module,
+    events: &[Event],
+    beginning: &[u8],
+    tracer: &mut Tracer,
+) -> Result<usize, PutFault>
+    requires inputs { All (λ event. event.pin < input_count tracer.old.runner) events.now }
+    requires few { length beginning.now + length events.now * event_room tracer.old.values < 2 ^ 64 }
+    requires traces { Traces tracer.old «module».now (start «module».now) }
+    requires beginning { beginning.now ≡ text_of (head_lines «module».now ++ start_lines (values_in «module».now (start «module».now))) }
+    ensures sends { Sends (K.held sink.old) (K.held sink.new) 0 (waves_text «module».now events.now) result }
+    ensures never_falls { K.faults sink.old ≤ K.faults sink.new }
+    ensures failed { OnErr result (Rose (K.faults sink.old) (K.faults sink.new)) }
+{
+    let sent = write_piece(sink, beginning, 0)?;
+    write_events(sink, module.ports(), events, tracer, sent)
+}

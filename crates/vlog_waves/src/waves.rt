@@ -1,0 +1,87 @@
+// The waves of a run, made while they are written.
+ghost use Rattle.std.specs.Prelude.{◌≡◌, ◌+◌, ◌*◌, ◌<◌, ◌^◌, ◌++◌, All, true, vec_len};
+ghost use Rattle.text_lines.specs.Written.{text_of};
+ghost use Rattle.vlog_plan.specs.Run.{start};
+ghost use Rattle.vlog_cycle.specs.Showing.{input_count};
+ghost use Rattle.vlog_waves.specs.Variables.{values_in};
+ghost use Rattle.vlog_waves.specs.Waves.{head_lines, start_lines};
+ghost use Rattle.vlog_waves.specs.inside.Tracing.{Traces};
+ghost use Rattle.vlog_waves.specs.inside.Values.{event_room};
+
+use crate::declarations::beginning;
+use crate::sending::write_run;
+use crate::tracer::Tracer;
+use ice_io::{Content, PutFault, Sink};
+use std::alloc::{AllocError, Global};
+use vlog_module::Module;
+use vlog_plan::Event;
+
+/// The waves of a module's run over events, made while they are written. Only the lines before the first event and those of one event
+/// lie in memory at a time.
+#[derive(Drop)]
+pub struct Waves {
+    module: Module,
+    events: Vec<Event>,
+    /// The lines before the first event.
+    beginning: Vec<u8>,
+    tracer: Tracer,
+    ghost inputs: { All (λ event. event.pin < input_count tracer.runner) events.items },
+    ghost few: { vec_len beginning + vec_len events * event_room tracer.values < 2 ^ 64 },
+    ghost traces: { Traces tracer «module» (start «module») },
+    ghost begun: { beginning.items ≡ text_of (head_lines «module» ++ start_lines (values_in «module» (start «module»))) },
+}
+
+impl Waves {
+    ghost use Rattle.std.specs.Prelude.{IfOk, length};
+    ghost use Rattle.vlog_plan.specs.Run.{input_names};
+    ghost use Rattle.vlog_waves.specs.Waves.{waves_text};
+    ghost use Rattle.vlog_waves.specs.Whole.{waves_in};
+
+    /// The waves of this module's run over these events. All memory is taken here.
+    pub fn new(alloc: Global, module: Module, events: Vec<Event>) -> Result<Waves, AllocError>
+        requires { All (λ event. event.pin < length (input_names «module».ports)) events.items }
+        ensures { IfOk result (λ waves. waves_in waves ≡ waves_text «module» events.items) }
+    {
+        let tracer = Tracer::new(alloc, &module)?;
+        let beginning = beginning(alloc, &module, &tracer.values)?;
+        if !is_countable(beginning.len(), events.len(), tracer.event_room()) {
+            return Err(AllocError);
+        }
+        Ok(Waves {
+            module,
+            events,
+            beginning,
+            tracer,
+        })
+    }
+}
+
+/// Whether the bytes of the beginning and of events that have at most so many each can be counted.
+fn is_countable(beginning: usize, events: usize, room: usize) -> bool
+    ensures { result ≡ true → beginning + events * room < 2 ^ 64 }
+{
+    match events.checked_mul(room) {
+        Some(most) => most.checked_add(beginning).is_some(),
+        None => false,
+    }
+}
+
+/// Its bytes go out in as many writes as they take, and the lines of an event are made when they are written.
+impl Content for Waves {
+    ghost use Rattle.vlog_waves.specs.Whole.{waves_in};
+
+    ghost bytes = { waves_in };
+
+    fn write_to<K: Sink>(self, sink: &mut K) -> Result<(), PutFault> {
+        let Waves {
+            module,
+            events,
+            beginning,
+            mut tracer,
+        } = self;
+        match write_run(sink, &module, &events, &beginning, &mut tracer) {
+            Ok(_) => Ok(()),
+            Err(fault) => Err(fault),
+        }
+    }
+}

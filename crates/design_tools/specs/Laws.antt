@@ -1,7 +1,8 @@
 -- What holds of the command line of `icebox_vlog`: its command is simple, and each task is told under its name.
-use Rattle.std.specs.Prelude.{◌≡◌, true, List, codes, refl, Option, None, Some}
+use Rattle.std.specs.Prelude.{◌≡◌, Bool, true, List, codes, refl, Option, None, Some}
 use Rattle.clap.specs.Words.{Row, Text, first_of, is_simple_and_free}
 use Rattle.clap.proofs.OnLiterals.{clap_on_literals}
+use Rattle.tool_parts.specs.Commands.{has_flag}
 use Rattle.design_tools.specs.Names.{name_given}
 use Rattle.design_tools.specs.Vlog.{vlog_command, vlog_name, vlog_task_by, vlog_task_of}
 
@@ -9,10 +10,12 @@ pub vlog-simple : is_simple_and_free vlog_command ≡ true
 unfolding clap_on_literals
 vlog-simple = refl
 
-of-speaks : (name layout db image : Option Text) → (vlog_task_of name layout db image).tool_name ≡ vlog_name
-of-speaks (Some name) layout (Some db) image = refl
-of-speaks (Some name) layout None image = refl
-of-speaks None layout db image = refl
+of-speaks : (used : Bool) (name layout db image : Option Text) → (vlog_task_of used name layout db image).tool_name ≡ vlog_name
+of-speaks used (Some name) layout (Some db) image = refl
+of-speaks used (Some name) layout None image = refl
+of-speaks used None layout db image = refl
 
 pub vlog-speaks : (rows : List Row) → (vlog_task_by rows).tool_name ≡ vlog_name
-vlog-speaks rows = of-speaks (name_given (first_of (codes "name") rows)) (first_of (codes "layout") rows) (first_of (codes "db") rows) (first_of (codes "image") rows)
+vlog-speaks rows =
+    of-speaks (has_flag (codes "used-inputs") rows) (name_given (first_of (codes "name") rows)) (first_of (codes "layout") rows) (first_of (codes "db") rows)
+    (first_of (codes "image") rows)

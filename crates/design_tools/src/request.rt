@@ -2,12 +2,13 @@
 ghost use Rattle.std.specs.Prelude.{◌≡◌, IfOk};
 ghost use Rattle.clap.specs.Words.{app_of, found_of, rows_of};
 ghost use Rattle.tool_run.specs.Needs.{text_of};
-ghost use Rattle.design_tools.specs.Vlog.{name_text, vlog_command, vlog_task_by, vlog_task_for, vlog_task_of};
+ghost use Rattle.design_tools.specs.Vlog.{inputs_wanted, name_text, vlog_command, vlog_task_by, vlog_task_for, vlog_task_of};
 
 use crate::name::{ModuleName, name_given};
 use clap::{ArgMatches, Command};
+use net_extract::LutInputs;
 use std::alloc::{AllocError, Global};
-use tool_parts::{long_option, positional, short_option, value, with};
+use tool_parts::{has_flag, long_flag, long_option, positional, short_option, value, with};
 
 /// The command line of `icebox_vlog`.
 pub const ICEBOX_VLOG_USAGE: &str = "icebox_vlog [-n NAME] [--layout FILE] DB [IMAGE]";
@@ -16,11 +17,13 @@ pub const ICEBOX_VLOG_USAGE: &str = "icebox_vlog [-n NAME] [--layout FILE] DB [I
 pub const ICEBOX_VLOG_HELP: &str = "\
 icebox_vlog: writes the design of an image as a module in a subset of Verilog.
 
-Usage: icebox_vlog [-n NAME] [--layout FILE] DB [IMAGE]
+Usage: icebox_vlog [-n NAME] [--used-inputs] [--layout FILE] DB [IMAGE]
 
   DB        the chip database of the image's device
   IMAGE     a bitstream (.bin) or a text (.asc); standard input if it is missing
   -n NAME   the name of the module, at most 64 bytes; chip if it is missing
+  --used-inputs
+            LUTs read only the inputs that they use, so more designs are taken
   --layout FILE
             the layout file; the standard layout if it is missing
 
@@ -37,6 +40,12 @@ po_X_Y_N for an output; a register and a memory for each block RAM that is read,
 rd_X_Y and mem_X_Y; and a wire n_K for each net with a driver. At the start and
 after each change of an input they have the values that the configured device
 has. vlogrun runs the module.
+
+A LUT uses an input where two of its entries differ whose numbers differ in the
+bit of that input alone: another input can't change its value. With
+--used-inputs a LUT doesn't depend on what a router led to an input that it
+doesn't use, and 1'b0 is written in its place. The module has the same values
+as without.
 
 Example: icebox_vlog -n blink chipdb-1k.txt blink.asc >blink.v
 
@@ -57,8 +66,8 @@ fault. A design is refused for these causes, looked for in this order:
   TwoDrivers    two outputs drive one net: the image wasn't made by a router, or
                 the database is for another device
   Loop          a net depends on itself without a register between. A router may
-                make such a loop at an input that a logic cell doesn't use:
-                route again with another seed
+                make such a loop at an input that a logic cell doesn't use: then
+                --used-inputs takes the design
   Clock         a flip-flop or a RAM whose clock is made by logic, and comes
                 from no pin: clock it by the pin, and use an enable
 
@@ -67,10 +76,11 @@ Exit status: 0 done; 1 FILE, the database, the image or the design is refused;
 memory; 6 an input is longer than its limit.
 ";
 
-/// What the arguments ask for: the name of the module, a layout file, a database and an image.
+/// What the arguments ask for: the name of the module, which inputs LUTs read, a layout file, a database and an image.
 #[derive(Clone, Copy)]
 pub(crate) struct Request<'a> {
     pub(crate) name: ModuleName<'a>,
+    pub(crate) inputs: LutInputs,
     pub(crate) layout: Option<&'a str>,
     pub(crate) db: &'a str,
     pub(crate) image: Option<&'a str>,
@@ -82,23 +92,37 @@ pub(crate) fn command<'a>(alloc: Global) -> Result<Command<'a>, AllocError>
 {
     let command = Command::new(alloc, "icebox_vlog");
     let command = with(command, short_option(alloc, "name", 'n'))?;
+    let command = with(command, long_flag(alloc, "used-inputs"))?;
     let command = with(command, long_option(alloc, "layout"))?;
     let command = with(command, positional(alloc, "db"))?;
     with(command, positional(alloc, "image"))
 }
 
+// Which inputs LUTs read.
+fn inputs_wanted(used: bool) -> LutInputs
+    ensures { result ≡ inputs_wanted used }
+{
+    match used {
+        false => LutInputs::All,
+        true => LutInputs::Used,
+    }
+}
+
 // What the arguments ask for by what was found in them: the name has to be one, and there has to be a database.
 fn wanted<'a>(
+    used: bool,
     name: Option<ModuleName<'a>>,
     layout: Option<&'a str>,
     db: Option<&'a str>,
     image: Option<&'a str>,
 ) -> Option<Request<'a>>
-    ensures { vlog_task_for result ≡ vlog_task_of (name_text name.entry) (text_of layout.entry) (text_of db.entry) (text_of image.entry) }
+    ensures { vlog_task_for result ≡ vlog_task_of used (name_text name.entry) (text_of layout.entry) (text_of db.entry) (text_of image.entry) }
 {
+    let inputs = inputs_wanted(used);
     match (name, db) {
         (Some(name), Some(db)) => Some(Request {
             name,
+            inputs,
             layout,
             db,
             image,
@@ -111,10 +135,11 @@ fn wanted<'a>(
 pub(crate) fn request_in<'a>(matches: &ArgMatches<'a>) -> Option<Request<'a>>
     ensures { vlog_task_for result ≡ vlog_task_by (rows_of (found_of matches.now)) }
 {
+    let used = has_flag(matches, "used-inputs");
     let given = value(matches, "name");
     let name = name_given(given);
     let layout = value(matches, "layout");
     let db = value(matches, "db");
     let image = value(matches, "image");
-    wanted(name, layout, db, image)
+    wanted(used, name, layout, db, image)
 }

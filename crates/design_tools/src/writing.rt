@@ -19,9 +19,10 @@ use crate::request::{ICEBOX_VLOG_HELP, ICEBOX_VLOG_USAGE, Request, command, requ
 use chipdb_reader::ChipDb;
 use clap::{ArgMatches, Command};
 use design_parts::design_stop;
-use fabric::{Design, design};
+use fabric::{Design, design_with};
 use ice_image::AnyImage;
 use ice_io::{Files, Sink, Source};
+use net_extract::LutInputs;
 use std::alloc::{AllocError, Global};
 use tool_parts::{
     CommandLine, DB_LIMIT, DesignInput, IMAGE_LIMIT, LAYOUT_LIMIT, Taking, run_tool, with_layout,
@@ -30,12 +31,13 @@ use tool_run::{AtOnce, Job, Load, PieceTool, Stop, answer_at_once, perform_in_pi
 use vlog_emit::emit;
 use vlog_text::print;
 
-/// Writes the module of a database and an image, with a name. The image is read under the layouts of a file that comes first where
-/// one is named.
+/// Writes the module of a database and an image, with a name. LUTs read these inputs. The image is read under the layouts of a file
+/// that comes first where one is named.
 #[derive(Clone, Copy, Debug, PartialEq, Eq)]
 pub(crate) struct Writing<'a> {
     /// Whether a layout file comes first.
     pub(crate) named: bool,
+    pub(crate) inputs: LutInputs,
     pub(crate) name: ModuleName<'a>,
 }
 
@@ -48,7 +50,7 @@ impl<'a> PieceTool for Writing<'a> {
 
     type Made = Vec<u8>;
 
-    ghost answer_of = { λ tool texts. vlog_answer tool.named tool.name.text.now texts };
+    ghost answer_of = { λ tool texts. vlog_answer tool.inputs tool.named tool.name.text.now texts };
 
     ghost takes = { λ tool texts taking bytes. IsTaking TakesInput tool.named texts bytes taking };
 
@@ -67,24 +69,25 @@ impl<'a> PieceTool for Writing<'a> {
     }
 
     fn finish(&self, alloc: Global, taking: Taking<DesignInput>) -> Result<Vec<u8>, Stop<'_>> {
-        written_after(alloc, self.name.text.as_bytes(), taking)
+        written_after(alloc, self.inputs, self.name.text.as_bytes(), taking)
     }
 }
 
 // The module of the database and the image, after the last piece of both.
 fn written_after(
     alloc: Global,
+    inputs: LutInputs,
     name: &[u8],
     taking: Taking<DesignInput>,
 ) -> Result<Vec<u8>, Stop<'static>>
     requires { IsName name.now }
     ensures bytes { IfOk result (λ bytes. (named : Bool) (texts : List (List ℕ)) → IsTaking TakesInput named texts [] taking
-        → vlog_answer named name.now texts ≡ Done bytes.items) }
+        → vlog_answer inputs named name.now texts ≡ Done bytes.items) }
     ensures stops { IfErr result (λ stop. (named : Bool) (texts : List (List ℕ)) → IsTaking TakesInput named texts [] taking
-        → StopsWith (vlog_answer named name.now texts) stop) }
+        → StopsWith (vlog_answer inputs named name.now texts) stop) }
 {
     match DesignInput::read(alloc, taking) {
-        Ok((db, image)) => text_of(alloc, &db, &image, name),
+        Ok((db, image)) => text_of(alloc, &db, &image, inputs, name),
         Err(stop) => Err(stop),
     }
 }
@@ -95,13 +98,14 @@ fn text_of(
     alloc: Global,
     db: &ChipDb,
     image: &AnyImage,
+    inputs: LutInputs,
     name: &[u8],
 ) -> Result<Vec<u8>, Stop<'static>>
     requires { IsName name.now }
-    ensures bytes { IfOk result (λ bytes. written name.now (database_in db.now) (configuration_of image.now) ≡ Done bytes.items) }
-    ensures stops { IfErr result (StopsWith (written name.now (database_in db.now) (configuration_of image.now))) }
+    ensures bytes { IfOk result (λ bytes. written inputs name.now (database_in db.now) (configuration_of image.now) ≡ Done bytes.items) }
+    ensures stops { IfErr result (StopsWith (written inputs name.now (database_in db.now) (configuration_of image.now))) }
 {
-    match design(alloc, db, image) {
+    match design_with(alloc, db, image, inputs) {
         Ok(design) => Ok(module_text(alloc, &design, name)?),
         Err(fault) => Err(design_stop(&fault)),
     }
@@ -110,7 +114,7 @@ fn text_of(
 // The text of the module of a design.
 fn module_text(alloc: Global, design: &Design, name: &[u8]) -> Result<Vec<u8>, AllocError>
     requires { IsName name.now }
-    ensures { IfOk result (λ text. (db : Database) (image : Configuration) → IsDesignOf db image design.now → written name.now db image ≡ Done text.items) }
+    ensures { IfOk result (λ text. (db : Database) (image : Configuration) → IsDesignOf db image design.now → written design.now.parts.lut_inputs name.now db image ≡ Done text.items) }
 {
     let module = emit(alloc, design, name)?;
     print(alloc, &module)
@@ -145,6 +149,7 @@ fn write_files<F: Files, I: Source, O: Sink, E: Sink>(
     ];
     let tool = Writing {
         named: request.layout.is_some(),
+        inputs: request.inputs,
         name: request.name,
     };
     let job = Job {

@@ -4,11 +4,13 @@ ghost use Rattle.plane_map.specs.Layout.{kind_of};
 ghost use Rattle.plane_map.specs.declared.tile.TileKind.TheVariants.{RamB};
 
 mod cells;
+mod inputs;
 mod pins;
 mod rams;
 
-use fabric::{Design, design};
+use fabric::{Design, design_with};
 use ice_image::AnyImage;
+use net_extract::LutInputs;
 use plane_map::{DeviceName, Hx1k, TileKind, kind_at};
 use sample_images::{SampleBit, database, image_with, set_bits};
 use std::alloc::{AllocError, Global};
@@ -37,10 +39,16 @@ fn image_of(alloc: Global, bits: &[SampleBit], more: &[SampleBit]) -> Result<Any
     Ok(image)
 }
 
-/// The design of a database by its text and of an image with these bits.
-fn design_of(alloc: Global, text: &[u8], bits: &[SampleBit], more: &[SampleBit]) -> Option<Design> {
+/// The design of a database by its text and of an image with these bits, whose LUTs read these inputs.
+fn design_of(
+    alloc: Global,
+    text: &[u8],
+    bits: &[SampleBit],
+    more: &[SampleBit],
+    lut_inputs: LutInputs,
+) -> Option<Design> {
     match (database(alloc, text), image_of(alloc, bits, more)) {
-        (Some(db), Ok(image)) => design(alloc, &db, &image).ok(),
+        (Some(db), Ok(image)) => design_with(alloc, &db, &image, lut_inputs).ok(),
         _ => None,
     }
 }
@@ -54,10 +62,21 @@ fn named(alloc: Global, design: &Design, name: &[u8]) -> Option<Module> {
     }
 }
 
-/// The module of the design.
-fn module_of(alloc: Global, text: &[u8], bits: &[SampleBit], more: &[SampleBit]) -> Option<Module> {
-    let design = design_of(alloc, text, bits, more)?;
+/// The module of the design whose LUTs read these inputs.
+fn module_by(
+    alloc: Global,
+    text: &[u8],
+    bits: &[SampleBit],
+    more: &[SampleBit],
+    lut_inputs: LutInputs,
+) -> Option<Module> {
+    let design = design_of(alloc, text, bits, more, lut_inputs)?;
     named(alloc, &design, b"chip")
+}
+
+/// The module of the design whose LUTs read all of their inputs.
+fn module_of(alloc: Global, text: &[u8], bits: &[SampleBit], more: &[SampleBit]) -> Option<Module> {
+    module_by(alloc, text, bits, more, LutInputs::All)
 }
 
 /// The runner of the module of the design.

@@ -6,7 +6,8 @@ use Rattle.plane_map.proofs.Devices.{same-device, other-device}
 use Rattle.ice_image.specs.Configuration.{Configuration}
 use Rattle.chipdb_reader.specs.Database.{Database}
 use Rattle.place_search.specs.Places.{or_else}
-use Rattle.net_extract.specs.Fabric.{fabric_of}
+use Rattle.net_extract.specs.declared.lut_inputs.LutInputs.{LutInputs}
+use Rattle.net_extract.specs.Fabric.{fabric_with}
 use Rattle.net_extract.specs.Faults.{Fault, device_faults, pins_fault, rams_fault, fabric_fault, design_fault}
 use Rattle.net_extract.specs.declared.fault.LinkFault.{LinkFault}
 use Rattle.net_extract.specs.declared.fault.LinkFault.TheVariants as links
@@ -19,40 +20,54 @@ use Rattle.fabric_parts.specs.RamFaults.{IsCause as IsRamCause}
 use Rattle.fabric.specs.declared.fault.FabricFault.{FabricFault}
 use Rattle.fabric.specs.Faults.{IsCause, AreTaken}
 use Rattle.fabric.specs.Causes.{of_links, of_pins, of_rams}
+use Rattle.fabric.proofs.Evidence.{same-cause}
 
-module _ (db : Database) (image : Configuration) where
+module _ (inputs : LutInputs) (db : Database) (image : Configuration) where
   Refuses : Option Fault → Type 0
-  Refuses cause = design_fault db image ≡ cause
+  Refuses cause = design_fault inputs db image ≡ cause
 
   no-device : db.chip.device ≡ image.layout.device → device_faults db image ≡ []
   unfolding device_faults
   no-device same = rw (same, same-device image.layout.device) refl
 
-  with-device : ¬ (db.chip.device ≡ image.layout.device) → design_fault db image ≡ Some Fault.other_device
+  with-device : ¬ (db.chip.device ≡ image.layout.device) → design_fault inputs db image ≡ Some Fault.other_device
   unfolding design_fault device_faults
   with-device other = rw (other-device db.chip.device image.layout.device other) refl
 
   module _ (same : db.chip.device ≡ image.layout.device) where
-    behind-device : design_fault db image
-        ≡ or_else (pins_fault db image) (or_else (rams_fault db image) (fabric_fault image.layout.device (fabric_of db image)))
+    behind-device : design_fault inputs db image
+        ≡ or_else (pins_fault db image) (or_else (rams_fault db image) (fabric_fault image.layout.device (fabric_with inputs db image)))
     unfolding design_fault
     behind-device = rw (no-device same) refl
 
-    pins-refuse : (cause : Fault) → pins_fault db image ≡ Some cause → design_fault db image ≡ Some cause
+    pins-refuse : (cause : Fault) → pins_fault db image ≡ Some cause → design_fault inputs db image ≡ Some cause
     pins-refuse cause is = behind-device ∙ rw is refl
 
     module _ (pins-taken : pins_fault db image ≡ None) where
-      rams-refuse : (cause : Fault) → rams_fault db image ≡ Some cause → design_fault db image ≡ Some cause
+      rams-refuse : (cause : Fault) → rams_fault db image ≡ Some cause → design_fault inputs db image ≡ Some cause
       rams-refuse cause is = behind-device ∙ rw (pins-taken, is) refl
 
   -- the fault of the whole is that of the fabric, where the parts are taken
-  pub fabric-left : AreTaken db image → design_fault db image ≡ fabric_fault image.layout.device (fabric_of db image)
+  pub fabric-left : AreTaken db image → design_fault inputs db image ≡ fabric_fault image.layout.device (fabric_with inputs db image)
   fabric-left taken = behind-device taken.device ∙ rw (taken.pins, taken.rams) refl
+
+  -- so nothing is wrong with the whole where nothing is wrong with the fabric
+  pub fabric-taken : AreTaken db image → fabric_fault db.chip.device (fabric_with inputs db image) ≡ None → design_fault inputs db image ≡ None
+  fabric-taken taken none = fabric-left taken ∙ subst (λ d. fabric_fault d (fabric_with inputs db image) ≡ None) taken.device none
+
+  -- and a cause of the fabric is one of the whole
+  pub fabric-refuses : (fault : FabricFault) → AreTaken db image
+      → IsCause db.chip.device (fabric_with inputs db image) (fabric_fault db.chip.device (fabric_with inputs db image)) fault
+      → IsCause image.layout.device (fabric_with inputs db image) (design_fault inputs db image) fault
+  fabric-refuses fault taken is =
+      same-cause image.layout.device (fabric_with inputs db image) (fabric_fault image.layout.device (fabric_with inputs db image)) (design_fault inputs db image)
+      (λ cause one. fabric-left taken ∙ one) fault
+      (subst (λ d. IsCause d (fabric_with inputs db image) (fabric_fault d (fabric_with inputs db image)) fault) taken.device is)
 
   -- ---- the refusals of the parts
 
   abbrev IsRefusal : FabricFault → Type 0
-  IsRefusal fault = IsCause image.layout.device (fabric_of db image) (design_fault db image) fault
+  IsRefusal fault = IsCause image.layout.device (fabric_with inputs db image) (design_fault inputs db image) fault
 
   pub links-cause : (fault : LinkFault) → ((fault ≡ links.Device) ↔ (¬ (db.chip.device ≡ image.layout.device))) → IsRefusal (of_links fault)
   links-cause links.Device tells = with-device (tells.0 refl)

@@ -15,7 +15,8 @@ use Rattle.place_search.proofs.Places.{gathered_below-same}
 use Rattle.net_extract.specs.declared.ram.RamCell.{RamCell}
 use Rattle.net_extract.specs.Tiles.{over_grid, at_kind, each_below}
 use Rattle.net_extract.specs.Rams.{is_ram_used, ram_at, rams_of, over_rams, start_word, start_words}
-use Rattle.net_extract.specs.Fabric.{fabric_of}
+use Rattle.net_extract.specs.declared.lut_inputs.LutInputs.{LutInputs}
+use Rattle.net_extract.specs.Fabric.{fabric_with}
 use Rattle.net_extract.proofs.Within.{All-over_grid, All-if, All-single}
 use Rattle.net_extract.proofs.OneValue.{each_below-length, each_below-at}
 use Rattle.net_extract.proofs.InOrder.{is_kind_there-is}
@@ -66,13 +67,13 @@ module _ (db : Database) (image : Configuration) where
       ∙ gathered_below-same (grid_height image.layout.device) _ _ (λ y low.
       map-gathered_below words_of (grid_width image.layout.device) _ ∙ gathered_below-same (grid_width image.layout.device) _ _ (λ x left. used-words x y))
 
-  start-is : (fabric_of db image).start ≡ map words_of (rams_of db image)
-  unfolding fabric_of
-  start-is = sym start-words
+  start-is : (inputs : LutInputs) → (fabric_with inputs db image).start ≡ map words_of (rams_of db image)
+  unfolding fabric_with
+  start-is inputs = sym start-words
 
-  rams-are : (fabric_of db image).rams ≡ rams_of db image
-  unfolding fabric_of
-  rams-are = refl
+  rams-are : (inputs : LutInputs) → (fabric_with inputs db image).rams ≡ rams_of db image
+  unfolding fabric_with
+  rams-are inputs = refl
 
   -- ---- words by their places
 
@@ -85,11 +86,11 @@ module _ (db : Database) (image : Configuration) where
       each_below-at 256 word (ram_word_of image ram.x ram.y) 0 below
       ∙ sym (ap word_of (each_below-at 256 word (start_word image ram.x ram.y) [] below))
 
-  pub words-are : AreWordsOf (fabric_of db image) (flat_map values_of (rams_of db image))
-  words-are = record {
-    count = count-of_parts 256 values_of (rams_of db image) (λ ram. each_below-length 256 _) ∙ ap (λ rams. length rams * 256) (sym rams-are);
+  pub words-are : (inputs : LutInputs) → AreWordsOf (fabric_with inputs db image) (flat_map values_of (rams_of db image))
+  words-are inputs = record {
+    count = count-of_parts 256 values_of (rams_of db image) (λ ram. each_below-length 256 _) ∙ ap (λ rams. length rams * 256) (sym (rams-are inputs));
     each = λ ram word inside below.
         item-of_part 256 values_of words_of word_of (rams_of db image) ram word 0 [] (λ cell. each_below-length 256 _) (λ cell. word-value cell word below)
-        (subst (λ rams. ram < length rams) rams-are inside) below
-        ∙ ap (λ start. word_of (get_or (get_or start ram []) word [])) (sym start-is);
+        (subst (λ rams. ram < length rams) (rams-are inputs) inside) below
+        ∙ ap (λ start. word_of (get_or (get_or start ram []) word [])) (sym (start-is inputs));
   }

@@ -5,7 +5,7 @@ use Rattle.chipdb_reader.specs.Database.{Database}
 use Rattle.chipdb_reader.specs.Fit.{IsFit}
 use Rattle.chipdb_reader.specs.declared.items.PinXy.{PinXy}
 use Rattle.net_extract.specs.declared.pin.Pin.{Pin}
-use Rattle.net_extract.specs.Fabric.{fabric_of}
+use Rattle.net_extract.specs.Fabric.{fabric_with}
 use Rattle.net_extract.specs.Clocks.{ClockEnd}
 use Rattle.net_extract.specs.Clocks.ClockEnd.{at_pin, undriven, logic}
 use Rattle.net_extract.specs.Faults.{design_fault}
@@ -13,12 +13,13 @@ use Rattle.fabric_wiring.specs.declared.parts.Buffer.{Buffer}
 use Rattle.fabric.specs.declared.design_type.LinkEnds.{LinkEnds}
 use Rattle.fabric.specs.Kept.{Kept, IsKeptOf}
 
--- A design is of a database and an image where they have no fault and it keeps what they configure.
+-- A design is of a database and an image where they have no fault and it keeps what they configure, where the LUTs read the inputs
+-- that it tells.
 pub record IsDesignOf (db : Database) (image : Configuration) (design : Kept) : Type 0 where
   pub fit : IsFit db
   pub few : db.chip.nets ≤ 2 ^ 64
-  pub taken : design_fault db image ≡ None
-  pub kept : IsKeptOf (fabric_of db image) design
+  pub taken : design_fault design.parts.lut_inputs db image ≡ None
+  pub kept : IsKeptOf (fabric_with design.parts.lut_inputs db image) design
 
 -- a design of some database and image
 abbrev pub IsDesign : Kept → Type 0

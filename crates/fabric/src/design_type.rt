@@ -12,7 +12,7 @@ ghost use Rattle.fabric.specs.Design.{IsDesign, end_pin, ends_of, link_in};
 
 use chipdb_reader::PinXy;
 use fabric_wiring::{Buffer, ClockEnd, Drive, Drivers, Output, Parts, Rule};
-use net_extract::{CarrySet, Driver, GlobalNet, Lc, Pin, RamCell, Register};
+use net_extract::{CarrySet, Driver, GlobalNet, Lc, LutInputs, Pin, RamCell, Register};
 use std::marker::Model;
 
 /// The two nets of a buffer.
@@ -108,6 +108,13 @@ impl Design {
         ensures design { IsDesign self.now }
     {
         &self.outputs
+    }
+
+    /// Which inputs the LUTs of the cells read.
+    pub fn lut_inputs(&self) -> LutInputs
+        ensures { result ≡ self.now.parts.lut_inputs }
+    {
+        self.parts.lut_inputs
     }
 
     /// The used logic cells, by tile and index.

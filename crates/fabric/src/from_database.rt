@@ -2,7 +2,8 @@
 ghost use Rattle.std.specs.Prelude.{◌≡◌, ℕ, All, Bool, List, IfOk, IfErr, OnOk, None};
 ghost use Rattle.ice_image.specs.Either.{configuration_of};
 ghost use Rattle.chipdb_reader.specs.Kept.{database_in};
-ghost use Rattle.net_extract.specs.Fabric.{fabric_of};
+ghost use Rattle.net_extract.specs.declared.lut_inputs.LutInputs.TheVariants as read;
+ghost use Rattle.net_extract.specs.Fabric.{fabric_with, fabric_of};
 ghost use Rattle.net_extract.specs.Values.{State, IsConsistent};
 ghost use Rattle.net_extract.specs.Joins.{class_of};
 ghost use Rattle.net_extract.specs.Clocks.{LeadsTo, clock_end};
@@ -19,10 +20,10 @@ use crate::parts::parts;
 use crate::wire::wire;
 use chipdb_reader::ChipDb;
 use ice_image::AnyImage;
-use net_extract::inputs;
+use net_extract::{LutInputs, inputs};
 use std::alloc::Global;
 
-/// Finds the design of a database and an image.
+/// Finds the design of a database and an image. The LUTs read all of their inputs.
 ///
 /// For each state and all values of the input pins there is exactly one list of net values that is consistent with them, and for each
 /// list of events exactly one run, in each entry of which the clock of a register or RAM port has the value of its pin, or is 0 where
@@ -32,14 +33,40 @@ use std::alloc::Global;
 /// The first cause why the two aren't taken, in the order of [`FabricFault`], with the least that has it.
 pub fn design(alloc: Global, db: &ChipDb, image: &AnyImage) -> Result<Design, FabricFault>
     ensures design { IfOk result (IsDesignOf (database_in db.now) (configuration_of image.now)) }
-    ensures taken { OnOk result (design_fault (database_in db.now) (configuration_of image.now) ≡ None) }
-    ensures refused { IfErr result (IsCause (configuration_of image.now).layout.device (fabric_of (database_in db.now) (configuration_of image.now)) (design_fault (database_in db.now) (configuration_of image.now))) }
+    ensures inputs { IfOk result (λ design. design.parts.lut_inputs ≡ read.All) }
+    ensures taken { OnOk result (design_fault read.All (database_in db.now) (configuration_of image.now) ≡ None) }
+    ensures refused { IfErr result (IsCause (configuration_of image.now).layout.device (fabric_of (database_in db.now) (configuration_of image.now)) (design_fault read.All (database_in db.now) (configuration_of image.now))) }
     ensures one_value { OnOk result ((state : State) (pins : List Bool) → ExactlyOne (IsConsistent (fabric_of (database_in db.now) (configuration_of image.now)) state pins)) }
     ensures chains { OnOk result ((net : ℕ) → LeadsTo (fabric_of (database_in db.now) (configuration_of image.now)) (class_of (fabric_of (database_in db.now) (configuration_of image.now)).joins net) (clock_end (fabric_of (database_in db.now) (configuration_of image.now)) net)) }
     ensures clocks { OnOk result ((events : List Event) (entries : List Entry) → IsRun (fabric_of (database_in db.now) (configuration_of image.now)) events entries → All (HasClocks (fabric_of (database_in db.now) (configuration_of image.now))) entries) }
     ensures one_run { OnOk result ((events : List Event) → ExactlyOne (IsRun (fabric_of (database_in db.now) (configuration_of image.now)) events)) }
 {
-    let parts = parts(alloc, db, image)?;
+    design_with(alloc, db, image, LutInputs::All)
+}
+
+/// Finds the design of a database and an image whose LUTs read these inputs.
+///
+/// Where they read only those that they use, a LUT doesn't depend on what comes to another of its inputs: more is taken, since such an
+/// input closes no cycle. The values of nets, the runs and the clocks are still those of the fabric whose LUTs read all inputs.
+///
+/// # Errors
+/// As [`design`]; a cycle is one of LUTs that read these inputs.
+pub fn design_with(
+    alloc: Global,
+    db: &ChipDb,
+    image: &AnyImage,
+    lut_inputs: LutInputs,
+) -> Result<Design, FabricFault>
+    ensures design { IfOk result (IsDesignOf (database_in db.now) (configuration_of image.now)) }
+    ensures inputs { IfOk result (λ design. design.parts.lut_inputs ≡ lut_inputs) }
+    ensures taken { OnOk result (design_fault lut_inputs (database_in db.now) (configuration_of image.now) ≡ None) }
+    ensures refused { IfErr result (IsCause (configuration_of image.now).layout.device (fabric_with lut_inputs (database_in db.now) (configuration_of image.now)) (design_fault lut_inputs (database_in db.now) (configuration_of image.now))) }
+    ensures one_value { OnOk result ((state : State) (pins : List Bool) → ExactlyOne (IsConsistent (fabric_of (database_in db.now) (configuration_of image.now)) state pins)) }
+    ensures chains { OnOk result ((net : ℕ) → LeadsTo (fabric_of (database_in db.now) (configuration_of image.now)) (class_of (fabric_of (database_in db.now) (configuration_of image.now)).joins net) (clock_end (fabric_of (database_in db.now) (configuration_of image.now)) net)) }
+    ensures clocks { OnOk result ((events : List Event) (entries : List Entry) → IsRun (fabric_of (database_in db.now) (configuration_of image.now)) events entries → All (HasClocks (fabric_of (database_in db.now) (configuration_of image.now))) entries) }
+    ensures one_run { OnOk result ((events : List Event) → ExactlyOne (IsRun (fabric_of (database_in db.now) (configuration_of image.now)) events)) }
+{
+    let parts = parts(alloc, db, image, lut_inputs)?;
     prove!(db.device().is_same(image.device()));
     let wired = wire(alloc, db, image, &parts)?;
     let inputs = inputs(alloc, &parts.pins)?;

@@ -1,7 +1,8 @@
 //! The design of a database and an image: the configured fabric, with the driver of each class of nets, the order in which classes
 //! are written, and the pins of clocks.
 //!
-//! [`design`] finds it, or the first cause why the two aren't taken. The calls of [`Design`] take no memory.
+//! [`design`] finds it, or the first cause why the two aren't taken; [`design_with`] does so where LUTs may read only the inputs that they
+//! use. The calls of [`Design`] take no memory.
 #![tactic(auto)]
 
 mod cycle;
@@ -16,4 +17,4 @@ mod words;
 pub use cycle::Cycle;
 pub use design_type::{Design, LinkEnds};
 pub use fault::FabricFault;
-pub use from_database::design;
+pub use from_database::{design, design_with};

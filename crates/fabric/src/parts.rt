@@ -6,7 +6,7 @@ ghost use Rattle.chipdb_reader.specs.Fit.{IsFit};
 ghost use Rattle.chipdb_reader.specs.Kept.{database_in};
 ghost use Rattle.net_extract.specs.TilesOfKind.{HasTile};
 ghost use Rattle.net_extract.specs.Registers.{registers_of, pin_registers_of};
-ghost use Rattle.net_extract.specs.Fabric.{fabric_of};
+ghost use Rattle.net_extract.specs.Fabric.{fabric_with};
 ghost use Rattle.net_extract.specs.Faults.{design_fault};
 ghost use Rattle.fabric_wiring.specs.Parts.{ArePartsOf, buffer_of};
 ghost use Rattle.fabric.specs.Faults.{IsCause, AreTaken};
@@ -17,7 +17,7 @@ use chipdb_reader::{ChipDb, LinkLine};
 use fabric_parts::{cells, pin_registers, pins, rams};
 use fabric_wiring::{Buffer, Parts, registers_of};
 use ice_image::AnyImage;
-use net_extract::{Lc, Pin, Register, links};
+use net_extract::{Lc, LutInputs, Pin, Register, links};
 use std::alloc::{AllocError, Global};
 
 /// Appends the buffer of the line at a place, where there is one.
@@ -51,40 +51,47 @@ fn buffers(alloc: Global, db: &ChipDb, places: &[u32]) -> Result<Vec<Buffer>, Al
     Ok(buffers)
 }
 
-/// The registers: the flip-flops of cells, then those of pins.
+/// The registers: the flip-flops of cells, whose LUTs read these inputs, then those of pins.
 fn registers(
     alloc: Global,
     db: &ChipDb,
     image: &AnyImage,
+    inputs: LutInputs,
     lcs: &[Lc],
     pins: &[Pin],
 ) -> Result<Vec<Register>, AllocError>
     requires { All (λ pin. HasTile image.now Io pin.x pin.y) pins.now }
-    ensures { IfOk result (λ registers. registers.items ≡ registers_of lcs.now ++ pin_registers_of (database_in db.now) (configuration_of image.now) pins.now) }
+    ensures { IfOk result (λ registers. registers.items ≡ registers_of inputs lcs.now ++ pin_registers_of (database_in db.now) (configuration_of image.now) pins.now) }
 {
-    let mut registers = registers_of(alloc, lcs)?;
+    let mut registers = registers_of(alloc, inputs, lcs)?;
     registers.extend_from_slice(&pin_registers(alloc, db, image, pins)?)?;
     Ok(registers)
 }
 
 /// Finds the parts, or the first cause why they aren't taken.
-pub(crate) fn parts(alloc: Global, db: &ChipDb, image: &AnyImage) -> Result<Parts, FabricFault>
-    ensures parts { IfOk result (ArePartsOf (fabric_of (database_in db.now) (configuration_of image.now))) }
+pub(crate) fn parts(
+    alloc: Global,
+    db: &ChipDb,
+    image: &AnyImage,
+    inputs: LutInputs,
+) -> Result<Parts, FabricFault>
+    ensures parts { IfOk result (ArePartsOf (fabric_with inputs (database_in db.now) (configuration_of image.now))) }
     ensures fit { OnOk result (IsFit (database_in db.now)) }
     ensures taken { OnOk result (AreTaken (database_in db.now) (configuration_of image.now)) }
-    ensures refused { IfErr result (IsCause (configuration_of image.now).layout.device (fabric_of (database_in db.now) (configuration_of image.now)) (design_fault (database_in db.now) (configuration_of image.now))) }
+    ensures refused { IfErr result (IsCause (configuration_of image.now).layout.device (fabric_with inputs (database_in db.now) (configuration_of image.now)) (design_fault inputs (database_in db.now) (configuration_of image.now))) }
 {
     let links = links(alloc, db, image)?;
     let pins = pins(alloc, db, image, &links)?;
     let rams = rams(alloc, db, image, &links)?;
     let cells = cells(alloc, db, image)?;
-    let registers = registers(alloc, db, image, &cells.lcs, &pins.pins)?;
+    let registers = registers(alloc, db, image, inputs, &cells.lcs, &pins.pins)?;
     let buffers = buffers(alloc, db, links.buffers())?;
     Ok(Parts {
         links,
         buffers,
         pins: pins.pins,
         globals: pins.globals,
+        lut_inputs: inputs,
         lcs: cells.lcs,
         registers,
         sets: cells.sets,

@@ -19,11 +19,13 @@ use Rattle.chipdb_lines.specs.Statements.{is_kind_there}
 use Rattle.chipdb_reader.specs.Database.{Database}
 use Rattle.place_search.specs.Places.{gathered_below}
 use Rattle.net_extract.specs.declared.cell.Lc.{Lc}
+use Rattle.net_extract.specs.declared.lut_inputs.LutInputs.{LutInputs}
 use Rattle.vlog_module.specs.declared.modules.Port.{Port}
 use Rattle.net_extract.specs.declared.driver.ClockUser.TheVariants.{Input, Output}
 use Rattle.net_extract.specs.declared.register.Register.{Register}
 use Rattle.net_extract.specs.declared.register.Source.{Source}
 use Rattle.net_extract.specs.declared.register.Source.TheVariants.{Net}
+use Rattle.net_extract.specs.Luts.{inputs_read}
 use Rattle.net_extract.specs.Registers.{table_of, register_of, registers_of, pin_source, table_as, pin_register, pin_registers_of}
 use Rattle.net_extract.specs.On.{is_function_on}
 use Rattle.net_extract.specs.Nets.{ending_in}
@@ -37,7 +39,7 @@ use Rattle.net_extract.specs.Tiles.{over_grid}
 use Rattle.net_extract.specs.Cells.{cell_bits, cell_with, used_cell, cells_at, cells_of}
 use Rattle.net_extract.specs.Rams.{mode_of, first_data_bit, is_ram_used, ram_at, rams_of, start_word, start_words}
 use Rattle.net_extract.specs.Pins.{pintype_of, is_port, is_input_read, pin_with, port_at, pins_of, is_registered, is_tri_state, place_among}
-use Rattle.net_extract.specs.Fabric.{Fabric, numbered, inputs_of, fabric_of}
+use Rattle.net_extract.specs.Fabric.{Fabric, numbered, inputs_of, fabric_with}
 use Rattle.net_extract.specs.Drivers.{Rule, Drive, drives_if, pin_drives, output_rule, back_drives, lut_drives, drives_by, flip_driver, flip_drives, lout_drives, carry_drives, set_drives, read_data_rule, ram_drive, ram_drives, global_rule, global_drives, buffer_drives, pin_register_driver, pin_register_drives, drives_of}
 use Rattle.net_extract.specs.Drivers.Rule.{pin_bit, constant, table_entry, majority_of, register_bit, read_bit, copied}
 use Rattle.net_extract.proofs.OneValue.{each_below-length, filter-has}
@@ -89,9 +91,9 @@ pin-numbers : (a b : Pin) → port_name a ≡ port_name b → three_numbers a.x 
 unfolding port_name
 pin-numbers a b same = cc
 
-cell-numbers : (a b : Lc) → register_name (register_of a) ≡ register_name (register_of b) → three_numbers a.x a.y a.i ≡ three_numbers b.x b.y b.i
+cell-numbers : (reads : LutInputs) (a b : Lc) → register_name (register_of reads a) ≡ register_name (register_of reads b) → three_numbers a.x a.y a.i ≡ three_numbers b.x b.y b.i
 unfolding register_name register_of
-cell-numbers a b same = cc
+cell-numbers reads a b same = cc
 
 read-numbers : (a b : RamCell) → read_name a ≡ read_name b → two_numbers a.x a.y ≡ two_numbers b.x b.y
 unfolding read_name
@@ -114,9 +116,9 @@ pin-places : (a b : Pin) → PinSmall a → PinSmall b → port_name a ≡ port_
 unfolding PinSmall
 pin-places a b of_a of_b same = three-same a.x a.y a.n b.x b.y b.n of_a.first of_a.second of_a.third of_b.first of_b.second of_b.third (pin-numbers a b same)
 
-cell-places : (a b : Lc) → CellSmall a → CellSmall b → register_name (register_of a) ≡ register_name (register_of b) → (a.x ≡ b.x) × (a.y ≡ b.y) × (a.i ≡ b.i)
+cell-places : (reads : LutInputs) (a b : Lc) → CellSmall a → CellSmall b → register_name (register_of reads a) ≡ register_name (register_of reads b) → (a.x ≡ b.x) × (a.y ≡ b.y) × (a.i ≡ b.i)
 unfolding CellSmall
-cell-places a b of_a of_b same = three-same a.x a.y a.i b.x b.y b.i of_a.first of_a.second of_a.third of_b.first of_b.second of_b.third (cell-numbers a b same)
+cell-places reads a b of_a of_b same = three-same a.x a.y a.i b.x b.y b.i of_a.first of_a.second of_a.third of_b.first of_b.second of_b.third (cell-numbers reads a b same)
 
 pub read-places : (a b : RamCell) → RamSmall a → RamSmall b → read_name a ≡ read_name b → (a.x ≡ b.x) × (a.y ≡ b.y)
 unfolding RamSmall
@@ -247,28 +249,28 @@ module _ (db : Database) (image : Configuration) where
   cell-number x y i bits = refl
 
   -- cells are apart by the names of their registers
-  cells-apart : Apart (λ lc. register_name (register_of lc)) (cells_of db image)
+  cells-apart : (reads : LutInputs) → Apart (λ lc. register_name (register_of reads lc)) (cells_of db image)
   unfolding cells_of cells_at
-  cells-apart =
-      let name = λ (lc : Lc). register_name (register_of lc) in
+  cells-apart reads =
+      let name = λ (lc : Lc). register_name (register_of reads lc) in
       apart-over_tiles (NamesDiffer name) CellSmall (λ lc. lc.x) (λ lc. lc.y)
-      (λ a b of_a of_b other. bytes_eq-apart (name a) (name b) (λ same. other (cell-places a b of_a of_b same).0))
-      (λ a b of_a of_b other. bytes_eq-apart (name a) (name b) (λ same. other (cell-places a b of_a of_b same).1))
+      (λ a b of_a of_b other. bytes_eq-apart (name a) (name b) (λ same. other (cell-places reads a b of_a of_b same).0))
+      (λ a b of_a of_b other. bytes_eq-apart (name a) (name b) (λ same. other (cell-places reads a b of_a of_b same).1))
       image.layout.device Logic (cells_at db image)
       (λ x y left low. All-gathered_below (λ lc. CellSmall lc × (lc.x ≡ x) × (lc.y ≡ y)) 8 (used_cell db image x y)
       (λ i few. All-item_if (λ lc. CellSmall lc × (lc.x ≡ x) × (lc.y ≡ y)) _ (cell_with db image x y i (cell_bits db image x y i))
       (cell-at x y i (cell_bits db image x y i) left low few)))
       (λ x y left low. apart-gathered (NamesDiffer name) CellSmall (λ lc. lc.i)
-      (λ a b of_a of_b other. bytes_eq-apart (name a) (name b) (λ same. other (cell-places a b of_a of_b same).2)) 8 (used_cell db image x y)
+      (λ a b of_a of_b other. bytes_eq-apart (name a) (name b) (λ same. other (cell-places reads a b of_a of_b same).2)) 8 (used_cell db image x y)
       (λ i few. All-item_if (λ lc. CellSmall lc × (lc.i ≡ i)) _ (cell_with db image x y i (cell_bits db image x y i))
       ((cell-at x y i (cell_bits db image x y i) left low few).0, cell-number x y i (cell_bits db image x y i)))
       (λ i few. apart-item_if (NamesDiffer name) _ (cell_with db image x y i (cell_bits db image x y i))))
 
-  flips-apart : Apart register_name (registers_of (cells_of db image))
+  flips-apart : (reads : LutInputs) → Apart register_name (registers_of reads (cells_of db image))
   unfolding registers_of
-  flips-apart =
-      apart-map (NamesDiffer register_name) register_of (filter (λ lc. lc.flip) (cells_of db image))
-      (apart-filter (NamesDiffer (λ lc. register_name (register_of lc))) (λ lc. lc.flip) (cells_of db image) cells-apart)
+  flips-apart reads =
+      apart-map (NamesDiffer register_name) (register_of reads) (filter (λ lc. lc.flip) (cells_of db image))
+      (apart-filter (NamesDiffer (λ lc. register_name (register_of reads lc))) (λ lc. lc.flip) (cells_of db image) (cells-apart reads))
 
   -- registers of pins are apart by the names of the pins' ports
   pin-label_same : (inputs : List Pin) (a b : Pin) → register_name (pin_register db image inputs a) ≡ register_name (pin_register db image inputs b) → port_name a ≡ port_name b
@@ -285,21 +287,21 @@ module _ (db : Database) (image : Configuration) where
       (λ same. let never : true ≡ false = sym (bytes_eq-same (port_name a) (port_name b) (pin-label_same inputs a b same)) ∙ away in absurd cc))
       (filter is_registered (pins_of db image)) (apart-filter (NamesDiffer port_name) is_registered (pins_of db image) pins-apart))
 
-  flip-no_pin : (inputs : List Pin) (lc : Lc) (pin : Pin) → NamesDiffer register_name (register_of lc) (pin_register db image inputs pin)
+  flip-no_pin : (reads : LutInputs) (inputs : List Pin) (lc : Lc) (pin : Pin) → NamesDiffer register_name (register_of reads lc) (pin_register db image inputs pin)
   unfolding register_name register_of pin_register
-  flip-no_pin inputs lc pin = flip-no_label (three_numbers lc.x lc.y lc.i) pin.x pin.y pin.n pin.output
+  flip-no_pin reads inputs lc pin = flip-no_label (three_numbers lc.x lc.y lc.i) pin.x pin.y pin.n pin.output
 
-  pub registers-apart : Apart register_name (registers_of (cells_of db image) ++ pin_registers_of db image (pins_of db image))
+  pub registers-apart : (reads : LutInputs) → Apart register_name (registers_of reads (cells_of db image) ++ pin_registers_of db image (pins_of db image))
   unfolding registers_of pin_registers_of
-  registers-apart =
+  registers-apart reads =
       let inputs = filter (λ pin. not pin.output) (pins_of db image) in
       let of_pins = filter is_registered (pins_of db image) in
       let flips = filter (λ lc. lc.flip) (cells_of db image) in
-      apart-append (NamesDiffer register_name) (map register_of flips) (map (pin_register db image inputs) of_pins) flips-apart pin_registers-apart
-      (All-map (λ register. All (NamesDiffer register_name register) (map (pin_register db image inputs) of_pins)) register_of flips
-      (All-every (λ lc. All (NamesDiffer register_name (register_of lc)) (map (pin_register db image inputs) of_pins))
-      (λ lc. All-map (NamesDiffer register_name (register_of lc)) (pin_register db image inputs) of_pins
-      (All-every (λ pin. NamesDiffer register_name (register_of lc) (pin_register db image inputs pin)) (flip-no_pin inputs lc) of_pins)) flips))
+      apart-append (NamesDiffer register_name) (map (register_of reads) flips) (map (pin_register db image inputs) of_pins) (flips-apart reads) pin_registers-apart
+      (All-map (λ register. All (NamesDiffer register_name register) (map (pin_register db image inputs) of_pins)) (register_of reads) flips
+      (All-every (λ lc. All (NamesDiffer register_name (register_of reads lc)) (map (pin_register db image inputs) of_pins))
+      (λ lc. All-map (NamesDiffer register_name (register_of reads lc)) (pin_register db image inputs) of_pins
+      (All-every (λ pin. NamesDiffer register_name (register_of reads lc) (pin_register db image inputs pin)) (flip-no_pin reads inputs lc) of_pins)) flips))
 
   -- ---- RAMs
 
@@ -346,16 +348,16 @@ module _ (db : Database) (image : Configuration) where
   same-if true first second same = same
   same-if false first second same = refl
 
-  starts-count : length (fabric_of db image).start ≡ length (rams_of db image)
-  unfolding fabric_of rams_of over_grid
-  starts-count =
+  starts-count : (reads : LutInputs) → length (fabric_with reads db image).start ≡ length (rams_of db image)
+  unfolding fabric_with rams_of over_grid
+  starts-count reads =
       count-gathered (grid_height image.layout.device) _ _ (λ y. count-gathered (grid_width image.layout.device) _ _ (λ x.
       same-if (is_kind_there RamB (kind_of image.layout.device x y)) (if is_ram_used db image x y then start_words image x y ∷ [] else []) (if is_ram_used db image x y then ram_at db image x y ∷ [] else [])
       (same-if (is_ram_used db image x y) (start_words image x y ∷ []) (ram_at db image x y ∷ []) refl)))
 
-  words-all : All (λ words. length words ≡ 256) (fabric_of db image).start
-  unfolding fabric_of
-  words-all =
+  words-all : (reads : LutInputs) → All (λ words. length words ≡ 256) (fabric_with reads db image).start
+  unfolding fabric_with
+  words-all reads =
       All-over_tiles (λ words. length words ≡ 256) image.layout.device RamB (λ x y. if is_ram_used db image x y then start_words image x y ∷ [] else [])
       (λ x y left low. All-if (λ words. length words ≡ 256) (is_ram_used db image x y) (start_words image x y ∷ [])
       (All-single (λ words. length words ≡ 256) (start_words image x y) (words-count x y)))
@@ -366,33 +368,35 @@ module _ (db : Database) (image : Configuration) where
       All-over_tiles IsPorted image.layout.device RamB (λ x y. if is_ram_used db image x y then ram_at db image x y ∷ [] else [])
       (λ x y left low. All-if IsPorted (is_ram_used db image x y) (ram_at db image x y ∷ []) (All-single IsPorted (ram_at db image x y) (ports-count x y)))
 
-  fabric-rams : (fabric_of db image).rams ≡ rams_of db image
-  unfolding fabric_of
-  fabric-rams = refl
+  fabric-rams : (reads : LutInputs) → (fabric_with reads db image).rams ≡ rams_of db image
+  unfolding fabric_with
+  fabric-rams reads = refl
 
   -- the RAMs have their ports and start words
-  pub fabric-started : IsStarted (fabric_of db image)
-  fabric-started = record {
-    each_ram = starts-count ∙ ap length (sym fabric-rams);
-    each_word = words-all;
-    each_port = subst (All IsPorted) (sym fabric-rams) ports-all;
+  pub fabric-started : (reads : LutInputs) → IsStarted (fabric_with reads db image)
+  fabric-started reads = record {
+    each_ram = starts-count reads ∙ ap length (sym (fabric-rams reads));
+    each_word = words-all reads;
+    each_port = subst (All IsPorted) (sym (fabric-rams reads)) ports-all;
   }
 
 -- ---- drivers and tables name what is there
 
 -- the inputs of a cell are nets
-pub cell-sources : (fabric : Fabric) (lc : Lc) → All (IsSourceThere fabric) (table_of lc).ins
-cell-sources fabric lc = All-map (IsSourceThere fabric) Net lc.ins (All-every (λ net. IsSourceThere fabric (Net net)) (λ net. tt) lc.ins)
+pub cell-sources : (fabric : Fabric) (reads : LutInputs) (lc : Lc) → All (IsSourceThere fabric) (table_of reads lc).ins
+cell-sources fabric reads lc =
+    let ins = inputs_read reads lc.lut lc.ins in
+    All-map (IsSourceThere fabric) Net ins (All-every (λ net. IsSourceThere fabric (Net net)) (λ net. tt) ins)
 
-register-sources : (fabric : Fabric) (lc : Lc) → All (IsSourceThere fabric) (register_of lc).table.ins
+register-sources : (fabric : Fabric) (reads : LutInputs) (lc : Lc) → All (IsSourceThere fabric) (register_of reads lc).table.ins
 unfolding register_of
-register-sources fabric lc = cell-sources fabric lc
+register-sources fabric reads lc = cell-sources fabric reads lc
 
-flips-sources : (fabric : Fabric) (lcs : List Lc) → All (λ register. All (IsSourceThere fabric) register.table.ins) (registers_of lcs)
+flips-sources : (fabric : Fabric) (reads : LutInputs) (lcs : List Lc) → All (λ register. All (IsSourceThere fabric) register.table.ins) (registers_of reads lcs)
 unfolding registers_of
-flips-sources fabric lcs =
-    All-map (λ register. All (IsSourceThere fabric) register.table.ins) register_of (filter (λ lc. lc.flip) lcs)
-    (All-every (λ lc. All (IsSourceThere fabric) (register_of lc).table.ins) (register-sources fabric) (filter (λ lc. lc.flip) lcs))
+flips-sources fabric reads lcs =
+    All-map (λ register. All (IsSourceThere fabric) register.table.ins) (register_of reads) (filter (λ lc. lc.flip) lcs)
+    (All-every (λ lc. All (IsSourceThere fabric) (register_of reads lc).table.ins) (register-sources fabric reads) (filter (λ lc. lc.flip) lcs))
 
 prefix-found : {X : Type 0} (test : X → Bool) (xs : List X) (item : X) → Contains xs item → test item ≡ true → position_or_len test xs < length xs
 prefix-found test [] item (k, within, here) passes = absurd (omega (arith, within))
@@ -444,11 +448,12 @@ module _ (db : Database) (image : Configuration) where
       (λ pin there. pin_register-sources fabric pin there) fabric.pins (All-contains_itself fabric.pins)))
 
   -- the tables of registers name input pins that are there
-  pub registers-sources : All (λ register. All (IsSourceThere (fabric_of db image)) register.table.ins) (fabric_of db image).registers
-  unfolding fabric_of
-  registers-sources =
-      All-append (λ register. All (IsSourceThere (fabric_of db image)) register.table.ins) (registers_of (cells_of db image)) (pin_registers_of db image (pins_of db image))
-      (flips-sources (fabric_of db image) (cells_of db image)) (pin_registers-sources (fabric_of db image))
+  pub registers-sources : (reads : LutInputs) → All (λ register. All (IsSourceThere (fabric_with reads db image)) register.table.ins) (fabric_with reads db image).registers
+  unfolding fabric_with
+  registers-sources reads =
+      let fabric = fabric_with reads db image in
+      All-append (λ register. All (IsSourceThere fabric) register.table.ins) (registers_of reads (cells_of db image)) (pin_registers_of db image (pins_of db image))
+      (flips-sources fabric reads (cells_of db image)) (pin_registers-sources fabric)
 
 -- a pad is one of the input pins
 abbrev pub IsPadIn : List Pin → GlobalFrom → Type 0
@@ -506,9 +511,9 @@ module _ (fabric : Fabric) where
         then-there _ _ (each-there (λ (place : ℕ × Pin). place.0 < 0 + length (inputs_of fabric)) pin_drives (λ place there. All-unless IsNamedIn (is_registered place.1) _ (drives_if-there _ (pin_bit place.0) place.1.din (omega arith))) (numbered (inputs_of fabric)) (places-below 0 (inputs_of fabric)))
         (then-there _ _ (any-there (back_drives fabric.registers) (λ pin. drives_if-there _ (output_rule fabric.registers pin) pin.din
         (output_rule-good (IsPlaceIn fabric) fabric.registers (λ bit. tt) (λ stated net. tt) (λ place there. there) pin)) (filter (λ pin. pin.back) fabric.pins))
-        (then-there _ _ (any-there lut_drives (λ lc. drives_if-there _ (table_entry (table_of lc)) lc.out (cell-sources fabric lc)) (filter (λ lc. not lc.flip) fabric.lcs))
+        (then-there _ _ (any-there (lut_drives fabric.lut_inputs) (λ lc. drives_if-there _ (table_entry (table_of fabric.lut_inputs lc)) lc.out (cell-sources fabric fabric.lut_inputs lc)) (filter (λ lc. not lc.flip) fabric.lcs))
         (then-there _ _ (each-there (Contains (numbered fabric.registers)) flip_drives (λ place there. by-there place (flip_driver place.1 place.1.user) there) (numbered fabric.registers) (All-contains_itself (numbered fabric.registers)))
-        (then-there _ _ (any-there lout_drives (λ lc. drives_if-there _ (table_entry (table_of lc)) lc.lout (cell-sources fabric lc)) fabric.lcs)
+        (then-there _ _ (any-there (lout_drives fabric.lut_inputs) (λ lc. drives_if-there _ (table_entry (table_of fabric.lut_inputs lc)) lc.lout (cell-sources fabric fabric.lut_inputs lc)) fabric.lcs)
         (then-there _ _ (any-there carry_drives (λ lc. drives_if-there _ (majority_of (get_or lc.ins 1 None) (get_or lc.ins 2 None) lc.cin) lc.cout tt) (filter (λ lc. lc.carry) fabric.lcs))
         (then-there _ _ (any-there set_drives (λ set. drives_if-there _ (constant true) (Some set.net) tt) fabric.sets)
         (then-there _ _ (each-there (λ (place : ℕ × RamCell). (place.0 < 0 + length fabric.rams) × (length place.1.rdata ≡ 16)) ram_drives (λ place found. ram-there place (omega (arith, found.0), found.1)) (numbered fabric.rams)

@@ -1,26 +1,34 @@
 -- Where a database and an image aren't refused, the module that is written for them is their fabric, and it is well-formed.
-use Rattle.std.proofs.Common.{◌≡◌, ℕ, ◌^◌, ◌≤◌, List, length, map}
-use Rattle.std.specs.Prelude.{All, None}
+use Rattle.std.proofs.Common.{◌≡◌, ℕ, ◌^◌, ◌≤◌, Bool, List, [], ◌∷◌, ◌++◌, length, map, refl, sym, ap₂, ◌∙◌, subst}
+use Rattle.std.specs.Prelude.{All, None, if◌then◌else◌}
 use Rattle.std.specs.List.{AllZip}
 use Rattle.std.proofs.lemmas.List.Elements.{All-weaker}
+use Rattle.bit_plane.specs.BitList.{word_of}
 use Rattle.ice_image.specs.Configuration.{Configuration}
 use Rattle.chipdb_reader.specs.Database.{Database}
 use Rattle.chipdb_reader.specs.Fit.{IsFit}
 use Rattle.vlog_module.specs.Names.{IsName}
 use Rattle.vlog_module.specs.WellFormed.{IsModule}
+use Rattle.vlog_plan.specs.Entries.{Entry as ModuleEntry}
 use Rattle.vlog_plan.specs.Run.{module_run}
 use Rattle.net_extract.specs.declared.pin.GlobalNet.{GlobalNet}
+use Rattle.net_extract.specs.declared.pin.Pin.{Pin}
+use Rattle.net_extract.specs.declared.register.Register.{Register}
 use Rattle.net_extract.specs.Rams.{rams_of}
-use Rattle.net_extract.specs.Fabric.{inputs_of, fabric_of}
+use Rattle.net_extract.specs.Outputs.{outputs_of}
+use Rattle.net_extract.specs.Fabric.{inputs_of, fabric_with, fabric_of}
+use Rattle.net_extract.specs.declared.lut_inputs.LutInputs.{LutInputs}
 use Rattle.net_extract.specs.Steps.{Event, Entry, IsRun}
 use Rattle.net_extract.specs.Wiring.{wiring_of, IsWriteOrder}
 use Rattle.net_extract.specs.Faults.{design_fault}
 use Rattle.net_extract.proofs.Within.{fabric-within}
 use Rattle.net_extract.proofs.Taken.{design-taken}
 use Rattle.net_extract.proofs.Runs.{fabric-placed}
-use Rattle.fabric_module.specs.Names.{read_name, memory_name}
+use Rattle.net_extract.proofs.Paired.{pairs-give}
+use Rattle.net_extract.proofs.Alike.{RegistersAlike, register-field, registers-alike, OutputsAlike, outputs-with, driven-with, run-with}
+use Rattle.fabric_module.specs.Names.{three_numbers, port_name, enable_name, output_name, user_prefix, user_number, register_name, read_name, memory_name}
 use Rattle.fabric_module.specs.Written.{module_of}
-use Rattle.fabric_module.specs.Matching.{Matches, module_event}
+use Rattle.fabric_module.specs.Matching.{HasValues, HasWires, Matches, module_event}
 use Rattle.fabric_module.proofs.Settled.{IsWritable}
 use Rattle.fabric_module.proofs.Beginning.{IsPorted}
 use Rattle.fabric_module.proofs.Configured.{IsPadIn, registers-sources, ports-apart, registers-apart, rams-apart, read-places, memory-places, fabric-started, drives-there}
@@ -29,35 +37,90 @@ use Rattle.fabric_module.proofs.Headline.{module-is-fabric}
 use Rattle.fabric_module.proofs.Whole.{module-well_formed}
 use Rattle.fabric_module.proofs.Shapely.{fabric-shapely}
 
-module _ (db : Database) (image : Configuration) (fit : IsFit db) (few : db.chip.nets ≤ 2 ^ 64) (none : design_fault db image ≡ None) where
-  pads : All (λ (global : GlobalNet). IsPadIn (inputs_of (fabric_of db image)) global.from) (fabric_of db image).globals
-  unfolding fabric_of
-  pads = pads-there db image fit (design-taken db image none)
+module _ (reads : LutInputs) (db : Database) (image : Configuration) (fit : IsFit db) (few : db.chip.nets ≤ 2 ^ 64) (none : design_fault reads db image ≡ None) where
+  pads : All (λ (global : GlobalNet). IsPadIn (inputs_of (fabric_with reads db image)) global.from) (fabric_with reads db image).globals
+  unfolding fabric_with
+  pads = pads-there reads db image fit (design-taken reads db image none)
 
   -- the fabric can be written
-  pub fabric-writable : IsWritable (fabric_of db image)
-  unfolding fabric_of
+  pub fabric-writable : IsWritable (fabric_with reads db image)
+  unfolding fabric_with
   fabric-writable = record {
     few = few;
-    places = drives-there (fabric_of db image) pads
-        (All-weaker IsPorted (λ ram. length ram.rdata ≡ 16) (λ ram ported. ported.read) (rams_of db image) (fabric-started db image).each_port);
-    tables = registers-sources db image;
+    places = drives-there (fabric_with reads db image) pads
+        (All-weaker IsPorted (λ ram. length ram.rdata ≡ 16) (λ ram ported. ported.read) (rams_of db image) (fabric-started db image reads).each_port);
+    tables = registers-sources db image reads;
     ports = ports-apart db image;
-    registers = registers-apart db image;
+    registers = registers-apart db image reads;
     reads = rams-apart db image read_name read-places;
     memories = rams-apart db image memory_name memory-places;
   }
 
   -- For each list of events, the fabric's run and the run of the written module match at the start and after each event.
-  pub design-is-module : (order : List ℕ) → IsWriteOrder (wiring_of (fabric_of db image)) order → (name : List ℕ) (events : List Event) (entries : List Entry)
+  with-is-module : (order : List ℕ) → IsWriteOrder (wiring_of (fabric_with reads db image)) order → (name : List ℕ) (events : List Event) (entries : List Entry)
+      → IsRun (fabric_with reads db image) events entries
+      → AllZip (Matches (fabric_with reads db image)) entries (module_run (module_of (fabric_with reads db image) order name) (map module_event events))
+  with-is-module order ordered name =
+      module-is-fabric image.layout.device (fabric_with reads db image) (design-taken reads db image none).fabric (fabric-placed db image reads) (fabric-within db image fit reads)
+      fabric-writable (fabric-started db image reads) order ordered name
+
+  -- ---- the same of the fabric whose LUTs read all inputs
+
+  same-inputs : map port_name (inputs_of (fabric_with reads db image)) ≡ map port_name (inputs_of (fabric_of db image))
+  unfolding fabric_with
+  same-inputs = refl
+
+  same-outputs : map output_name (outputs_of (fabric_with reads db image)) ≡ map output_name (outputs_of (fabric_of db image))
+  same-outputs =
+      pairs-give OutputsAlike output_name output_name
+      (λ one two alike. ap₂ (λ (enable : Bool) (pin : Pin). if enable then enable_name pin else port_name pin) alike.enable alike.pin)
+      (outputs_of (fabric_with reads db image)) (outputs_of (fabric_of db image)) (outputs-with reads db image)
+
+  register-named : (one two : Register) → RegistersAlike one two → register_name one ≡ register_name two
+  unfolding register_name
+  register-named one two alike = register-field one two alike (λ register. user_prefix register.user ++ three_numbers register.x register.y (user_number register.user)) refl
+
+  same-registers : map register_name (fabric_with reads db image).registers ≡ map register_name (fabric_of db image).registers
+  same-registers =
+      pairs-give RegistersAlike register_name register_name register-named (fabric_with reads db image).registers (fabric_of db image).registers (registers-alike reads db image)
+
+  same-rams : (fabric_with reads db image).rams ≡ (fabric_of db image).rams
+  unfolding fabric_with
+  same-rams = refl
+
+  wires-all : (v : List Bool) (wires : List (List ℕ × Bool)) → HasWires (fabric_with reads db image) v wires → HasWires (fabric_of db image) v wires
+  wires-all v wires has = record {
+    each = λ class driven. has.each class (driven-with reads db image class ∙ driven);
+    only = λ wire there.
+        let found = has.only wire there in
+        (found.0, sym (driven-with reads db image found.0) ∙ found.1, found.2, found.3);
+  }
+
+  matches-all : (entry : Entry) (other : ModuleEntry) → Matches (fabric_with reads db image) entry other → Matches (fabric_of db image) entry other
+  matches-all entry other matches = record {
+    inputs = subst (λ names. HasValues other.inputs names entry.pins) same-inputs matches.inputs;
+    outputs = subst (λ names. HasValues other.outputs names entry.outputs) same-outputs matches.outputs;
+    registers = subst (λ names. HasValues other.registers names entry.state.bits) same-registers matches.registers;
+    words = subst (λ rams. HasValues other.words (map read_name rams) (map word_of entry.state.reads)) same-rams matches.words;
+    memories = subst (λ rams. HasValues other.memories (map memory_name rams) (map (map word_of) entry.state.words)) same-rams matches.memories;
+    wires = wires-all entry.v other.wires matches.wires;
+  }
+
+  each-matches : (entries : List Entry) (others : List ModuleEntry) → AllZip (Matches (fabric_with reads db image)) entries others → AllZip (Matches (fabric_of db image)) entries others
+  each-matches [] [] match = tt
+  each-matches [] (other ∷ others) match = absurd match
+  each-matches (entry ∷ entries) [] match = absurd match
+  each-matches (entry ∷ entries) (other ∷ others) match = (matches-all entry other match.0, each-matches entries others match.1)
+
+  pub design-is-module : (order : List ℕ) → IsWriteOrder (wiring_of (fabric_with reads db image)) order → (name : List ℕ) (events : List Event) (entries : List Entry)
       → IsRun (fabric_of db image) events entries
-      → AllZip (Matches (fabric_of db image)) entries (module_run (module_of (fabric_of db image) order name) (map module_event events))
-  design-is-module order ordered name =
-      module-is-fabric image.layout.device (fabric_of db image) (design-taken db image none).fabric (fabric-placed db image) (fabric-within db image fit)
-      fabric-writable (fabric-started db image) order ordered name
+      → AllZip (Matches (fabric_of db image)) entries (module_run (module_of (fabric_with reads db image) order name) (map module_event events))
+  design-is-module order ordered name events entries run =
+      each-matches entries (module_run (module_of (fabric_with reads db image) order name) (map module_event events))
+      (with-is-module order ordered name events entries (run-with reads db image events entries run))
 
   -- The written module is well-formed.
-  pub design-well_formed : (order : List ℕ) → IsWriteOrder (wiring_of (fabric_of db image)) order → (name : List ℕ) → IsName name
-      → IsModule (module_of (fabric_of db image) order name)
+  pub design-well_formed : (order : List ℕ) → IsWriteOrder (wiring_of (fabric_with reads db image)) order → (name : List ℕ) → IsName name
+      → IsModule (module_of (fabric_with reads db image) order name)
   design-well_formed order ordered =
-      module-well_formed (fabric_of db image) (fabric-within db image fit) fabric-writable (fabric-started db image) (fabric-shapely db image) order ordered
+      module-well_formed (fabric_with reads db image) (fabric-within db image fit reads) fabric-writable (fabric-started db image reads) (fabric-shapely db image reads) order ordered

@@ -28,7 +28,8 @@ use Rattle.net_extract.specs.Tiles.{over_grid, at_kind}
 use Rattle.net_extract.specs.On.{is_function_on}
 use Rattle.net_extract.specs.Nets.{is_some_read}
 use Rattle.net_extract.specs.Pins.{pintype_of, has_no_output, has_tri_state_output, has_plain_input, is_plain_input, is_registered_input, is_output_pin, is_port, is_input_read, place_among, io_net, pin_with, port_at, pins_of, global_pad, global_source, global_fabout, source_of_global, global_nets, nets_from, globals_of, is_pin_at, is_global_pad, is_refused_with}
-use Rattle.net_extract.specs.Fabric.{inputs_of, fabric_of}
+use Rattle.net_extract.specs.Fabric.{inputs_of, fabric_with}
+use Rattle.net_extract.specs.declared.lut_inputs.LutInputs.{LutInputs}
 use Rattle.net_extract.specs.Faults.{Fault, device_faults, pin_fault_at, pin_faults}
 use Rattle.net_extract.proofs.OneValue.{filter-has}
 use Rattle.net_extract.proofs.Taken.{IsTaken, gathered_below-empty, item_if-none}
@@ -76,7 +77,7 @@ if-some : {A : Type 0} (passes : Bool) (value : Option A) (item : A) → (if pas
 if-some true value item is = is
 if-some false value item is = absurd cc
 
-module _ (db : Database) (image : Configuration) (fit : IsFit db) (taken : IsTaken db image) where
+module _ (reads : LutInputs) (db : Database) (image : Configuration) (fit : IsFit db) (taken : IsTaken reads db image) where
   devices : db.chip.device ≡ image.layout.device
   unfolding device_faults
   devices = one-device db.chip.device image.layout.device (no-fault (is_same_device db.chip.device image.layout.device) Fault.other_device taken.device)
@@ -144,32 +145,32 @@ module _ (db : Database) (image : Configuration) (fit : IsFit db) (taken : IsTak
     unfolding the_pin pin_with
     pin-input = rw (input-only (pintype_of db image pad.x pad.y pad.n) pad-input) refl
 
-    pin-among : Contains (inputs_of (fabric_of db image)) the_pin
-    unfolding fabric_of
+    pin-among : Contains (inputs_of (fabric_with reads db image)) the_pin
+    unfolding fabric_with
     pin-among = filter-has (λ pin. not pin.output) (pins_of db image) the_pin pin-there pin-input
 
-    pad-there : place_among (inputs_of (fabric_of db image)) pad.x pad.y pad.n < length (inputs_of (fabric_of db image))
+    pad-there : place_among (inputs_of (fabric_with reads db image)) pad.x pad.y pad.n < length (inputs_of (fabric_with reads db image))
     unfolding the_pin pin_with
-    pad-there = place-found (inputs_of (fabric_of db image)) the_pin pin-among
+    pad-there = place-found (inputs_of (fabric_with reads db image)) the_pin pin-among
 
   -- what gives a global its value
   source-there : (g : ℕ) → g < 8 → (pad : Option PinXy) → global_pad db image g ≡ pad → (fabout : Option ℕ) (from : GlobalFrom)
-      → source_of_global pad fabout ≡ Some from → IsPadIn (inputs_of (fabric_of db image)) from
+      → source_of_global pad fabout ≡ Some from → IsPadIn (inputs_of (fabric_with reads db image)) from
   source-there g small (Some pad) is fabout from source =
-      let same : Pad pad.x pad.y pad.n ≡ from = cc in subst (IsPadIn (inputs_of (fabric_of db image))) same (pad-there g small pad is)
-  source-there g small None is (Some net) from source = let same : Fabout net ≡ from = cc in subst (IsPadIn (inputs_of (fabric_of db image))) same tt
+      let same : Pad pad.x pad.y pad.n ≡ from = cc in subst (IsPadIn (inputs_of (fabric_with reads db image))) same (pad-there g small pad is)
+  source-there g small None is (Some net) from source = let same : Fabout net ≡ from = cc in subst (IsPadIn (inputs_of (fabric_with reads db image))) same tt
   source-there g small None is None from source = absurd cc
 
-  nets-there : (g : ℕ) (source : Option GlobalFrom) → ((from : GlobalFrom) → source ≡ Some from → IsPadIn (inputs_of (fabric_of db image)) from)
-      → All (λ (global : GlobalNet). IsPadIn (inputs_of (fabric_of db image)) global.from) (nets_from db g source)
-  nets-there g None good = All-nil (λ (global : GlobalNet). IsPadIn (inputs_of (fabric_of db image)) global.from)
+  nets-there : (g : ℕ) (source : Option GlobalFrom) → ((from : GlobalFrom) → source ≡ Some from → IsPadIn (inputs_of (fabric_with reads db image)) from)
+      → All (λ (global : GlobalNet). IsPadIn (inputs_of (fabric_with reads db image)) global.from) (nets_from db g source)
+  nets-there g None good = All-nil (λ (global : GlobalNet). IsPadIn (inputs_of (fabric_with reads db image)) global.from)
   nets-there g (Some from) good =
-      All-map (λ (global : GlobalNet). IsPadIn (inputs_of (fabric_of db image)) global.from) (λ net. record { g = g; net = net; from = from }) (global_nets db g)
+      All-map (λ (global : GlobalNet). IsPadIn (inputs_of (fabric_with reads db image)) global.from) (λ net. record { g = g; net = net; from = from }) (global_nets db g)
       (λ k d below. good from refl)
 
   -- all pads are input pins
-  pub pads-there : All (λ (global : GlobalNet). IsPadIn (inputs_of (fabric_of db image)) global.from) (globals_of db image)
+  pub pads-there : All (λ (global : GlobalNet). IsPadIn (inputs_of (fabric_with reads db image)) global.from) (globals_of db image)
   unfolding globals_of
   pads-there =
-      All-gathered_below (λ (global : GlobalNet). IsPadIn (inputs_of (fabric_of db image)) global.from) 8 (λ g. nets_from db g (global_source db image g))
+      All-gathered_below (λ (global : GlobalNet). IsPadIn (inputs_of (fabric_with reads db image)) global.from) 8 (λ g. nets_from db g (global_source db image g))
       (λ g small. nets-there g (global_source db image g) (λ from source. source-there g small (global_pad db image g) refl (global_fabout db g) from source))

@@ -15,6 +15,7 @@ use Rattle.vlog_module.specs.declared.atoms.Atom.TheVariants.{Bit, Whole, Part}
 use Rattle.vlog_module.specs.Names.{IsName}
 use Rattle.vlog_module.specs.WellFormed.{IsRight}
 use Rattle.net_extract.specs.declared.cell.Lc.{Lc}
+use Rattle.net_extract.specs.declared.lut_inputs.LutInputs.{LutInputs}
 use Rattle.net_extract.specs.declared.register.Table.{Table}
 use Rattle.net_extract.specs.declared.register.Register.{Register}
 use Rattle.net_extract.specs.Registers.{table_of, register_of, registers_of, pin_register, pin_registers_of}
@@ -27,7 +28,7 @@ use Rattle.net_extract.specs.declared.driver.Driver.{Driver}
 use Rattle.net_extract.specs.Cells.{cell_bit, entry_bits, cell_bits, cell_with, used_cell, cells_at, cells_of}
 use Rattle.net_extract.specs.Rams.{first_data_bit, is_ram_used, ram_at, rams_of, start_word, start_words}
 use Rattle.net_extract.specs.Pins.{pins_of, is_registered}
-use Rattle.net_extract.specs.Fabric.{Fabric, numbered, inputs_of, fabric_of}
+use Rattle.net_extract.specs.Fabric.{Fabric, numbered, inputs_of, fabric_with}
 use Rattle.net_extract.specs.Drivers.{Rule, Drive, drives_if, pin_drives, output_rule, back_drives, lut_drives, drives_by, flip_driver, flip_drives, lout_drives, carry_drives, set_drives, read_data_rule, ram_drive, ram_drives, global_rule, global_drives, buffer_drives, pin_register_driver, pin_register_drives, drives_of, is_driver_of, drivers_of}
 use Rattle.net_extract.specs.Drivers.Rule.{pin_bit, constant, input, table_entry, majority_of, register_bit, read_bit, copied}
 use Rattle.net_extract.proofs.Within.{All-flat_map, All-item_if, All-if, All-unless, All-single, All-over_tiles}
@@ -128,9 +129,9 @@ module _ (fabric : Fabric) (tables : All (λ lc. lc.lut < 65536) fabric.lcs) whe
       then-right _ _ (any-right pin_drives (λ place. All-unless IsDriveRight (is_registered place.1) _ (if-right _ (pin_bit place.0) place.1.din (pin-right place.0))) (numbered (inputs_of fabric)))
       (then-right _ _ (any-right (back_drives fabric.registers) (λ pin. if-right _ (output_rule fabric.registers pin) pin.din
       (output_rule-good (λ rule. IsRight (right_of fabric rule)) fabric.registers constant-right input-right (λ place there. register-right place.0 place.1) pin)) (filter (λ pin. pin.back) fabric.pins))
-      (then-right _ _ (cells-right lut_drives (λ lc small. if-right _ (table_entry (table_of lc)) lc.out (table-right (table_of lc) small)) (filter (λ lc. not lc.flip) fabric.lcs) (All-filter (λ lc. not lc.flip) (λ lc. lc.lut < 65536) fabric.lcs tables))
+      (then-right _ _ (cells-right (lut_drives fabric.lut_inputs) (λ lc small. if-right _ (table_entry (table_of fabric.lut_inputs lc)) lc.out (table-right (table_of fabric.lut_inputs lc) small)) (filter (λ lc. not lc.flip) fabric.lcs) (All-filter (λ lc. not lc.flip) (λ lc. lc.lut < 65536) fabric.lcs tables))
       (then-right _ _ (any-right flip_drives (λ place. by-drives place (flip_driver place.1 place.1.user)) (numbered fabric.registers))
-      (then-right _ _ (cells-right lout_drives (λ lc small. if-right _ (table_entry (table_of lc)) lc.lout (table-right (table_of lc) small)) fabric.lcs tables)
+      (then-right _ _ (cells-right (lout_drives fabric.lut_inputs) (λ lc small. if-right _ (table_entry (table_of fabric.lut_inputs lc)) lc.lout (table-right (table_of fabric.lut_inputs lc) small)) fabric.lcs tables)
       (then-right _ _ (any-right carry_drives (λ lc. if-right _ (majority_of (get_or lc.ins 1 None) (get_or lc.ins 2 None) lc.cin) lc.cout (majority-right (get_or lc.ins 1 None) (get_or lc.ins 2 None) lc.cin)) (filter (λ lc. lc.carry) fabric.lcs))
       (then-right _ _ (any-right set_drives (λ set. if-right _ (constant true) (Some set.net) (constant-right true)) fabric.sets)
       (then-right _ _ (any-right ram_drives (λ place. any-right (ram_drive place) (λ port. if-right _ (read_data_rule place.0 place.1.read port.0) port.1 (data-right place.0 place.1.read port.0)) (numbered place.1.rdata)) (numbered fabric.rams))
@@ -186,9 +187,9 @@ module _ (db : Database) (image : Configuration) where
       (λ pin small. each-port (λ port. IsName (port_label port)) pin (port-named pin small.first small.second small.third) (enable-named pin small.first small.second small.third))
       (pins_of db image) (pins-small db image))
 
-  register-name : (lc : Lc) → CellSmall lc → IsName (register_name (register_of lc))
+  register-name : (reads : LutInputs) (lc : Lc) → CellSmall lc → IsName (register_name (register_of reads lc))
   unfolding CellSmall register_of
-  register-name lc small = register-named (register_of lc) small.first small.second small.third
+  register-name reads lc small = register-named (register_of reads lc) small.first small.second small.third
 
   read-name : (ram : RamCell) → RamSmall ram → IsName (read_name ram)
   unfolding RamSmall
@@ -211,23 +212,23 @@ module _ (db : Database) (image : Configuration) where
       (λ x y left low. All-gathered_below (λ lc. lc.lut < 65536) 8 (used_cell db image x y)
       (λ i few. All-item_if (λ lc. lc.lut < 65536) _ (cell_with db image x y i (cell_bits db image x y i)) (table-small x y i (cell_bits db image x y i))))
 
-  register-small : (lc : Lc) → lc.lut < 65536 → (register_of lc).table.word < 65536
+  register-small : (reads : LutInputs) (lc : Lc) → lc.lut < 65536 → (register_of reads lc).table.word < 65536
   unfolding register_of
-  register-small lc small = small
+  register-small reads lc small = small
 
-  flips-small : All (λ register. register.table.word < 65536) (registers_of (cells_of db image))
+  flips-small : (reads : LutInputs) → All (λ register. register.table.word < 65536) (registers_of reads (cells_of db image))
   unfolding registers_of
-  flips-small =
-      All-map (λ register. register.table.word < 65536) register_of (filter (λ lc. lc.flip) (cells_of db image))
-      (All-filter (λ lc. lc.flip) (λ lc. (register_of lc).table.word < 65536) (cells_of db image)
-      (All-weaker (λ lc. lc.lut < 65536) (λ lc. (register_of lc).table.word < 65536) register-small (cells_of db image) tables-small))
+  flips-small reads =
+      All-map (λ register. register.table.word < 65536) (register_of reads) (filter (λ lc. lc.flip) (cells_of db image))
+      (All-filter (λ lc. lc.flip) (λ lc. (register_of reads lc).table.word < 65536) (cells_of db image)
+      (All-weaker (λ lc. lc.lut < 65536) (λ lc. (register_of reads lc).table.word < 65536) (register-small reads) (cells_of db image) tables-small))
 
-  flips-named : All (λ register. IsName (register_name register)) (registers_of (cells_of db image))
+  flips-named : (reads : LutInputs) → All (λ register. IsName (register_name register)) (registers_of reads (cells_of db image))
   unfolding registers_of
-  flips-named =
-      All-map (λ register. IsName (register_name register)) register_of (filter (λ lc. lc.flip) (cells_of db image))
-      (All-filter (λ lc. lc.flip) (λ lc. IsName (register_name (register_of lc))) (cells_of db image)
-      (All-weaker CellSmall (λ lc. IsName (register_name (register_of lc))) register-name (cells_of db image) cells-small))
+  flips-named reads =
+      All-map (λ register. IsName (register_name register)) (register_of reads) (filter (λ lc. lc.flip) (cells_of db image))
+      (All-filter (λ lc. lc.flip) (λ lc. IsName (register_name (register_of reads lc))) (cells_of db image)
+      (All-weaker CellSmall (λ lc. IsName (register_name (register_of reads lc))) (register-name reads) (cells_of db image) cells-small))
 
   -- registers of pins
   pin_register-small : (inputs : List Pin) (pin : Pin) → (pin_register db image inputs pin).table.word < 65536
@@ -266,35 +267,35 @@ module _ (db : Database) (image : Configuration) where
       All-gathered_below (λ word. length word ≡ 16) 256 (λ k. start_word image x y k ∷ [])
       (λ k few. All-single (λ word. length word ≡ 16) (start_word image x y k) (length-row_from 16 _))
 
-  starts-sixteen : All (λ words. All (λ word. length word ≡ 16) words) (fabric_of db image).start
-  unfolding fabric_of
-  starts-sixteen =
+  starts-sixteen : (reads : LutInputs) → All (λ words. All (λ word. length word ≡ 16) words) (fabric_with reads db image).start
+  unfolding fabric_with
+  starts-sixteen reads =
       All-over_tiles (λ words. All (λ word. length word ≡ 16) words) image.layout.device RamB (λ x y. if is_ram_used db image x y then start_words image x y ∷ [] else [])
       (λ x y left low. All-if (λ words. All (λ word. length word ≡ 16) words) (is_ram_used db image x y) (start_words image x y ∷ [])
       (All-single (λ words. All (λ word. length word ≡ 16) words) (start_words image x y) (words-sixteen x y)))
 
-  fabric-named : AreNamed (fabric_of db image)
-  unfolding fabric_of
-  fabric-named = record {
+  fabric-named : (reads : LutInputs) → AreNamed (fabric_with reads db image)
+  unfolding fabric_with
+  fabric-named reads = record {
     ports = ports-named;
-    registers = All-append (λ register. IsName (register_name register)) (registers_of (cells_of db image)) (pin_registers_of db image (pins_of db image)) flips-named pin_registers-named;
+    registers = All-append (λ register. IsName (register_name register)) (registers_of reads (cells_of db image)) (pin_registers_of db image (pins_of db image)) (flips-named reads) pin_registers-named;
     reads = All-weaker RamSmall (λ ram. IsName (read_name ram)) read-name (rams_of db image) rams-small;
     memories = All-weaker RamSmall (λ ram. IsName (memory_name ram)) memory-name (rams_of db image) rams-small;
   }
 
-  fabric-tables : All (λ lc. lc.lut < 65536) (fabric_of db image).lcs
-  unfolding fabric_of
-  fabric-tables = tables-small
+  fabric-tables : (reads : LutInputs) → All (λ lc. lc.lut < 65536) (fabric_with reads db image).lcs
+  unfolding fabric_with
+  fabric-tables reads = tables-small
 
-  fabric-registers : All (λ register. register.table.word < 65536) (fabric_of db image).registers
-  unfolding fabric_of
-  fabric-registers =
-      All-append (λ register. register.table.word < 65536) (registers_of (cells_of db image)) (pin_registers_of db image (pins_of db image)) flips-small pin_registers-small
+  fabric-registers : (reads : LutInputs) → All (λ register. register.table.word < 65536) (fabric_with reads db image).registers
+  unfolding fabric_with
+  fabric-registers reads =
+      All-append (λ register. register.table.word < 65536) (registers_of reads (cells_of db image)) (pin_registers_of db image (pins_of db image)) (flips-small reads) pin_registers-small
 
-  pub fabric-shapely : IsShapely (fabric_of db image)
-  fabric-shapely = record {
-    named = fabric-named;
-    tables = fabric-registers;
-    rights = each-right (fabric_of db image) fabric-tables;
-    words = λ place k. words-at (fabric_of db image).start place k starts-sixteen;
+  pub fabric-shapely : (reads : LutInputs) → IsShapely (fabric_with reads db image)
+  fabric-shapely reads = record {
+    named = fabric-named reads;
+    tables = fabric-registers reads;
+    rights = each-right (fabric_with reads db image) (fabric-tables reads);
+    words = λ place k. words-at (fabric_with reads db image).start place k (starts-sixteen reads);
   }

@@ -3,11 +3,12 @@ use Rattle.std.proofs.Common.{◌≡◌, [], ◌∷◌, ◌++◌, refl, true, fa
 use Rattle.std.specs.Prelude.{codes, Some, None, replicate}
 use Rattle.std.specs.Fmt.{digits}
 use Rattle.place_search.specs.Places.{any_below, least_below, gathered_below}
-use Rattle.bit_plane.specs.BitList.{word_of}
+use Rattle.bit_plane.specs.BitList.{word_bits, word_of}
 use Rattle.vlog_module.specs.declared.atoms.Atom.TheVariants.{Bit, Whole}
 use Rattle.vlog_module.specs.declared.item.Item.TheVariants.{Register as RegisterItem, Wire, Assign, Flip, FlipAtOnce, SetAtOnce, Read, ReadNarrow, Write, WriteNarrow}
 use Rattle.vlog_module.specs.declared.item.Right.TheVariants.{Whole as RightWhole, Lut as RightLut, Choose}
 use Rattle.net_extract.specs.declared.cell.Lc.{Lc}
+use Rattle.net_extract.specs.declared.lut_inputs.LutInputs.TheVariants as read
 use Rattle.net_extract.specs.declared.ram.RamCell.{RamCell}
 use Rattle.net_extract.specs.declared.pin.Pin.{Pin}
 use Rattle.net_extract.specs.declared.pin.PinKind.TheVariants.{Plain, Registered, TriState}
@@ -17,6 +18,7 @@ use Rattle.net_extract.specs.declared.register.Source.TheVariants.{Net, Pin as S
 use Rattle.net_extract.specs.declared.register.Table.{Table}
 use Rattle.net_extract.specs.declared.register.Register.{Register}
 use Rattle.net_extract.specs.Outputs.{outputs_of}
+use Rattle.net_extract.specs.Luts.{uses_input}
 use Rattle.net_extract.specs.Registers.{register_of}
 use Rattle.net_extract.specs.Fabric.{Fabric, numbered_from}
 use Rattle.net_extract.specs.Joins.{is_joined, class_of}
@@ -62,6 +64,7 @@ inverting = record {
   buffers = record { line = 0; src = 0; dst = 1 } ∷ record { line = 1; src = 2; dst = 3 } ∷ [];
   pins = input_pin ∷ output_pin ∷ [];
   globals = [];
+  lut_inputs = read.All;
   lcs = inverter ∷ [];
   registers = [];
   sets = [];
@@ -83,22 +86,48 @@ inverting_module : module_of inverting (0 ∷ 1 ∷ 2 ∷ 3 ∷ []) (codes "top"
 unfolding outputs_of digits any_below least_below gathered_below word_of register_of numbered_from is_joined class_of drives_of drivers_of is_driven turn_at end_within clock_end two_numbers three_numbers port_name register_name read_name memory_name wire_name input_atom right_of class_right clock_name items_of module_of
 inverting_module = refl
 
+-- ---- the same LUT with its own value at in_2, which it doesn't use
+
+abbrev feeding : Lc
+feeding = record inverter { ins = Some 1 ∷ None ∷ Some 2 ∷ None ∷ [] }
+
+all_written : class_right (record inverting { lcs = feeding ∷ [] }) 2
+    ≡ RightLut (record { word = 21845; ins = Whole (codes "n_1") ∷ Bit false ∷ Whole (codes "n_2") ∷ Bit false ∷ [] })
+unfolding outputs_of digits any_below least_below gathered_below word_of register_of numbered_from is_joined class_of drives_of drivers_of is_driven turn_at end_within clock_end two_numbers three_numbers port_name register_name read_name memory_name wire_name input_atom right_of class_right clock_name items_of module_of
+all_written = refl
+
+used_written : class_right (record inverting { lut_inputs = read.Used; lcs = feeding ∷ [] }) 2
+    ≡ RightLut (record { word = 21845; ins = Whole (codes "n_1") ∷ Bit false ∷ Bit false ∷ Bit false ∷ [] })
+unfolding uses_input word_bits outputs_of digits any_below least_below gathered_below word_of register_of numbered_from is_joined class_of drives_of drivers_of is_driven turn_at end_within clock_end two_numbers three_numbers port_name register_name read_name memory_name wire_name input_atom right_of class_right clock_name items_of module_of
+used_written = refl
+
+used_module : module_of (record inverting { lut_inputs = read.Used; lcs = feeding ∷ [] }) (0 ∷ 1 ∷ 2 ∷ 3 ∷ []) (codes "top") ≡ module_of inverting (0 ∷ 1 ∷ 2 ∷ 3 ∷ []) (codes "top")
+unfolding uses_input word_bits outputs_of digits any_below least_below gathered_below word_of register_of numbered_from is_joined class_of drives_of drivers_of is_driven turn_at end_within clock_end two_numbers three_numbers port_name register_name read_name memory_name wire_name input_atom right_of class_right clock_name items_of module_of
+used_module = refl
+
 -- ---- a toggle at falling edges
 
 abbrev toggle : Lc
 toggle = record inverter { flip = true; neg = true; ins = Some 2 ∷ None ∷ None ∷ None ∷ []; clk = Some 1 }
 
 abbrev toggling : Fabric
-toggling = record inverting { lcs = toggle ∷ []; registers = register_of toggle ∷ [] }
+toggling = record inverting { lcs = toggle ∷ []; registers = register_of read.All toggle ∷ [] }
 
-toggle_items : register_items toggling (register_of toggle) ≡
+toggle_items : register_items toggling (register_of read.All toggle) ≡
     Flip true (codes "io_0_1_0") (Bit true) (Bit false) false (codes "ff_1_1_0")
     (record { word = 21845; ins = Whole (codes "n_2") ∷ Bit false ∷ Bit false ∷ Bit false ∷ [] }) ∷ []
 unfolding outputs_of digits any_below least_below gathered_below word_of register_of numbered_from is_joined class_of drives_of drivers_of is_driven turn_at end_within clock_end two_numbers three_numbers port_name register_name read_name memory_name wire_name input_atom right_of class_right clock_name items_of module_of
 toggle_items = refl
 
+-- what its LUT doesn't use is 0 too
+used_items : register_items toggling (register_of read.Used (record toggle { ins = Some 2 ∷ Some 0 ∷ Some 1 ∷ Some 3 ∷ [] })) ≡
+    Flip true (codes "io_0_1_0") (Bit true) (Bit false) false (codes "ff_1_1_0")
+    (record { word = 21845; ins = Whole (codes "n_2") ∷ Bit false ∷ Bit false ∷ Bit false ∷ [] }) ∷ []
+unfolding uses_input word_bits outputs_of digits any_below least_below gathered_below word_of register_of numbered_from is_joined class_of drives_of drivers_of is_driven turn_at end_within clock_end two_numbers three_numbers port_name register_name read_name memory_name wire_name input_atom right_of class_right clock_name items_of module_of
+used_items = refl
+
 -- a clock without a driver is written nowhere
-still_items : register_items toggling (register_of (record toggle { clk = Some 9 })) ≡ []
+still_items : register_items toggling (register_of read.All (record toggle { clk = Some 9 })) ≡ []
 unfolding outputs_of digits any_below least_below gathered_below word_of register_of numbered_from is_joined class_of drives_of drivers_of is_driven turn_at end_within clock_end two_numbers three_numbers port_name register_name read_name memory_name wire_name input_atom right_of class_right clock_name items_of module_of
 still_items = refl
 
@@ -108,9 +137,9 @@ abbrev setting : Lc
 setting = record toggle { «set» = true; at_once = true; sr = Some 0 }
 
 abbrev resetting : Fabric
-resetting = record inverting { lcs = setting ∷ []; registers = register_of setting ∷ [] }
+resetting = record inverting { lcs = setting ∷ []; registers = register_of read.All setting ∷ [] }
 
-setting_items : register_items resetting (register_of setting) ≡
+setting_items : register_items resetting (register_of read.All setting) ≡
     FlipAtOnce true (codes "io_0_1_0") (codes "n_0") true (codes "ff_1_1_0") (Bit true)
     (record { word = 21845; ins = Whole (codes "n_2") ∷ Bit false ∷ Bit false ∷ Bit false ∷ [] }) ∷ []
 unfolding outputs_of digits any_below least_below gathered_below word_of register_of numbered_from is_joined class_of drives_of drivers_of is_driven turn_at end_within clock_end two_numbers three_numbers port_name register_name read_name memory_name wire_name input_atom right_of class_right clock_name items_of module_of
@@ -121,12 +150,12 @@ unfolding outputs_of digits any_below least_below gathered_below word_of registe
 setting_wires = refl
 
 -- without a clock it is set alone
-clockless_items : register_items resetting (register_of (record setting { clk = None })) ≡ SetAtOnce (codes "n_0") true (codes "ff_1_1_0") ∷ []
+clockless_items : register_items resetting (register_of read.All (record setting { clk = None })) ≡ SetAtOnce (codes "n_0") true (codes "ff_1_1_0") ∷ []
 unfolding outputs_of digits any_below least_below gathered_below word_of register_of numbered_from is_joined class_of drives_of drivers_of is_driven turn_at end_within clock_end two_numbers three_numbers port_name register_name read_name memory_name wire_name input_atom right_of class_right clock_name items_of module_of
 clockless_items = refl
 
 -- a reset without a driver never acts
-undriven_items : register_items resetting (register_of (record setting { sr = Some 9 })) ≡
+undriven_items : register_items resetting (register_of read.All (record setting { sr = Some 9 })) ≡
     Flip true (codes "io_0_1_0") (Bit true) (Bit false) true (codes "ff_1_1_0")
     (record { word = 21845; ins = Whole (codes "n_2") ∷ Bit false ∷ Bit false ∷ Bit false ∷ [] }) ∷ []
 unfolding outputs_of digits any_below least_below gathered_below word_of register_of numbered_from is_joined class_of drives_of drivers_of is_driven turn_at end_within clock_end two_numbers three_numbers port_name register_name read_name memory_name wire_name input_atom right_of class_right clock_name items_of module_of
@@ -161,10 +190,10 @@ write : write_items inverting ram ≡
 unfolding outputs_of digits any_below least_below gathered_below word_of register_of numbered_from is_joined class_of drives_of drivers_of is_driven turn_at end_within clock_end two_numbers three_numbers port_name register_name read_name memory_name wire_name input_atom right_of class_right clock_name items_of module_of
 write = refl
 
-read : read_items inverting ram ≡
+wide_read : read_items inverting ram ≡
     Read false (codes "io_0_1_0") (Bit true) (Whole (codes "n_2")) (codes "rd_3_1") (codes "mem_3_1") (Whole (codes "n_2") ∷ replicate 7 (Bit false)) ∷ []
 unfolding outputs_of digits any_below least_below gathered_below word_of register_of numbered_from is_joined class_of drives_of drivers_of is_driven turn_at end_within clock_end two_numbers three_numbers port_name register_name read_name memory_name wire_name input_atom right_of class_right clock_name items_of module_of
-read = refl
+wide_read = refl
 
 -- ---- a RAM that is read in mode 2 and written in mode 1
 
@@ -247,7 +276,7 @@ long_port : port_name (record input_pin { x = 33; y = 255; n = 10 }) ≡ codes "
 unfolding digits three_numbers port_name
 long_port = refl
 
-long_register : register_name (register_of (record toggle { x = 7; y = 16 })) ≡ codes "ff_7_16_0"
+long_register : register_name (register_of read.All (record toggle { x = 7; y = 16 })) ≡ codes "ff_7_16_0"
 unfolding digits three_numbers register_of register_name
 long_register = refl
 

@@ -7,7 +7,8 @@ use Rattle.chipdb_reader.specs.Fit.{IsFit}
 use Rattle.vlog_module.specs.Names.{IsName}
 use Rattle.vlog_module.specs.WellFormed.{IsModule}
 use Rattle.vlog_plan.specs.Run.{module_run}
-use Rattle.net_extract.specs.Fabric.{fabric_of}
+use Rattle.net_extract.specs.declared.lut_inputs.LutInputs.{LutInputs}
+use Rattle.net_extract.specs.Fabric.{fabric_with, fabric_of}
 use Rattle.net_extract.specs.Steps.{Event, Entry, IsRun}
 use Rattle.net_extract.specs.Unique.{ExactlyOne}
 use Rattle.net_extract.specs.Wiring.{wiring_of, IsWriteOrder}
@@ -15,17 +16,17 @@ use Rattle.net_extract.specs.Faults.{design_fault}
 use Rattle.fabric_module.specs.Written.{module_of}
 use Rattle.fabric_module.specs.Matching.{Matches, module_event}
 
--- The fabric of a database and an image has exactly one run for each list of events, and a module runs as it does: at the start and
--- after each event the two hold the same values.
-pub record RunsAlike (db : Database) (image : Configuration) (order name : List ℕ) : Type 0 where
+-- The fabric of a database and an image has exactly one run for each list of events, and the module runs as it does that is written where
+-- LUTs read these inputs: at the start and after each event the two hold the same values.
+pub record RunsAlike (inputs : LutInputs) (db : Database) (image : Configuration) (order name : List ℕ) : Type 0 where
   pub one_run : (events : List Event) → ExactlyOne (IsRun (fabric_of db image) events)
   pub alike : (events : List Event) (entries : List Entry) → IsRun (fabric_of db image) events entries
-      → AllZip (Matches (fabric_of db image)) entries (module_run (module_of (fabric_of db image) order name) (map module_event events))
+      → AllZip (Matches (fabric_of db image)) entries (module_run (module_of (fabric_with inputs db image) order name) (map module_event events))
 
 -- Where a database and an image aren't refused, the module that is written for them in the write order, under any name, is
--- well-formed, and it runs as their fabric. What is read of a text is fit, and it has fewer nets.
-abbrev pub ModuleIsFabric : Database → Configuration → Type 0
-ModuleIsFabric db image =
-    IsFit db → db.chip.nets ≤ 2 ^ 64 → design_fault db image ≡ None
-    → (order name : List ℕ) → IsWriteOrder (wiring_of (fabric_of db image)) order → IsName name
-    → IsModule (module_of (fabric_of db image) order name) × RunsAlike db image order name
+-- well-formed, and it runs as their fabric, whichever inputs LUTs read. What is read of a text is fit, and it has fewer nets.
+abbrev pub ModuleIsFabric : LutInputs → Database → Configuration → Type 0
+ModuleIsFabric inputs db image =
+    IsFit db → db.chip.nets ≤ 2 ^ 64 → design_fault inputs db image ≡ None
+    → (order name : List ℕ) → IsWriteOrder (wiring_of (fabric_with inputs db image)) order → IsName name
+    → IsModule (module_of (fabric_with inputs db image) order name) × RunsAlike inputs db image order name

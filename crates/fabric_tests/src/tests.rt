@@ -20,12 +20,12 @@ mod pins;
 mod rams;
 
 use chipdb_reader::{ChipDb, PinXy};
-use fabric::{Design, FabricFault, LinkEnds, design};
+use fabric::{Design, FabricFault, LinkEnds, design, design_with};
 use fabric_parts::{cells as find_cells, pins as find_pins, rams as find_rams};
 use fabric_wiring::{ClockEnd, Drive, Output};
 use ice_image::AnyImage;
 use net_extract::{
-    CarrySet, ClockUser, Driver, GlobalNet, Lc, Links, Pin, RamCell, Register, links,
+    CarrySet, ClockUser, Driver, GlobalNet, Lc, Links, LutInputs, Pin, RamCell, Register, links,
 };
 use plane_map::Place;
 use sample_images::{SampleBit, database, image_with, set_bits, set_extras};
@@ -43,17 +43,20 @@ struct Case<'a> {
     more: &'a [SampleBit],
     /// Whether the pad of global 2 drives it.
     pad: bool,
+    /// Which inputs LUTs read.
+    lut_inputs: LutInputs,
     gives: Gives<'a>,
 }
 
 impl<'a> Case<'a> {
-    /// A case without more bits, in which no pad drives global 2.
+    /// A case without more bits, in which no pad drives global 2 and LUTs read all of their inputs.
     fn of(text: &'a [u8], bits: &'a [SampleBit], gives: Gives<'a>) -> Case<'a> {
         Case {
             text,
             bits,
             more: &[],
             pad: false,
+            lut_inputs: LutInputs::All,
             gives,
         }
     }
@@ -241,19 +244,44 @@ fn is_refused(fault: &FabricFault, gives: Gives) -> bool {
     }
 }
 
+/// The design whose LUTs read these inputs.
+fn design_by(
+    alloc: Global,
+    db: &ChipDb,
+    image: &AnyImage,
+    lut_inputs: LutInputs,
+) -> Result<Design, FabricFault> {
+    match lut_inputs {
+        LutInputs::All => design(alloc, db, image),
+        LutInputs::Used => design_with(alloc, db, image, lut_inputs),
+    }
+}
+
 /// Whether the design or the cause why there is none are those.
-fn gives_design(alloc: Global, db: &ChipDb, image: &AnyImage, gives: Gives) -> bool {
-    match design(alloc, db, image) {
-        Ok(design) => has_parts(&design, gives),
+fn gives_design(
+    alloc: Global,
+    db: &ChipDb,
+    image: &AnyImage,
+    lut_inputs: LutInputs,
+    gives: Gives,
+) -> bool {
+    match design_by(alloc, db, image, lut_inputs) {
+        Ok(design) => design.lut_inputs() == lut_inputs && has_parts(&design, gives),
         Err(fault) => is_refused(&fault, gives),
     }
 }
 
-fn holds(alloc: Global, db: &ChipDb, image: &AnyImage, gives: Gives) -> bool {
+fn holds(
+    alloc: Global,
+    db: &ChipDb,
+    image: &AnyImage,
+    lut_inputs: LutInputs,
+    gives: Gives,
+) -> bool {
     match gives {
         Gives::Links { .. } | Gives::OneClass(_) => gives_links(alloc, db, image, gives),
         Gives::Calls => gives_calls(alloc, db, image),
-        _ => gives_design(alloc, db, image, gives),
+        _ => gives_design(alloc, db, image, lut_inputs, gives),
     }
 }
 
@@ -345,7 +373,7 @@ fn is_so_in(alloc: Global, db: &ChipDb, case: Case) -> bool {
         Ok(mut image) => {
             set_bits(&mut image, case.more);
             set_pad(&mut image, case.pad);
-            holds(alloc, db, &image, case.gives)
+            holds(alloc, db, &image, case.lut_inputs, case.gives)
         }
         Err(_) => false,
     }

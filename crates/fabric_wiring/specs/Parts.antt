@@ -11,8 +11,8 @@ use Rattle.fabric_wiring.specs.declared.parts.Parts.{Parts}
 abbrev pub buffer_of : KeptBuffer → Buffer
 buffer_of buffer = record { line = buffer.line; src = buffer.src; dst = buffer.dst }
 
--- Parts are those of a fabric where each list is that of the fabric and each net has the class that the routings of the fabric give
--- it. All nets of such a fabric are below their count.
+-- Parts are those of a fabric where each list is that of the fabric, the LUTs read the same inputs, and each net has the class that the
+-- routings of the fabric give it. All nets of such a fabric are below their count.
 pub record ArePartsOf (fabric : Fabric) (parts : Parts) : Type 0 where
   pub within : HasNetsIn fabric
   pub nets : length parts.links.classes ≡ fabric.nets
@@ -20,6 +20,7 @@ pub record ArePartsOf (fabric : Fabric) (parts : Parts) : Type 0 where
   pub buffers : map buffer_of parts.buffers.items ≡ fabric.buffers
   pub pins : parts.pins.items ≡ fabric.pins
   pub globals : parts.globals.items ≡ fabric.globals
+  pub lut_inputs : parts.lut_inputs ≡ fabric.lut_inputs
   pub lcs : parts.lcs.items ≡ fabric.lcs
   pub registers : parts.registers.items ≡ fabric.registers
   pub sets : parts.sets.items ≡ fabric.sets

@@ -6,12 +6,12 @@ ghost use Rattle.fabric_wiring.specs.Drives.{drive_of};
 use crate::drive::{Drive, Rule};
 use crate::push::push_if;
 use crate::registers::table_of;
-use net_extract::{CarrySet, Driver, Lc};
+use net_extract::{CarrySet, Driver, Lc, LutInputs};
 use std::alloc::AllocError;
 
 /// Appends what a cell drives on `lutff_i/out` where it has no flip-flop.
-fn append_lut(drives: &mut Vec<Drive>, lc: Lc) -> Result<(), AllocError>
-    ensures { OnOk result (map drive_of drives.new.items ≡ map drive_of drives.old.items ++ flat_map lut_drives (filter (λ lc. not lc.flip) (lc ∷ []))) }
+fn append_lut(drives: &mut Vec<Drive>, inputs: LutInputs, lc: Lc) -> Result<(), AllocError>
+    ensures { OnOk result (map drive_of drives.new.items ≡ map drive_of drives.old.items ++ flat_map (lut_drives inputs) (filter (λ lc. not lc.flip) (lc ∷ []))) }
 {
     if lc.flip {
         return Ok(());
@@ -21,22 +21,31 @@ fn append_lut(drives: &mut Vec<Drive>, lc: Lc) -> Result<(), AllocError>
         y: lc.y,
         i: lc.i,
     };
-    push_if(drives, driver, Rule::TableEntry(table_of(&lc)), lc.out)
+    let rule = Rule::TableEntry(table_of(inputs, &lc));
+    push_if(drives, driver, rule, lc.out)
 }
 
 /// Appends what cells without flip-flop drive on `lutff_i/out`.
-pub(crate) fn append_luts(drives: &mut Vec<Drive>, lcs: &[Lc]) -> Result<(), AllocError>
-    ensures { OnOk result (map drive_of drives.new.items ≡ map drive_of drives.old.items ++ flat_map lut_drives (filter (λ lc. not lc.flip) lcs.now)) }
+pub(crate) fn append_luts(
+    drives: &mut Vec<Drive>,
+    inputs: LutInputs,
+    lcs: &[Lc],
+) -> Result<(), AllocError>
+    ensures { OnOk result (map drive_of drives.new.items ≡ map drive_of drives.old.items ++ flat_map (lut_drives inputs) (filter (λ lc. not lc.flip) lcs.now)) }
 {
     for lc in lcs {
-        append_lut(drives, *lc)?;
+        append_lut(drives, inputs, *lc)?;
     }
     Ok(())
 }
 
 /// Appends what cells drive on `lutff_i/lout`.
-pub(crate) fn append_louts(drives: &mut Vec<Drive>, lcs: &[Lc]) -> Result<(), AllocError>
-    ensures { OnOk result (map drive_of drives.new.items ≡ map drive_of drives.old.items ++ flat_map lout_drives lcs.now) }
+pub(crate) fn append_louts(
+    drives: &mut Vec<Drive>,
+    inputs: LutInputs,
+    lcs: &[Lc],
+) -> Result<(), AllocError>
+    ensures { OnOk result (map drive_of drives.new.items ≡ map drive_of drives.old.items ++ flat_map (lout_drives inputs) lcs.now) }
 {
     for lc in lcs {
         let driver = Driver::Lout {
@@ -44,7 +53,8 @@ pub(crate) fn append_louts(drives: &mut Vec<Drive>, lcs: &[Lc]) -> Result<(), Al
             y: lc.y,
             i: lc.i,
         };
-        push_if(drives, driver, Rule::TableEntry(table_of(lc)), lc.lout)?;
+        let rule = Rule::TableEntry(table_of(inputs, lc));
+        push_if(drives, driver, rule, lc.lout)?;
     }
     Ok(())
 }

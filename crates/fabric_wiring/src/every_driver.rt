@@ -34,9 +34,9 @@ pub(crate) fn all_drives(alloc: Global, parts: &Parts) -> Result<Vec<Drive>, All
     let mut drives = Vec::new(alloc);
     append_pins(&mut drives, &inputs)?;
     append_backs(&mut drives, &parts.registers, &parts.pins)?;
-    append_luts(&mut drives, &parts.lcs)?;
+    append_luts(&mut drives, parts.lut_inputs, &parts.lcs)?;
     append_flips(&mut drives, &parts.registers)?;
-    append_louts(&mut drives, &parts.lcs)?;
+    append_louts(&mut drives, parts.lut_inputs, &parts.lcs)?;
     append_carries(&mut drives, &parts.lcs)?;
     append_sets(&mut drives, &parts.sets)?;
     append_rams(&mut drives, &parts.rams)?;

@@ -1,6 +1,6 @@
 // The parts of a fabric.
 
-use net_extract::{CarrySet, GlobalNet, Lc, Links, Pin, RamCell, Register};
+use net_extract::{CarrySet, GlobalNet, Lc, Links, LutInputs, Pin, RamCell, Register};
 
 /// A buffer that is on: the `.buffer` line of that place in the database, and its two nets.
 #[derive(Clone, Copy, Debug, PartialEq, Eq)]
@@ -21,6 +21,8 @@ pub struct Parts {
     /// The pins that are ports.
     pub pins: Vec<Pin>,
     pub globals: Vec<GlobalNet>,
+    /// Which inputs the LUTs of the cells read.
+    pub lut_inputs: LutInputs,
     /// The used cells.
     pub lcs: Vec<Lc>,
     /// The registers: the flip-flops of the cells, then those of pins.

@@ -7,28 +7,31 @@ ghost use Rattle.fabric_wiring.specs.Drives.{drive_of};
 
 use crate::drive::{Drive, Rule};
 use crate::push::push_if;
-use net_extract::{ClockUser, Driver, Lc, Register, Source, Table, place_of};
+use net_extract::{
+    ClockUser, Driver, Lc, LutInputs, Register, Source, Table, inputs_read, place_of,
+};
 use std::alloc::{AllocError, Global};
 
-/// The LUT of a cell.
-pub(crate) fn table_of(lc: &Lc) -> Table
-    ensures { result ≡ table_of lc.now }
+/// The LUT of a cell, with the inputs that it reads.
+pub(crate) fn table_of(inputs: LutInputs, lc: &Lc) -> Table
+    ensures { result ≡ table_of inputs lc.now }
 {
+    let ins = inputs_read(inputs, lc.lut, &lc.ins);
     Table {
         word: lc.lut,
         ins: [
-            Source::Net(lc.ins[0]),
-            Source::Net(lc.ins[1]),
-            Source::Net(lc.ins[2]),
-            Source::Net(lc.ins[3]),
+            Source::Net(ins[0]),
+            Source::Net(ins[1]),
+            Source::Net(ins[2]),
+            Source::Net(ins[3]),
         ],
     }
 }
 
 /// The flip-flop of a cell.
 #[tactic(auto, unfolding(net_extract::specs::Registers::register_of))]
-fn register_of(lc: &Lc) -> Register
-    ensures { result ≡ register_of lc.now }
+fn register_of(inputs: LutInputs, lc: &Lc) -> Register
+    ensures { result ≡ register_of inputs lc.now }
 {
     Register {
         x: lc.x,
@@ -41,22 +44,26 @@ fn register_of(lc: &Lc) -> Register
         sr: lc.sr,
         set: lc.set,
         at_once: lc.at_once,
-        table: table_of(lc),
+        table: table_of(inputs, lc),
     }
 }
 
-/// The registers of cells: the flip-flops, in the order of the cells.
+/// The registers of cells whose LUTs read these inputs: the flip-flops, in the order of the cells.
 ///
 /// # Errors
 /// `AllocError` where memory is out, and for no other cause.
 #[tactic(auto, unfolding(net_extract::specs::Registers::registers_of))]
-pub fn registers_of(alloc: Global, lcs: &[Lc]) -> Result<Vec<Register>, AllocError>
-    ensures { IfOk result (λ registers. registers.items ≡ registers_of lcs.now) }
+pub fn registers_of(
+    alloc: Global,
+    inputs: LutInputs,
+    lcs: &[Lc],
+) -> Result<Vec<Register>, AllocError>
+    ensures { IfOk result (λ registers. registers.items ≡ registers_of inputs lcs.now) }
 {
     let mut registers = Vec::new(alloc);
     for lc in lcs {
         if lc.flip {
-            registers.push(register_of(lc))?;
+            registers.push(register_of(inputs, lc))?;
         }
     }
     Ok(registers)

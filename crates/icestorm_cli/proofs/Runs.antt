@@ -11,7 +11,7 @@ use Rattle.vlog_forms.proofs.Spelled.{outcome-spelled}
 use Rattle.vlog_cycle.specs.declared.event.EventFault.{EventFault}
 use Rattle.vlog_cycle.specs.Events.{event_fault, events_of}
 use Rattle.vlog_cycle.specs.Text.{run_text}
-use Rattle.net_extract.specs.Fabric.{fabric_of}
+use Rattle.net_extract.specs.Fabric.{fabric_with, fabric_of}
 use Rattle.net_extract.specs.Steps.{Entry, IsRun}
 use Rattle.fabric_module.specs.Written.{module_of}
 use Rattle.fabric_module.proofs.Design.{design-is-module}
@@ -49,12 +49,13 @@ spelled-done registers m text events lines spells done =
 -- the lines of the module of a design
 module-shown : (db : Database) (image : Configuration) (m : Parts) → IsModuleOf db image m → (registers : Bool) (events : List ℕ) (entries : List Entry)
     → IsRun (fabric_of db image) (fabric_events db image events) entries → run_text m (events_of m.ports events) registers ≡ fabric_text registers entries
-unfolding module_of
+unfolding module_of fabric_with
 module-shown db image m is registers events entries run =
     let fabric = fabric_of db image in
+    let inputs = is.design.parts.lut_inputs in
     let design = is.is_design in
-    let shown = run-shown fabric (module_of fabric is.design.order is.name) registers events entries
-    (design-is-module db image design.fit design.few design.taken is.design.order design.kept.order is.name (fabric_events db image events) entries run) in
+    let shown = run-shown fabric (module_of (fabric_with inputs db image) is.design.order is.name) registers events entries
+    (design-is-module inputs db image design.fit design.few design.taken is.design.order design.kept.order is.name (fabric_events db image events) entries run) in
     subst (λ (one : Parts). run_text one (events_of one.ports events) registers ≡ fabric_text registers entries) (sym is.is) shown
 
 -- ---- the task
@@ -64,10 +65,10 @@ abbrev TaskRuns : Bool → Task → Type 0
 TaskRuns registers task = (texts : List (List ℕ)) (bytes : List ℕ) → task.answer texts ≡ Done bytes → RunsFabric registers texts bytes
 
 task-of : (registers waves : Bool) (text events : Option Text) → waves ≡ false → TaskRuns registers (vlogrun_task_of (told_by registers waves) text events)
-task-of registers false (Some text) events no = λ texts bytes done db image m is spells entries run.
+task-of registers false (Some text) events lines = λ texts bytes done db image m is spells entries run.
     spelled-done registers m (get_or texts 0 []) (get_or texts 1 []) bytes spells done ∙ module-shown db image m is registers (get_or texts 1 []) entries run
-task-of registers false None events no = λ texts bytes done. absurd cc
-task-of registers true text events no = absurd cc
+task-of registers false None events lines = λ texts bytes done. absurd cc
+task-of registers true text events lines = absurd cc
 
 target-of : (told : Option Told) (text events : Option Text) → (vlogrun_task_of told text events).target ≡ None
 target-of (Some told) (Some text) events = refl
@@ -77,11 +78,11 @@ target-of None text events = refl
 module _ (args : List Text) where
   task-runs : tells_waves args ≡ false → TaskRuns (shows_registers args) (asked vlogrun args)
   unfolding asked
-  task-runs no = by_case (is_taken vlogrun_command args)
+  task-runs lines = by_case (is_taken vlogrun_command args)
     where
       by_case : (taken : Bool) → TaskRuns (shows_registers args) (if taken then vlogrun_task_by (matches_of vlogrun_command args) else usage_error vlogrun_name vlogrun_usage)
       by_case true =
-          task-of (shows_registers args) (tells_waves args) (first_of (codes "module") (matches_of vlogrun_command args)) (first_of (codes "events") (matches_of vlogrun_command args)) no
+          task-of (shows_registers args) (tells_waves args) (first_of (codes "module") (matches_of vlogrun_command args)) (first_of (codes "events") (matches_of vlogrun_command args)) lines
       by_case false = λ texts bytes done. absurd cc
 
   -- the lines go to standard output
@@ -96,6 +97,6 @@ module _ (args : List Text) where
 
   pub run-kept : {F I O E : Type 0} (by : Outside F I O E) (status : ℕ) (old new : Scene F I O E) → Does by (vlogrun_outcome args) status old new
       → PromisesRun args status (by.contents old.files) (by.left old.input) (by.held old.output) (by.held new.output)
-  run-kept by status old new does done asks no =
+  run-kept by status old new does done asks lines =
       let same : asked vlogrun args ≡ vlogrun_outcome args = helped-no vlogrun_name VLOGRUN_HELP.now args (asked vlogrun args) asks in
-      helped-kept (RunsFabric (shows_registers args)) by (asked vlogrun args) (vlogrun_outcome args) status old new same (task-runs no) task-target does done
+      helped-kept (RunsFabric (shows_registers args)) by (asked vlogrun args) (vlogrun_outcome args) status old new same (task-runs lines) task-target does done

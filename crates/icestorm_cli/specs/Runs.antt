@@ -7,7 +7,7 @@ use Rattle.chipdb_reader.specs.Database.{Database}
 use Rattle.vlog_module.specs.Parts.{Parts}
 use Rattle.vlog_module.specs.Names.{IsName}
 use Rattle.vlog_forms.specs.Items.{IsSpelling}
-use Rattle.net_extract.specs.Fabric.{fabric_of}
+use Rattle.net_extract.specs.Fabric.{fabric_with, fabric_of}
 use Rattle.net_extract.specs.Steps.{Entry, IsRun}
 use Rattle.fabric.specs.Kept.{Kept}
 use Rattle.fabric.specs.Design.{IsDesignOf}
@@ -24,7 +24,7 @@ pub record IsModuleOf (db : Database) (image : Configuration) (m : Parts) : Type
   pub name : List ℕ
   pub is_design : IsDesignOf db image design
   pub is_name : IsName name
-  pub is : m ≡ module_of (fabric_of db image) design.order name
+  pub is : m ≡ module_of (fabric_with design.parts.lut_inputs db image) design.order name
 
 -- where the first of two texts spells the module of a design, bytes are the lines of the run of the design's fabric over the events of
 -- the second

@@ -6,6 +6,7 @@ use Rattle.plane_map.specs.Devices.{is_same_device}
 use Rattle.plane_map.proofs.Devices.{one-device, same-device}
 use Rattle.ice_image.specs.Configuration.{Configuration}
 use Rattle.chipdb_reader.specs.Database.{Database}
+use Rattle.net_extract.specs.declared.lut_inputs.LutInputs.{LutInputs}
 use Rattle.net_extract.specs.Faults.{Fault, design_fault, device_faults}
 use Rattle.net_extract.proofs.Taken.{design-taken}
 use Rattle.tile_bits.specs.Explained.{explain_fault_of}
@@ -21,6 +22,6 @@ passes false none = absurd cc
 no-other : (one other : DeviceName) → (if is_same_device one other then [] else Fault.other_device ∷ []) ≡ [] → one ≡ other
 no-other one other none = one-device one other (passes (is_same_device one other) none)
 
-pub taken-device : (db : Database) (image : Configuration) → design_fault db image ≡ None → db.chip.device ≡ image.layout.device
+pub taken-device : (inputs : LutInputs) (db : Database) (image : Configuration) → design_fault inputs db image ≡ None → db.chip.device ≡ image.layout.device
 unfolding device_faults
-taken-device db image none = no-other db.chip.device image.layout.device (design-taken db image none).device
+taken-device inputs db image none = no-other db.chip.device image.layout.device (design-taken inputs db image none).device

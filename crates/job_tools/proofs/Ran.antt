@@ -12,7 +12,8 @@ use Rattle.vlog_plan.specs.declared.event.Event.{Event as ModuleEvent}
 use Rattle.vlog_plan.specs.Named.{names_of}
 use Rattle.vlog_plan.specs.Run.{input_names, module_run}
 use Rattle.net_extract.specs.declared.pin.Pin.{Pin}
-use Rattle.net_extract.specs.Fabric.{fabric_of}
+use Rattle.net_extract.specs.Fabric.{fabric_with, fabric_of, inputs_of}
+use Rattle.net_extract.proofs.Alike.{inputs-with}
 use Rattle.fabric.specs.Kept.{Kept}
 use Rattle.fabric.specs.Design.{IsDesignOf, IsDesign}
 use Rattle.fabric_module.specs.Matching.{module_event}
@@ -38,14 +39,14 @@ inputs-count pins =
 
 -- the events that are run name inputs of the module
 pub inputs-named : (design : Kept) (name : List ℕ) (made : List PinEvent) (m : Parts) (events : List ModuleEvent) → IsDesign design
-    → ((db : Database) (image : Configuration) → IsDesignOf db image design → m ≡ module_of (fabric_of db image) design.order name)
+    → ((db : Database) (image : Configuration) → IsDesignOf db image design → m ≡ module_of (fabric_with design.parts.lut_inputs db image) design.order name)
     → events ≡ map module_event (events_for design.inputs made) → All (λ event. event.pin < length (input_names m.ports)) events
 unfolding module_of
 inputs-named design name made m events is module_is events_are =
     let db = is.0 in
     let image = is.1 in
     let kept = is.2.kept in
-    let pins = (fabric_of db image).pins in
+    let pins = (fabric_with design.parts.lut_inputs db image).pins in
     let ports : m.ports ≡ flat_map pin_ports pins = ap (λ (one : Parts). one.ports) (module_is db image is.2) in
     let count : length design.inputs ≡ length (input_names m.ports) =
     ap (λ (list : List Pin). length list) kept.inputs ∙ sym (ap (λ (list : List Port). length (input_names list)) ports ∙ inputs-count pins) in
@@ -61,7 +62,8 @@ pub ran-is : (design : Kept) (made : List PinEvent) (m : Parts) (events : List M
     → events ≡ map module_event (events_for design.inputs made) → ran.events ≡ length events → ran.ones ≡ ones_in (module_bits (module_run m events)) → IsRunOf design made ran
 ran-is design made m events ran runs events_are count ones db image is =
     let given = fabric_events db image made in
-    let same : events ≡ map module_event given = events_are ∙ ap (λ inputs. map module_event (events_for inputs made)) is.kept.inputs in
+    let inputs : design.inputs ≡ inputs_of (fabric_of db image) = is.kept.inputs ∙ inputs-with design.parts.lut_inputs db image in
+    let same : events ≡ map module_event given = events_are ∙ ap (λ pins. map module_event (events_for pins made)) inputs in
     record {
       events = count ∙ ap (λ (list : List ModuleEvent). length list) same ∙ length-map given module_event;
       ones = λ entries run. ones ∙ ap (λ list. ones_in (module_bits (module_run m list))) same

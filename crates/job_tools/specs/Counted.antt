@@ -11,7 +11,9 @@ use Rattle.chipdb_reader.specs.Database.{Database}
 use Rattle.tile_bits.specs.Explained.{explained}
 use Rattle.ice_gen.specs.declared.event.PinEvent.{PinEvent}
 use Rattle.net_extract.specs.declared.pin.Pin.{Pin}
-use Rattle.net_extract.specs.Fabric.{fabric_of}
+use Rattle.net_extract.specs.declared.lut_inputs.LutInputs.{LutInputs}
+use Rattle.net_extract.specs.declared.lut_inputs.LutInputs.TheVariants as read
+use Rattle.net_extract.specs.Fabric.{fabric_with}
 use Rattle.net_extract.specs.Cells.{cells_of}
 use Rattle.net_extract.specs.Rams.{rams_of}
 use Rattle.net_extract.specs.Wiring.{wiring_of}
@@ -51,18 +53,22 @@ ones_in bits = length (filter (λ bit. bit) bits)
 abbrev pub output_bits : List Entry → List Bool
 output_bits entries = flat_map (λ entry. entry.outputs) entries
 
--- what is counted of a database, an image, events and the entries of their run
-unfoldable pub counts_of : Database → Configuration → List Event → List Entry → Counts
-counts_of db image events entries = record {
+-- what is counted of a database, an image whose LUTs read these inputs, events and the entries of their run
+unfoldable pub counts_with : LutInputs → Database → Configuration → List Event → List Entry → Counts
+counts_with inputs db image events entries = record {
   bin = length (canonical_bytes image);
   nets = db.chip.nets;
   cells = length (cells_of db image);
   rams = length (rams_of db image);
-  wires = length (write_order (wiring_of (fabric_of db image)));
+  wires = length (write_order (wiring_of (fabric_with inputs db image)));
   events = length events;
   explained = length (lines_of (explained db image None));
   ones = ones_in (output_bits entries);
 }
+
+-- the same where LUTs read all of their inputs
+abbrev pub counts_of : Database → Configuration → List Event → List Entry → Counts
+counts_of db image events entries = counts_with read.All db image events entries
 
 -- ---- the text
 

@@ -12,6 +12,7 @@ use Rattle.ice_gen.specs.Database.{generated_database}
 use Rattle.ice_gen.specs.Image.{generated_image}
 use Rattle.ice_gen.specs.Events.{generated_events}
 use Rattle.net_extract.specs.Fabric.{fabric_of, inputs_of}
+use Rattle.net_extract.specs.declared.lut_inputs.LutInputs.TheVariants as read
 use Rattle.net_extract.specs.Faults.{Fault, design_fault}
 use Rattle.net_extract.specs.Steps.{Event, Entry, IsRun}
 use Rattle.tool_run.specs.Lines.{usage_text}
@@ -46,7 +47,7 @@ IsAnswerWith request db (Some fault) answer = answer ≡ Refused (design_fault_t
 -- a fault of the text goes first
 abbrev pub IsAnswerBy : Request → Result Database (List ℕ) → Answer → Type 0
 IsAnswerBy request (Err text) answer = answer ≡ Refused text
-IsAnswerBy request (Ok db) answer = IsAnswerWith request db (design_fault db (image_for request)) answer
+IsAnswerBy request (Ok db) answer = IsAnswerWith request db (design_fault read.All db (image_for request)) answer
 
 -- whether an answer is that of a request
 abbrev pub IsAnswer : Request → Answer → Type 0

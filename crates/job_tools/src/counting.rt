@@ -11,7 +11,7 @@ ghost use Rattle.chipdb_reader.specs.Kept.{database_in};
 ghost use Rattle.tile_bits.specs.Explained.{explained};
 ghost use Rattle.ice_gen.specs.Events.{generated_events};
 ghost use Rattle.vlog_plan.specs.Run.{input_names, module_run};
-ghost use Rattle.net_extract.specs.Fabric.{fabric_of};
+ghost use Rattle.net_extract.specs.Fabric.{fabric_with};
 ghost use Rattle.fabric.specs.Design.{IsDesignOf};
 ghost use Rattle.fabric_module.specs.Written.{module_of};
 ghost use Rattle.vlog_emit.specs.Runs.{RunsAs};
@@ -101,7 +101,7 @@ pub(crate) fn explained_lines(
 /// The module of a design, printed and parsed.
 #[tactic(auto, unfolding(vlog_module::specs::Names::is_name, vlog_module::specs::Names::reserved_words))]
 fn module_of(alloc: Global, design: &Design) -> Result<Module, AllocError>
-    ensures made { IfOk result (λ made. (db : Database) (image : Configuration) → IsDesignOf db image design.now → made ≡ module_of (fabric_of db image) design.now.order (codes "selfrun")) }
+    ensures made { IfOk result (λ made. (db : Database) (image : Configuration) → IsDesignOf db image design.now → made ≡ module_of (fabric_with design.now.parts.lut_inputs db image) design.now.order (codes "selfrun")) }
     ensures runs { IfOk result (λ made. (db : Database) (image : Configuration) → IsDesignOf db image design.now → RunsAs db image made) }
 {
     let module = emit(alloc, design, b"selfrun")?;

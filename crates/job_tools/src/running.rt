@@ -5,6 +5,7 @@ ghost use Rattle.ice_image.specs.Either.{configuration_of};
 ghost use Rattle.chipdb_reader.specs.Kept.{database_in};
 ghost use Rattle.bin_stream.specs.CanonicalBytes.{canonical_bytes};
 ghost use Rattle.net_extract.specs.Fabric.{fabric_of};
+ghost use Rattle.net_extract.specs.declared.lut_inputs.LutInputs.TheVariants as read;
 ghost use Rattle.net_extract.specs.Faults.{design_fault};
 ghost use Rattle.net_extract.specs.Steps.{Entry, IsRun};
 ghost use Rattle.net_extract.specs.Unique.{ExactlyOne};
@@ -12,9 +13,9 @@ ghost use Rattle.fabric.specs.Design.{IsDesignOf};
 ghost use Rattle.tool_run.specs.Runs.{Does, outside, scene};
 ghost use Rattle.tool_run.specs.Tasks.{Answer, Done, at_once};
 ghost use Rattle.tool_parts.specs.Databases.{database_read};
-ghost use Rattle.job_tools.specs.Counted.{counts_of};
+ghost use Rattle.job_tools.specs.Counted.{counts_text, counts_with};
 ghost use Rattle.job_tools.specs.Inside.{StopsAs};
-ghost use Rattle.job_tools.specs.Selfrun.{IsAnswer, IsAnswerBy, IsAnswerWith, IsCounted, IsSelfrunAnswer, image_for, run_events, selfrun_name, selfrun_outcome};
+ghost use Rattle.job_tools.specs.Selfrun.{IsAnswer, IsAnswerBy, IsAnswerWith, IsSelfrunAnswer, image_for, run_events, selfrun_name, selfrun_outcome};
 
 use crate::counting::{Packed, explained_lines, pack, run};
 use crate::counts::{Counts, text_of};
@@ -59,7 +60,7 @@ fn counted(
     requires image { configuration_of packed.now.image ≡ image_for request }
     requires bytes { packed.now.bytes ≡ length (canonical_bytes (image_for request)) }
     ensures { IfOk result (λ counts. (entries : List Entry) → IsRun (fabric_of (database_in db.now) (image_for request)) (run_events request (database_in db.now)) entries
-        → counts ≡ counts_of (database_in db.now) (image_for request) (run_events request (database_in db.now)) entries) }
+        → counts ≡ counts_with design.now.parts.lut_inputs (database_in db.now) (image_for request) (run_events request (database_in db.now)) entries) }
 {
     let explained = explained_lines(alloc, db, &packed.image)?;
     let ran = run(alloc, design, request)?;
@@ -87,7 +88,7 @@ fn design_text(
     requires image { configuration_of packed.now.image ≡ image_for request }
     requires bytes { packed.now.bytes ≡ length (canonical_bytes (image_for request)) }
     ensures { IfOk result (λ text. (entries : List Entry) → IsRun (fabric_of (database_in db.now) (image_for request)) (run_events request (database_in db.now)) entries
-        → IsCounted request (database_in db.now) (Done text.items)) }
+        → text.items ≡ counts_text request.device (counts_with design.now.parts.lut_inputs (database_in db.now) (image_for request) (run_events request (database_in db.now)) entries)) }
 {
     let counts = counted(alloc, request, db, packed, design)?;
     text_of(alloc, request.device, &counts)
@@ -102,8 +103,8 @@ fn told_by(
 ) -> Result<Vec<u8>, Stop<'static>>
     requires image { configuration_of packed.now.image ≡ image_for request }
     requires bytes { packed.now.bytes ≡ length (canonical_bytes (image_for request)) }
-    ensures bytes { IfOk result (λ bytes. IsAnswerWith request (database_in db.now) (design_fault (database_in db.now) (image_for request)) (Done bytes.items)) }
-    ensures stops { IfErr result (StopsAs (IsAnswerWith request (database_in db.now) (design_fault (database_in db.now) (image_for request)))) }
+    ensures bytes { IfOk result (λ bytes. IsAnswerWith request (database_in db.now) (design_fault read.All (database_in db.now) (image_for request)) (Done bytes.items)) }
+    ensures stops { IfErr result (StopsAs (IsAnswerWith request (database_in db.now) (design_fault read.All (database_in db.now) (image_for request)))) }
 {
     match design(alloc, db, &packed.image) {
         Ok(design) => Ok(design_text(alloc, request, db, packed, &design)?),
@@ -119,8 +120,8 @@ fn told_of(
     image: &AnyImage,
 ) -> Result<Vec<u8>, Stop<'static>>
     requires { configuration_of image.now ≡ image_for request }
-    ensures bytes { IfOk result (λ bytes. IsAnswerWith request (database_in db.now) (design_fault (database_in db.now) (image_for request)) (Done bytes.items)) }
-    ensures stops { IfErr result (StopsAs (IsAnswerWith request (database_in db.now) (design_fault (database_in db.now) (image_for request)))) }
+    ensures bytes { IfOk result (λ bytes. IsAnswerWith request (database_in db.now) (design_fault read.All (database_in db.now) (image_for request)) (Done bytes.items)) }
+    ensures stops { IfErr result (StopsAs (IsAnswerWith request (database_in db.now) (design_fault read.All (database_in db.now) (image_for request)))) }
 {
     let packed = pack(alloc, image)?;
     told_by(alloc, request, db, &packed)

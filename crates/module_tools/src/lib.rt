@@ -16,3 +16,4 @@ pub use request::{VLOGRUN_HELP, VLOGRUN_USAGE};
 pub use running::run_vlogrun;
 pub use sweep_request::{VLOGSWEEP_HELP, VLOGSWEEP_USAGE};
 pub use sweeping::run_vlogsweep;
+pub use told::Told;

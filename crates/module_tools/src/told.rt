@@ -2,7 +2,7 @@
 
 /// What is told of a run.
 #[derive(Clone, Copy, Debug, PartialEq, Eq)]
-pub(crate) enum Told {
+pub enum Told {
     /// A line at the start and one after each event, of the outputs, and of the registers too where they are asked for.
     Lines { registers: bool },
     /// The waves: what each event changed.

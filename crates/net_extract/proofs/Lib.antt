@@ -43,6 +43,14 @@ pub mod Ending
 pub mod Laws
 -- lists over the tiles of a kind
 pub mod InOrder
+-- two lists whose items are alike, place by place
+pub mod Paired
+-- whichever inputs LUTs read, values, runs and clocks are the same
+pub mod Alike
+-- entries of LUTs by the bits of their words
+pub mod Entries
+-- the value of a LUT looks at no input that the LUT doesn't use
+pub mod UsedInputs
 -- what is found in lists that are made from others, and bits that are all set
 pub mod Listed
 -- nets and places that a database names are its device's

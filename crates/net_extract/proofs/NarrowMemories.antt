@@ -25,7 +25,7 @@ use Rattle.rams_narrow.specs.Narrow.{share, put_bit, got_bit}
 use Rattle.net_extract.specs.declared.ram.RamCell.{RamCell}
 use Rattle.net_extract.specs.Tiles.{over_grid}
 use Rattle.net_extract.specs.Rams.{data_bit, is_ram_used, ram_at, rams_of, over_rams, start_word, start_words}
-use Rattle.net_extract.specs.Fabric.{Fabric, fabric_of, numbered_from, numbered}
+use Rattle.net_extract.specs.Fabric.{Fabric, fabric_of, fabric_with, numbered_from, numbered}
 use Rattle.net_extract.specs.Values.{State, input_or_0, input_or_1, bit_in, is_connected}
 use Rattle.net_extract.specs.Steps.{has_edge, word_address, high_part, word_at, bit_of_word, masked_bit, written_data, written, shown, next_words, next_register, words_after, read_after, state_after, settled_state, Event, Entry, Follows, IsFirst, FollowEach}
 use Rattle.net_extract.specs.NarrowMemories.{narrow_in, narrow_address, port_place, given_bit, AreWords, words_in, read_in, WritesNarrow, ReadsNarrow, KeepsRead, IsNarrowMemory, EachStep, RamsAreMemories}
@@ -306,7 +306,7 @@ module _ (db : Database) (image : Configuration) where
   }
 
   rams-are : All IsRam (fabric_of db image).rams
-  unfolding fabric_of rams_of
+  unfolding fabric_with rams_of
   rams-are =
       All-over_tiles IsRam image.layout.device RamB _
       (λ x y left low. All-if IsRam (is_ram_used db image x y) (ram_at db image x y ∷ []) (All-single IsRam (ram_at db image x y) (ram-is x y)))
@@ -320,7 +320,7 @@ module _ (db : Database) (image : Configuration) where
   )
 
   start-has : HasWords (fabric_of db image) (fabric_of db image).start
-  unfolding fabric_of rams_of
+  unfolding fabric_with rams_of
   start-has = record {
     each =
         All-over_tiles AreWords image.layout.device RamB _

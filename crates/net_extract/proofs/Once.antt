@@ -10,6 +10,7 @@ use Rattle.plane_map.specs.declared.tile.TileKind.TheVariants.{Io, Logic, RamB}
 use Rattle.ice_image.specs.Configuration.{Configuration}
 use Rattle.chipdb_reader.specs.Database.{Database, Link}
 use Rattle.net_extract.specs.declared.cell.Lc.{Lc}
+use Rattle.net_extract.specs.declared.lut_inputs.LutInputs.{LutInputs}
 use Rattle.net_extract.specs.declared.cell.CarrySet.{CarrySet}
 use Rattle.net_extract.specs.declared.register.Register.{Register}
 use Rattle.net_extract.specs.declared.ram.RamCell.{RamCell}
@@ -26,7 +27,7 @@ use Rattle.net_extract.specs.Tiles.{item_if}
 use Rattle.net_extract.specs.Cells.{cell_bits, cell_with, is_used, used_cell, cells_at, cells_of, set_with, sets_at, sets_of}
 use Rattle.net_extract.specs.Rams.{is_ram_used, ram_at, rams_of}
 use Rattle.net_extract.specs.Pins.{pintype_of, is_port, is_input_read, is_registered, pin_with, port_at, pins_of, is_global_net, global_nets, nets_from, global_source, globals_of}
-use Rattle.net_extract.specs.Fabric.{Fabric, Buffer, numbered, buffer_of, buffers_of, fabric_of, inputs_of}
+use Rattle.net_extract.specs.Fabric.{Fabric, Buffer, numbered, buffer_of, buffers_of, fabric_with, inputs_of}
 use Rattle.net_extract.specs.Registers.{table_of, register_of, registers_of, pin_register, pin_registers_of}
 use Rattle.net_extract.specs.Drivers.{Rule, Drive, drives_if, drives_by, pin_drives, output_rule, back_drives, lut_drives, flip_driver, flip_drives, lout_drives, carry_drives, set_drives, read_data_rule, ram_drive, ram_drives, global_drives, buffer_drives, pin_register_driver, pin_register_drives, global_rule, drives_of, is_driver_of, drivers_of}
 use Rattle.net_extract.proofs.Within.{All-flat_map, All-if, All-unless, All-item_if, All-single}
@@ -140,15 +141,15 @@ module _ (db : Database) (image : Configuration) where
 
   -- ---- registers
 
-  flips-differ : (one two : Lc) → CellsDiffer one two → RegistersDiffer (register_of one) (register_of two)
+  flips-differ : (inputs : LutInputs) (one two : Lc) → CellsDiffer one two → RegistersDiffer (register_of inputs one) (register_of inputs two)
   unfolding register_of
-  flips-differ one two other x y user = other x y (cc)
+  flips-differ inputs one two other x y user = other x y (cc)
 
-  flips-apart : AreApart RegistersDiffer (registers_of (cells_of db image))
+  flips-apart : (inputs : LutInputs) → AreApart RegistersDiffer (registers_of inputs (cells_of db image))
   unfolding registers_of
-  flips-apart =
-      apart-map RegistersDiffer register_of (filter (λ lc. lc.flip) (cells_of db image))
-      (apart-weaker CellsDiffer (λ one two. RegistersDiffer (register_of one) (register_of two)) flips-differ (filter (λ lc. lc.flip) (cells_of db image))
+  flips-apart inputs =
+      apart-map RegistersDiffer (register_of inputs) (filter (λ lc. lc.flip) (cells_of db image))
+      (apart-weaker CellsDiffer (λ one two. RegistersDiffer (register_of inputs one) (register_of inputs two)) (flips-differ inputs) (filter (λ lc. lc.flip) (cells_of db image))
       (apart-filter CellsDiffer (λ lc. lc.flip) (cells_of db image) cells-apart))
 
   abbrev pin_register_here : Pin → Register
@@ -165,11 +166,11 @@ module _ (db : Database) (image : Configuration) where
       (apart-weaker PinsDiffer (λ one two. RegistersDiffer (pin_register_here one) (pin_register_here two)) pin_registers-differ (filter is_registered (pins_of db image))
       (apart-filter PinsDiffer is_registered (pins_of db image) pins-apart))
 
-  flips-of_cells : All (λ (register : Register). is_cell_user register.user ≡ true) (registers_of (cells_of db image))
+  flips-of_cells : (inputs : LutInputs) → All (λ (register : Register). is_cell_user register.user ≡ true) (registers_of inputs (cells_of db image))
   unfolding registers_of register_of is_cell_user
-  flips-of_cells =
-      All-map (λ (register : Register). is_cell_user register.user ≡ true) register_of (filter (λ lc. lc.flip) (cells_of db image))
-      (All-every (λ lc. is_cell_user (register_of lc).user ≡ true) (λ lc. refl) (filter (λ lc. lc.flip) (cells_of db image)))
+  flips-of_cells inputs =
+      All-map (λ (register : Register). is_cell_user register.user ≡ true) (register_of inputs) (filter (λ lc. lc.flip) (cells_of db image))
+      (All-every (λ lc. is_cell_user (register_of inputs lc).user ≡ true) (λ lc. refl) (filter (λ lc. lc.flip) (cells_of db image)))
 
   pin_register-user : (pin : Pin) → is_cell_user (pin_register_here pin).user ≡ false
   unfolding pin_register
@@ -186,14 +187,14 @@ module _ (db : Database) (image : Configuration) where
   users-differ one two of_cell of_pin x y user =
       let both : true ≡ false = sym of_cell ∙ (ap is_cell_user user ∙ of_pin) in absurd cc
 
-  registers-apart : AreApart RegistersDiffer (registers_of (cells_of db image) ++ pin_registers_of db image (pins_of db image))
-  registers-apart =
-      let flips = registers_of (cells_of db image) in
+  registers-apart : (inputs : LutInputs) → AreApart RegistersDiffer (registers_of inputs (cells_of db image) ++ pin_registers_of db image (pins_of db image))
+  registers-apart inputs =
+      let flips = registers_of inputs (cells_of db image) in
       let of_pins = pin_registers_of db image (pins_of db image) in
-      apart-append RegistersDiffer flips of_pins flips-apart pin_registers-apart
+      apart-append RegistersDiffer flips of_pins (flips-apart inputs) pin_registers-apart
       (All-weaker (λ (register : Register). is_cell_user register.user ≡ true) (λ one. All (RegistersDiffer one) of_pins)
       (λ one of_cell. All-weaker (λ (register : Register). is_cell_user register.user ≡ false) (RegistersDiffer one)
-      (λ two of_pin. users-differ one two of_cell of_pin) of_pins pin_registers-of_pins) flips flips-of_cells)
+      (λ two of_pin. users-differ one two of_cell of_pin) of_pins pin_registers-of_pins) flips (flips-of_cells inputs))
 
   -- ---- carry inputs that are set
 
@@ -271,9 +272,9 @@ module _ (db : Database) (image : Configuration) where
       (apart-filter (λ (one two : ℕ × Link). one.0 ≢ two.0) (λ place. is_link_on image place.1) (numbered db.buffers) (numbered-apart 0 db.buffers))
 
   -- the parts that a database and an image configure are apart
-  pub parts-apart : ArePartsApart (fabric_of db image)
-  unfolding fabric_of
-  parts-apart = record { pins = pins-apart; lcs = cells-apart; registers = registers-apart; sets = sets-apart; rams = rams-apart; globals = globals-apart; buffers = buffers-apart }
+  pub parts-apart : (inputs : LutInputs) → ArePartsApart (fabric_with inputs db image)
+  unfolding fabric_with
+  parts-apart inputs = record { pins = pins-apart; lcs = cells-apart; registers = registers-apart inputs; sets = sets-apart; rams = rams-apart; globals = globals-apart; buffers = buffers-apart }
 
 -- ---- drivers that differ
 
@@ -474,17 +475,17 @@ module _ (fabric : Fabric) (parts : ArePartsApart fabric) where
       each-kind PinsDiffer (λ pin. driver.Back pin.x pin.y pin.n) (output_rule fabric.registers) (λ pin. pin.din)
       2 (λ pin. refl) (λ a b other same. other (cc) (cc) (cc)) (filter (λ pin. pin.back) fabric.pins) (apart-filter PinsDiffer (λ pin. pin.back) fabric.pins parts.pins)
 
-  luts-kind : IsOfKind 3 (flat_map lut_drives (filter (λ lc. not lc.flip) fabric.lcs))
+  luts-kind : IsOfKind 3 (flat_map (lut_drives fabric.lut_inputs) (filter (λ lc. not lc.flip) fabric.lcs))
   luts-kind =
-      each-kind CellsDiffer (λ lc. driver.Lut lc.x lc.y lc.i) (λ lc. Rule.table_entry (table_of lc)) (λ lc. lc.out)
+      each-kind CellsDiffer (λ lc. driver.Lut lc.x lc.y lc.i) (λ lc. Rule.table_entry (table_of fabric.lut_inputs lc)) (λ lc. lc.out)
       3 (λ lc. refl) (λ a b other same. other (cc) (cc) (cc)) (filter (λ lc. not lc.flip) fabric.lcs) (apart-filter CellsDiffer (λ lc. not lc.flip) fabric.lcs parts.lcs)
 
   flips-kind : IsOfKind 4 (flat_map flip_drives (numbered fabric.registers))
   flips-kind = registers-kind 4 flip_driver (record { kind = flip-kind; tells = flip-tells }) fabric.registers parts.registers
 
-  louts-kind : IsOfKind 5 (flat_map lout_drives fabric.lcs)
+  louts-kind : IsOfKind 5 (flat_map (lout_drives fabric.lut_inputs) fabric.lcs)
   louts-kind =
-      each-kind CellsDiffer (λ lc. driver.Lout lc.x lc.y lc.i) (λ lc. Rule.table_entry (table_of lc)) (λ lc. lc.lout)
+      each-kind CellsDiffer (λ lc. driver.Lout lc.x lc.y lc.i) (λ lc. Rule.table_entry (table_of fabric.lut_inputs lc)) (λ lc. lc.lout)
       5 (λ lc. refl) (λ a b other same. other (cc) (cc) (cc)) fabric.lcs parts.lcs
 
   carries-kind : IsOfKind 6 (flat_map carry_drives (filter (λ lc. lc.carry) fabric.lcs))
@@ -518,11 +519,11 @@ module _ (fabric : Fabric) (parts : ArePartsApart fabric) where
       (then-kinds 10 _ _ buffers-kind (last-kind 11 _ pin_registers-kind))))))))))).apart
 
 -- the first two drivers of a class are two
-pub first-differ : (db : Database) (image : Configuration) (class : ℕ) (one two : Drive) (rest : List Drive)
-    → drivers_of (fabric_of db image) class ≡ one ∷ two ∷ rest → one.driver ≢ two.driver
+pub first-differ : (inputs : LutInputs) (db : Database) (image : Configuration) (class : ℕ) (one two : Drive) (rest : List Drive)
+    → drivers_of (fabric_with inputs db image) class ≡ one ∷ two ∷ rest → one.driver ≢ two.driver
 unfolding drivers_of
-first-differ db image class one two rest is =
-    let fabric = fabric_of db image in
+first-differ inputs db image class one two rest is =
+    let fabric = fabric_with inputs db image in
     let apart : AreApart DriversDiffer (one ∷ two ∷ rest) = subst (AreApart DriversDiffer) is
-    (apart-filter DriversDiffer (is_driver_of fabric class) (drives_of fabric) (drivers-apart fabric (parts-apart db image))) in
+    (apart-filter DriversDiffer (is_driver_of fabric class) (drives_of fabric) (drivers-apart fabric (parts-apart db image inputs))) in
     All-head (DriversDiffer one) two rest apart.0

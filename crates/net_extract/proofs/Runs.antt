@@ -12,10 +12,10 @@ use Rattle.plane_map.specs.declared.device.DeviceName.{DeviceName}
 use Rattle.plane_map.specs.declared.tile.TileKind.TheVariants.{Io, Logic, RamB}
 use Rattle.plane_map.specs.Layout.{grid_width, grid_height}
 use Rattle.chipdb_reader.specs.Database.{Database}
-use Rattle.chipdb_reader.specs.Fit.{IsFit}
 use Rattle.ice_image.specs.Configuration.{Configuration}
 use Rattle.place_search.specs.Places.{gathered_below}
 use Rattle.net_extract.specs.declared.cell.Lc.{Lc}
+use Rattle.net_extract.specs.declared.lut_inputs.LutInputs.{LutInputs}
 use Rattle.net_extract.specs.declared.register.Register.{Register}
 use Rattle.net_extract.specs.declared.ram.RamCell.{RamCell}
 use Rattle.net_extract.specs.declared.pin.Pin.{Pin}
@@ -25,17 +25,17 @@ use Rattle.net_extract.specs.Tiles.{over_grid}
 use Rattle.net_extract.specs.Cells.{cell_bits, cell_with, used_cell, cells_at, cells_of}
 use Rattle.net_extract.specs.Rams.{is_ram_used, ram_at, rams_of}
 use Rattle.net_extract.specs.Pins.{is_registered, pin_with, port_at, pins_of}
-use Rattle.net_extract.specs.Fabric.{Fabric, numbered, inputs_of, fabric_of}
+use Rattle.net_extract.specs.Fabric.{Fabric, numbered, inputs_of, fabric_with}
 use Rattle.net_extract.specs.Registers.{register_of, registers_of, pin_register, pin_registers_of}
 use Rattle.net_extract.specs.Values.{State, bit_in, is_connected, IsConsistent}
 use Rattle.net_extract.specs.Steps.{has_edge, bit_after, words_after, read_after, state_after, settled_state, Event, Entry, output_values, IsEntry, Follows, start_state, IsFirst, FollowEach, IsRun}
 use Rattle.net_extract.specs.Clocks.{ClockEnd, User, register_user, ram_users, users_at, users_of, clock_end}
 use Rattle.net_extract.specs.Clocks.ClockEnd.{at_pin, undriven, logic}
-use Rattle.net_extract.specs.Faults.{end_fault, user_fault, clock_faults, fabric_fault, design_fault}
+use Rattle.net_extract.specs.Faults.{end_fault, user_fault, clock_faults, fabric_fault}
 use Rattle.net_extract.proofs.OneValue.{IsWithin, filter-has}
-use Rattle.net_extract.proofs.Taken.{design-taken, taken-order, taken-value, taken-clocks}
+use Rattle.net_extract.proofs.Taken.{taken-order, taken-value, taken-clocks}
 use Rattle.net_extract.proofs.Chains.{clock_end-leads, HasEndValue, clock-value}
-use Rattle.net_extract.proofs.Within.{fabric-within, All-item_if, All-if, All-single, All-over_tiles, All-numbered}
+use Rattle.net_extract.proofs.Within.{All-item_if, All-if, All-single, All-over_tiles, All-numbered}
 use Rattle.net_extract.proofs.Settling.{settled-twice, consistent-settled, consistent-unsettled}
 
 -- ---- lists
@@ -106,16 +106,18 @@ module _ (db : Database) (image : Configuration) where
       (λ i below. All-item_if (λ lc. IsAt image.layout.device lc.x lc.y) _ (cell_with db image x y i (cell_bits db image x y i))
       (cell-placed x y i (cell_bits db image x y i) (record { left = left; low = low }))))
 
-  register-placed : (lc : Lc) → IsAt image.layout.device lc.x lc.y → IsAt image.layout.device (register_of lc).x (register_of lc).y
+  register-placed : (inputs : LutInputs) (lc : Lc) → IsAt image.layout.device lc.x lc.y
+      → IsAt image.layout.device (register_of inputs lc).x (register_of inputs lc).y
   unfolding register_of
-  register-placed lc at = at
+  register-placed inputs lc at = at
 
-  flips-placed : All (λ register. IsAt image.layout.device register.x register.y) (registers_of (cells_of db image))
+  flips-placed : (inputs : LutInputs) → All (λ register. IsAt image.layout.device register.x register.y) (registers_of inputs (cells_of db image))
   unfolding registers_of
-  flips-placed =
-      All-map (λ register. IsAt image.layout.device register.x register.y) register_of (filter (λ lc. lc.flip) (cells_of db image))
-      (All-filter (λ lc. lc.flip) (λ lc. IsAt image.layout.device (register_of lc).x (register_of lc).y) (cells_of db image)
-      (All-weaker (λ lc. IsAt image.layout.device lc.x lc.y) (λ lc. IsAt image.layout.device (register_of lc).x (register_of lc).y) register-placed (cells_of db image) cells-placed))
+  flips-placed inputs =
+      let made = register_of inputs in
+      All-map (λ register. IsAt image.layout.device register.x register.y) made (filter (λ lc. lc.flip) (cells_of db image))
+      (All-filter (λ lc. lc.flip) (λ lc. IsAt image.layout.device (made lc).x (made lc).y) (cells_of db image)
+      (All-weaker (λ lc. IsAt image.layout.device lc.x lc.y) (λ lc. IsAt image.layout.device (made lc).x (made lc).y) (register-placed inputs) (cells_of db image) cells-placed))
 
   pin_register-placed : (inputs : List Pin) (pin : Pin) → IsAt image.layout.device pin.x pin.y
       → IsAt image.layout.device (pin_register db image inputs pin).x (pin_register db image inputs pin).y
@@ -142,12 +144,12 @@ module _ (db : Database) (image : Configuration) where
       (All-single (λ ram. IsAt image.layout.device ram.x ram.y) (ram_at db image x y) (ram-placed x y (record { left = left; low = low }))))
 
   -- pins, cells, registers and RAMs of a database and an image stand at places of the grid
-  pub fabric-placed : IsPlaced image.layout.device (fabric_of db image)
-  unfolding fabric_of
-  fabric-placed = record {
+  pub fabric-placed : (inputs : LutInputs) → IsPlaced image.layout.device (fabric_with inputs db image)
+  unfolding fabric_with
+  fabric-placed inputs = record {
     pins = pins-placed;
     lcs = cells-placed;
-    registers = All-append (λ register. IsAt image.layout.device register.x register.y) (registers_of (cells_of db image)) (pin_registers_of db image (pins_of db image)) flips-placed pin_registers-placed;
+    registers = All-append (λ register. IsAt image.layout.device register.x register.y) (registers_of inputs (cells_of db image)) (pin_registers_of db image (pins_of db image)) (flips-placed inputs) pin_registers-placed;
     rams = rams-placed;
   }
 
@@ -486,8 +488,3 @@ module _ (device : DeviceName) (fabric : Fabric) (taken : fabric_fault device fa
         → AllByRecursion (λ (e : Entry). ClocksAgree fabric (bit_in e.v) (clock_bit fabric e.pins)) entries
     run-clocks events [] run = tt
     run-clocks events (first ∷ entries) run = (entry-clocks first run.0.entry_is, follow-clocks first events entries run.1)
-
--- A database and an image that aren't refused have exactly one run for each list of events.
-pub design-run : (db : Database) (image : Configuration) → IsFit db → design_fault db image ≡ None → (events : List Event) → ExactlyOne (IsRun (fabric_of db image) events)
-design-run db image fit none events =
-    taken-run image.layout.device (fabric_of db image) (design-taken db image none).fabric (fabric-placed db image) (fabric-within db image fit) events

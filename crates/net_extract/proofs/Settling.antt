@@ -121,9 +121,9 @@ module _ (fabric : Fabric) where
       let joins = All-append DriveHas in
       joins _ _ (each-has pin_drives pin_drives-has (numbered (inputs_of fabric)))
       (joins _ _ (each-has (back_drives fabric.registers) (λ pin. drives_if-has _ (output_rule fabric.registers pin) pin.din (output_rule-has pin)) (filter (λ pin. pin.back) fabric.pins))
-      (joins _ _ (each-has lut_drives (λ lc. drives_if-has _ (table_entry (table_of lc)) lc.out tt) (filter (λ lc. not lc.flip) fabric.lcs))
+      (joins _ _ (each-has (lut_drives fabric.lut_inputs) (λ lc. drives_if-has _ (table_entry (table_of fabric.lut_inputs lc)) lc.out tt) (filter (λ lc. not lc.flip) fabric.lcs))
       (joins _ _ (registers-have flip_driver)
-      (joins _ _ (each-has lout_drives (λ lc. drives_if-has _ (table_entry (table_of lc)) lc.lout tt) fabric.lcs)
+      (joins _ _ (each-has (lout_drives fabric.lut_inputs) (λ lc. drives_if-has _ (table_entry (table_of fabric.lut_inputs lc)) lc.lout tt) fabric.lcs)
       (joins _ _ (each-has carry_drives (λ lc. drives_if-has _ (majority_of (get_or lc.ins 1 None) (get_or lc.ins 2 None) lc.cin) lc.cout tt) (filter (λ lc. lc.carry) fabric.lcs))
       (joins _ _ (each-has set_drives (λ set. drives_if-has _ (constant true) (Some set.net) tt) fabric.sets)
       (joins _ _ (each-has ram_drives ram_drives-has (numbered fabric.rams))

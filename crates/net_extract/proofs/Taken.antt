@@ -9,9 +9,10 @@ use Rattle.ice_image.specs.Configuration.{Configuration}
 use Rattle.chipdb_reader.specs.Database.{Database}
 use Rattle.place_search.specs.Places.{gathered_below}
 use Rattle.place_search.proofs.Found.{or_else-first, or_else-other}
+use Rattle.net_extract.specs.declared.lut_inputs.LutInputs.{LutInputs}
 use Rattle.net_extract.specs.Unique.{ExactlyOne}
 use Rattle.net_extract.specs.Tiles.{item_if, first_of}
-use Rattle.net_extract.specs.Fabric.{Fabric, fabric_of}
+use Rattle.net_extract.specs.Fabric.{Fabric, fabric_with}
 use Rattle.net_extract.specs.Drivers.{Drive, drivers_of}
 use Rattle.net_extract.specs.Values.{State, IsConsistent}
 use Rattle.net_extract.specs.Wiring.{wiring_of, is_on_cycle, IsWriteOrder}
@@ -93,14 +94,14 @@ module _ (device : DeviceName) (fabric : Fabric) (taken : fabric_fault device fa
         }
 
 -- what has no fault is a fabric without a fault, of one device, whose pins have no fault
-pub record IsTaken (db : Database) (image : Configuration) : Type 0 where
+pub record IsTaken (inputs : LutInputs) (db : Database) (image : Configuration) : Type 0 where
   pub device : device_faults db image ≡ []
   pub pins : pin_faults db image ≡ []
-  pub fabric : fabric_fault image.layout.device (fabric_of db image) ≡ None
+  pub fabric : fabric_fault image.layout.device (fabric_with inputs db image) ≡ None
 
-pub design-taken : (db : Database) (image : Configuration) → design_fault db image ≡ None → IsTaken db image
+pub design-taken : (inputs : LutInputs) (db : Database) (image : Configuration) → design_fault inputs db image ≡ None → IsTaken inputs db image
 unfolding design_fault pins_fault
-design-taken db image none =
+design-taken inputs db image none =
     let first = first_of (device_faults db image) in
     let behind = or_else-other first _ none in
     record {

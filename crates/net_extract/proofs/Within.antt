@@ -19,6 +19,9 @@ use Rattle.chipdb_reader.specs.Fit.{IsFit, IsNameLine, IsLink}
 use Rattle.ice_image.specs.Configuration.{Configuration}
 use Rattle.place_search.specs.Places.{gathered_below, or_else}
 use Rattle.net_extract.specs.declared.cell.Lc.{Lc}
+use Rattle.net_extract.specs.declared.lut_inputs.LutInputs.{LutInputs}
+use Rattle.net_extract.specs.declared.lut_inputs.LutInputs.TheVariants as read
+use Rattle.net_extract.specs.Luts.{uses_input, used_input, inputs_read}
 use Rattle.net_extract.specs.declared.cell.CarrySet.{CarrySet}
 use Rattle.net_extract.specs.declared.register.Source.{Source}
 use Rattle.net_extract.specs.declared.register.Source.TheVariants.{Net, Pin as SourcePin}
@@ -35,7 +38,7 @@ use Rattle.net_extract.specs.Nets.{net_named}
 use Rattle.net_extract.specs.Cells.{cell_bits, cell_with, used_cell, cells_at, cells_of, set_with, sets_at, sets_of, carry_in_net}
 use Rattle.net_extract.specs.Rams.{port_net, is_ram_used, ram_at, rams_of}
 use Rattle.net_extract.specs.Pins.{is_registered, pin_with, port_at, pins_of, global_fabout, global_source, source_of_global, global_pad, is_global_net, global_nets, nets_from, globals_of}
-use Rattle.net_extract.specs.Fabric.{Fabric, Buffer, numbered_from, numbered, joins_of, buffer_of, buffers_of, fabric_of, inputs_of}
+use Rattle.net_extract.specs.Fabric.{Fabric, Buffer, numbered_from, numbered, joins_of, buffer_of, buffers_of, fabric_with, inputs_of}
 use Rattle.net_extract.specs.Drivers.{Rule, Drive, drives_if, drives_by, pin_drives, is_output_register, register_rule, output_rule, back_drives, lut_drives, flip_driver, flip_drives, lout_drives, carry_drives, set_drives, read_data_rule, ram_drive, ram_drives, global_rule, global_drives, buffer_drives, pin_register_driver, pin_register_drives, drives_of, source_nets, nets_read}
 use Rattle.net_extract.specs.Drivers.Rule.{pin_bit, constant, input, table_entry, majority_of, register_bit, read_bit, copied}
 use Rattle.net_extract.specs.Wiring.{has}
@@ -131,9 +134,27 @@ source-in nets (SourcePin place) in' = All-nil (Below nets)
 sources-in : (nets : ℕ) (ins : List Source) → All (IsSourceIn nets) ins → All (Below nets) (flat_map source_nets ins)
 sources-in nets ins all = All-flat_map (Below nets) source_nets ins (All-weaker (IsSourceIn nets) (λ source. All (Below nets) (source_nets source)) (source-in nets) ins all)
 
--- the inputs of a cell are those of its table
-cell_sources-in : (nets : ℕ) (lc : Lc) → IsCellIn nets lc → All (IsSourceIn nets) (table_of lc).ins
-cell_sources-in nets lc in' = All-map (IsSourceIn nets) Net lc.ins in'.ins
+-- the inputs that a LUT reads are inputs of its cell
+used_input-in : (nets word : ℕ) (ins : List (Option ℕ)) (k : ℕ) → All (IsNetIn nets) ins → IsNetIn nets (used_input word ins k)
+used_input-in nets word ins k all =
+    elim (cases_Bool (uses_input word k)) [
+      | inl used ↦ rw used (get_or-in nets ins k all)
+      | inr unused ↦ rw unused tt
+    ]
+
+inputs_read-in : (nets : ℕ) (inputs : LutInputs) (word : ℕ) (ins : List (Option ℕ)) → All (IsNetIn nets) ins → All (IsNetIn nets) (inputs_read inputs word ins)
+inputs_read-in nets read.All word ins all = all
+inputs_read-in nets read.Used word ins all =
+    let P = IsNetIn nets in
+    let input : (k : ℕ) → P (used_input word ins k) = λ k. used_input-in nets word ins k all in
+    let used : ℕ → Option ℕ = used_input word ins in
+    All-cons P (used 0) (used 1 ∷ used 2 ∷ used 3 ∷ []) (input 0)
+    (All-cons P (used 1) (used 2 ∷ used 3 ∷ []) (input 1) (All-cons P (used 2) (used 3 ∷ []) (input 2) (All-cons P (used 3) [] (input 3) (All-nil P))))
+
+-- so are those of its table
+cell_sources-in : (nets : ℕ) (inputs : LutInputs) (lc : Lc) → IsCellIn nets lc → All (IsSourceIn nets) (table_of inputs lc).ins
+cell_sources-in nets inputs lc in' =
+    All-map (IsSourceIn nets) Net (inputs_read inputs lc.lut lc.ins) (inputs_read-in nets inputs lc.lut lc.ins in'.ins)
 
 -- ---- drivers
 
@@ -182,12 +203,12 @@ module _ (nets : ℕ) where
   back_drives-in : (registers : List Register) → All (IsRegisterIn nets) registers → (pin : Pin) → IsPinIn nets pin → All (IsDriveIn nets) (back_drives registers pin)
   back_drives-in registers all pin in' = drives_if-in nets _ (output_rule registers pin) pin.din in'.din (output_rule-in registers pin all in')
 
-  lut_reads-in : (lc : Lc) → IsCellIn nets lc → All (Below nets) (nets_read (table_entry (table_of lc)))
+  lut_reads-in : (inputs : LutInputs) (lc : Lc) → IsCellIn nets lc → All (Below nets) (nets_read (table_entry (table_of inputs lc)))
   unfolding nets_read
-  lut_reads-in lc in' = sources-in nets (table_of lc).ins (cell_sources-in nets lc in')
+  lut_reads-in inputs lc in' = sources-in nets (table_of inputs lc).ins (cell_sources-in nets inputs lc in')
 
-  lut_drives-in : (lc : Lc) → IsCellIn nets lc → All (IsDriveIn nets) (lut_drives lc)
-  lut_drives-in lc in' = drives_if-in nets _ (table_entry (table_of lc)) lc.out in'.out (lut_reads-in lc in')
+  lut_drives-in : (inputs : LutInputs) (lc : Lc) → IsCellIn nets lc → All (IsDriveIn nets) (lut_drives inputs lc)
+  lut_drives-in inputs lc in' = drives_if-in nets _ (table_entry (table_of inputs lc)) lc.out in'.out (lut_reads-in inputs lc in')
 
   drives_by-in : (place : ℕ × Register) (by : Option Driver) → IsRegisterIn nets place.1 → All (IsDriveIn nets) (drives_by place by)
   drives_by-in place None in' = All-nil (IsDriveIn nets)
@@ -199,8 +220,8 @@ module _ (nets : ℕ) where
   pin_register_drives-in : (place : ℕ × Register) → IsRegisterIn nets place.1 → All (IsDriveIn nets) (pin_register_drives place)
   pin_register_drives-in place in' = drives_by-in place (pin_register_driver place.1 place.1.user) in'
 
-  lout_drives-in : (lc : Lc) → IsCellIn nets lc → All (IsDriveIn nets) (lout_drives lc)
-  lout_drives-in lc in' = drives_if-in nets _ (table_entry (table_of lc)) lc.lout in'.lout (lut_reads-in lc in')
+  lout_drives-in : (inputs : LutInputs) (lc : Lc) → IsCellIn nets lc → All (IsDriveIn nets) (lout_drives inputs lc)
+  lout_drives-in inputs lc in' = drives_if-in nets _ (table_entry (table_of inputs lc)) lc.lout in'.lout (lut_reads-in inputs lc in')
 
   carry_drives-in : (lc : Lc) → IsCellIn nets lc → All (IsDriveIn nets) (carry_drives lc)
   unfolding nets_read
@@ -256,10 +277,10 @@ module _ (fabric : Fabric) (in' : HasNetsIn fabric) where
       let inputs = All-filter (λ pin. not pin.output) (IsPinIn nets) fabric.pins in'.pins in
       All-then _ _ (gives-in nets (λ (place : ℕ × Pin). IsPinIn nets place.1) pin_drives (pin_drives-in nets) (numbered (inputs_of fabric)) (All-numbered (IsPinIn nets) 0 (inputs_of fabric) inputs))
       (All-then _ _ (gives-in nets (IsPinIn nets) (back_drives fabric.registers) (back_drives-in nets fabric.registers in'.registers) _ (All-filter (λ pin. pin.back) (IsPinIn nets) fabric.pins in'.pins))
-      (All-then _ _ (gives-in nets (IsCellIn nets) lut_drives (lut_drives-in nets) _ (All-filter (λ lc. not lc.flip) (IsCellIn nets) fabric.lcs in'.lcs))
+      (All-then _ _ (gives-in nets (IsCellIn nets) (lut_drives fabric.lut_inputs) (lut_drives-in nets fabric.lut_inputs) _ (All-filter (λ lc. not lc.flip) (IsCellIn nets) fabric.lcs in'.lcs))
       (All-then _ _ (gives-in nets (λ (place : ℕ × Register). IsRegisterIn nets place.1) flip_drives (flip_drives-in nets) (numbered fabric.registers)
       (All-numbered (IsRegisterIn nets) 0 fabric.registers in'.registers))
-      (All-then _ _ (gives-in nets (IsCellIn nets) lout_drives (lout_drives-in nets) fabric.lcs in'.lcs)
+      (All-then _ _ (gives-in nets (IsCellIn nets) (lout_drives fabric.lut_inputs) (lout_drives-in nets fabric.lut_inputs) fabric.lcs in'.lcs)
       (All-then _ _ (gives-in nets (IsCellIn nets) carry_drives (carry_drives-in nets) _ (All-filter (λ lc. lc.carry) (IsCellIn nets) fabric.lcs in'.lcs))
       (All-then _ _ (gives-in nets (IsSetIn nets) set_drives (set_drives-in nets) fabric.sets in'.sets)
       (All-then _ _ (gives-in nets (λ (place : ℕ × RamCell). IsRamIn nets place.1) ram_drives (ram_drives-in nets) (numbered fabric.rams) (All-numbered (IsRamIn nets) 0 fabric.rams in'.rams))
@@ -377,22 +398,22 @@ module _ (db : Database) (image : Configuration) (fit : IsFit db) where
   unfolding cells_of
   cells-in = All-over_tiles (IsCellIn db.chip.nets) image.layout.device Logic (cells_at db image) (λ x y left low. cells_at-in x y)
 
-  register_of-in : (lc : Lc) → IsCellIn db.chip.nets lc → IsRegisterIn db.chip.nets (register_of lc)
+  register_of-in : (inputs : LutInputs) (lc : Lc) → IsCellIn db.chip.nets lc → IsRegisterIn db.chip.nets (register_of inputs lc)
   unfolding register_of
-  register_of-in lc in' = record {
+  register_of-in inputs lc in' = record {
     out = in'.out;
     clk = in'.clk;
     cen = in'.cen;
     sr = in'.sr;
-    ins = cell_sources-in db.chip.nets lc in';
+    ins = cell_sources-in db.chip.nets inputs lc in';
   }
 
-  flips-in : All (IsRegisterIn db.chip.nets) (registers_of (cells_of db image))
+  flips-in : (inputs : LutInputs) → All (IsRegisterIn db.chip.nets) (registers_of inputs (cells_of db image))
   unfolding registers_of
-  flips-in =
-      All-map (IsRegisterIn db.chip.nets) register_of (filter (λ lc. lc.flip) (cells_of db image))
-      (All-filter (λ lc. lc.flip) (λ lc. IsRegisterIn db.chip.nets (register_of lc)) (cells_of db image)
-      (All-weaker (IsCellIn db.chip.nets) (λ lc. IsRegisterIn db.chip.nets (register_of lc)) register_of-in (cells_of db image) cells-in))
+  flips-in inputs =
+      All-map (IsRegisterIn db.chip.nets) (register_of inputs) (filter (λ lc. lc.flip) (cells_of db image))
+      (All-filter (λ lc. lc.flip) (λ lc. IsRegisterIn db.chip.nets (register_of inputs lc)) (cells_of db image)
+      (All-weaker (IsCellIn db.chip.nets) (λ lc. IsRegisterIn db.chip.nets (register_of inputs lc)) (register_of-in inputs) (cells_of db image) cells-in))
 
   pin_source-in : (inputs : List Pin) (pin : Pin) → IsPinIn db.chip.nets pin → IsSourceIn db.chip.nets (pin_source inputs pin)
   pin_source-in inputs pin in' = elim (cases_Bool pin.output) [ inl out ↦ rw out (in'.dout) | inr goes_in ↦ rw goes_in tt ]
@@ -483,19 +504,19 @@ module _ (db : Database) (image : Configuration) (fit : IsFit db) where
       All-gathered_below (IsGlobalIn db.chip.nets) 8 (λ g. nets_from db g (global_source db image g))
       (λ g below. nets_from-in g (global_source db image g) (global_source-in (global_pad db image g) (global_fabout db g) (fabout-in (input_of g db.global_inputs) _)))
 
-  pub fabric-in : HasNetsIn (fabric_of db image)
-  unfolding fabric_of
-  fabric-in = record {
+  pub fabric-in : (inputs : LutInputs) → HasNetsIn (fabric_with inputs db image)
+  unfolding fabric_with
+  fabric-in inputs = record {
     joins = joins-in;
     buffers = buffers-in;
     pins = pins-in;
     globals = globals-in;
     lcs = cells-in;
-    registers = All-append (IsRegisterIn db.chip.nets) (registers_of (cells_of db image)) (pin_registers_of db image (pins_of db image)) flips-in pin_registers-in;
+    registers = All-append (IsRegisterIn db.chip.nets) (registers_of inputs (cells_of db image)) (pin_registers_of db image (pins_of db image)) (flips-in inputs) pin_registers-in;
     sets = sets-in;
     rams = rams-in;
   }
 
   -- all nets of the fabric are nets of the device
-  pub fabric-within : IsWithin (fabric_of db image)
-  fabric-within = within-parts (fabric_of db image) fabric-in
+  pub fabric-within : (inputs : LutInputs) → IsWithin (fabric_with inputs db image)
+  fabric-within inputs = within-parts (fabric_with inputs db image) (fabric-in inputs)

@@ -3,6 +3,7 @@ use Rattle.std.specs.Prelude.{ℕ, Bool, true, false, not, ◌&&◌, ◌-◌, �
 use Rattle.std.specs.List.{list_any}
 use Rattle.net_extract.specs.declared.cell.Lc.{Lc}
 use Rattle.net_extract.specs.declared.cell.CarrySet.{CarrySet}
+use Rattle.net_extract.specs.declared.lut_inputs.LutInputs.{LutInputs}
 use Rattle.net_extract.specs.declared.ram.RamCell.{RamCell}
 use Rattle.net_extract.specs.declared.pin.Pin.{Pin}
 use Rattle.net_extract.specs.declared.pin.GlobalNet.{GlobalNet}
@@ -85,8 +86,8 @@ abbrev pub back_drives : List Register → Pin → List Drive
 back_drives registers pin = drives_if (driver.Back pin.x pin.y pin.n) (output_rule registers pin) pin.din
 
 -- 3: `lutff_i/out` of a cell without flip-flop has the LUT's value
-abbrev pub lut_drives : Lc → List Drive
-lut_drives lc = drives_if (driver.Lut lc.x lc.y lc.i) (table_entry (table_of lc)) lc.out
+abbrev pub lut_drives : LutInputs → Lc → List Drive
+lut_drives inputs lc = drives_if (driver.Lut lc.x lc.y lc.i) (table_entry (table_of inputs lc)) lc.out
 
 -- what a register with a driver drives
 abbrev pub drives_by : ℕ × Register → Option Driver → List Drive
@@ -103,8 +104,8 @@ abbrev pub flip_drives : ℕ × Register → List Drive
 flip_drives place = drives_by place (flip_driver place.1 place.1.user)
 
 -- 5: `lutff_i/lout` has the LUT's value
-abbrev pub lout_drives : Lc → List Drive
-lout_drives lc = drives_if (driver.Lout lc.x lc.y lc.i) (table_entry (table_of lc)) lc.lout
+abbrev pub lout_drives : LutInputs → Lc → List Drive
+lout_drives inputs lc = drives_if (driver.Lout lc.x lc.y lc.i) (table_entry (table_of inputs lc)) lc.lout
 
 -- 6: `lutff_i/cout` of a cell that carries is what two of in_1, in_2 and the carry in are
 abbrev pub carry_drives : Lc → List Drive
@@ -156,9 +157,9 @@ unfoldable pub drives_of : Fabric → List Drive
 drives_of fabric =
     flat_map pin_drives (numbered (inputs_of fabric))
     ++ (flat_map (back_drives fabric.registers) (filter (λ pin. pin.back) fabric.pins)
-    ++ (flat_map lut_drives (filter (λ lc. not lc.flip) fabric.lcs)
+    ++ (flat_map (lut_drives fabric.lut_inputs) (filter (λ lc. not lc.flip) fabric.lcs)
     ++ (flat_map flip_drives (numbered fabric.registers)
-    ++ (flat_map lout_drives fabric.lcs
+    ++ (flat_map (lout_drives fabric.lut_inputs) fabric.lcs
     ++ (flat_map carry_drives (filter (λ lc. lc.carry) fabric.lcs)
     ++ (flat_map set_drives fabric.sets
     ++ (flat_map ram_drives (numbered fabric.rams)
@@ -185,7 +186,7 @@ abbrev pub source_nets : Source → List ℕ
 source_nets (Net net) = option_to_list net
 source_nets (SourcePin place) = []
 
--- The nets that a driver reads. A LUT reads its four inputs, a carry out in_1, in_2 and the carry in, and a register whose reset
+-- The nets that a driver reads. A LUT reads the inputs of its table, a carry out in_1, in_2 and the carry in, and a register whose reset
 -- acts at once its reset.
 unfoldable pub nets_read : Rule → List ℕ
 nets_read (pin_bit place) = []

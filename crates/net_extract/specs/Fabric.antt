@@ -4,6 +4,8 @@ use Rattle.ice_image.specs.Configuration.{Configuration}
 use Rattle.chipdb_reader.specs.Database.{Database, Link}
 use Rattle.net_extract.specs.declared.cell.Lc.{Lc}
 use Rattle.net_extract.specs.declared.cell.CarrySet.{CarrySet}
+use Rattle.net_extract.specs.declared.lut_inputs.LutInputs.{LutInputs}
+use Rattle.net_extract.specs.declared.lut_inputs.LutInputs.TheVariants as read
 use Rattle.net_extract.specs.declared.register.Register.{Register}
 use Rattle.net_extract.specs.declared.ram.RamCell.{RamCell}
 use Rattle.net_extract.specs.declared.pin.Pin.{Pin}
@@ -21,13 +23,14 @@ pub record Buffer : Type 0 where
   pub dst : ℕ
 
 -- The nets are the numbers below `nets`. Each list is in the order of tiles, buffers in that of the database. The registers are the
--- flip-flops of the cells, then those of pins.
+-- flip-flops of the cells, then those of pins. `lut_inputs` tells which inputs the LUTs of the cells read.
 pub record Fabric : Type 0 where
   pub nets : ℕ
   pub joins : List (ℕ × ℕ)
   pub buffers : List Buffer
   pub pins : List Pin
   pub globals : List GlobalNet
+  pub lut_inputs : LutInputs
   pub lcs : List Lc
   pub registers : List Register
   pub sets : List CarrySet
@@ -60,20 +63,25 @@ buffers_of db image = map buffer_of (filter (λ place. is_link_on image place.1)
 
 -- ---- the whole
 
--- what a database and an image configure
-unfoldable pub fabric_of : Database → Configuration → Fabric
-fabric_of db image = record {
+-- what a database and an image configure, where the LUTs read these inputs
+unfoldable pub fabric_with : LutInputs → Database → Configuration → Fabric
+fabric_with inputs db image = record {
   nets = db.chip.nets;
   joins = joins_of db image;
   buffers = buffers_of db image;
   pins = pins_of db image;
   globals = globals_of db image;
+  lut_inputs = inputs;
   lcs = cells_of db image;
-  registers = registers_of (cells_of db image) ++ pin_registers_of db image (pins_of db image);
+  registers = registers_of inputs (cells_of db image) ++ pin_registers_of db image (pins_of db image);
   sets = sets_of db image;
   rams = rams_of db image;
   start = over_rams db image (λ x y. start_words image x y ∷ []);
 }
+
+-- what a database and an image configure: LUTs read all of their inputs
+abbrev pub fabric_of : Database → Configuration → Fabric
+fabric_of db image = fabric_with read.All db image
 
 -- ---- parts of the parts
 

@@ -7,12 +7,13 @@ use Rattle.plane_map.specs.declared.tile.TileKind.TheVariants.{Io}
 use Rattle.ice_image.specs.Configuration.{Configuration}
 use Rattle.chipdb_reader.specs.Database.{Database}
 use Rattle.place_search.specs.Places.{gathered_below, or_else}
+use Rattle.net_extract.specs.declared.lut_inputs.LutInputs.{LutInputs}
 use Rattle.net_extract.specs.declared.driver.Driver.{Driver}
 use Rattle.net_extract.specs.declared.driver.ClockUser.{ClockUser}
 use Rattle.net_extract.specs.Tiles.{over_tiles, item_if, first_of}
 use Rattle.net_extract.specs.Rams.{over_rams, is_cascaded}
 use Rattle.net_extract.specs.Pins.{over_pins, pintype_of, is_refused_with, has_pll}
-use Rattle.net_extract.specs.Fabric.{Fabric, fabric_of}
+use Rattle.net_extract.specs.Fabric.{Fabric, fabric_with}
 use Rattle.net_extract.specs.Drivers.{Drive, drivers_of}
 use Rattle.net_extract.specs.Wiring.{Wiring, wiring_of, is_on_cycle}
 use Rattle.net_extract.specs.Clocks.{ClockEnd, User, users_of, clock_end}
@@ -105,10 +106,10 @@ fabric_fault device fabric =
     (or_else (first_of (loop_faults (wiring_of fabric)))
     (first_of (clock_faults device fabric)))
 
--- why a database and an image aren't taken
-unfoldable pub design_fault : Database → Configuration → Option Fault
-design_fault db image =
+-- why a database and an image aren't taken, where the LUTs read these inputs
+unfoldable pub design_fault : LutInputs → Database → Configuration → Option Fault
+design_fault inputs db image =
     or_else (first_of (device_faults db image))
     (or_else (pins_fault db image)
     (or_else (rams_fault db image)
-    (fabric_fault image.layout.device (fabric_of db image))))
+    (fabric_fault image.layout.device (fabric_with inputs db image))))

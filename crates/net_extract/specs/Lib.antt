@@ -7,6 +7,7 @@ pub mod Cells
 pub mod Rams
 pub mod Pins
 pub mod Joins
+pub mod Luts
 pub mod Registers
 pub mod Fabric
 pub mod Drivers

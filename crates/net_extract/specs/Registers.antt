@@ -5,6 +5,7 @@ use Rattle.ice_image.specs.Configuration.{Configuration}
 use Rattle.chipdb_reader.specs.Database.{Database}
 use Rattle.net_extract.specs.declared.cell.Lc.{Lc}
 use Rattle.net_extract.specs.declared.pin.Pin.{Pin}
+use Rattle.net_extract.specs.declared.lut_inputs.LutInputs.{LutInputs}
 use Rattle.net_extract.specs.declared.driver.ClockUser.TheVariants.{Cell, Input, Output}
 use Rattle.net_extract.specs.declared.register.Source.{Source}
 use Rattle.net_extract.specs.declared.register.Source.TheVariants.{Net, Pin as SourcePin}
@@ -12,17 +13,18 @@ use Rattle.net_extract.specs.declared.register.Table.{Table}
 use Rattle.net_extract.specs.declared.register.Register.{Register}
 use Rattle.net_extract.specs.On.{is_function_on}
 use Rattle.net_extract.specs.Nets.{net_named}
+use Rattle.net_extract.specs.Luts.{inputs_read}
 use Rattle.net_extract.specs.Pins.{is_registered, place_among}
 
 -- ---- flip-flops
 
--- the LUT of a cell, whose inputs are nets
-abbrev pub table_of : Lc → Table
-table_of lc = record { word = lc.lut; ins = map Net lc.ins }
+-- the LUT of a cell, whose inputs are the nets that it reads
+abbrev pub table_of : LutInputs → Lc → Table
+table_of inputs lc = record { word = lc.lut; ins = map Net (inputs_read inputs lc.lut lc.ins) }
 
 -- the flip-flop of a cell
-unfoldable pub register_of : Lc → Register
-register_of lc = record {
+unfoldable pub register_of : LutInputs → Lc → Register
+register_of inputs lc = record {
   x = lc.x;
   y = lc.y;
   user = Cell lc.i;
@@ -33,12 +35,12 @@ register_of lc = record {
   sr = lc.sr;
   «set» = lc.«set»;
   at_once = lc.at_once;
-  table = table_of lc;
+  table = table_of inputs lc;
 }
 
 -- the registers of cells: the flip-flops, in the order of the cells
-unfoldable pub registers_of : List Lc → List Register
-registers_of lcs = map register_of (filter (λ lc. lc.flip) lcs)
+unfoldable pub registers_of : LutInputs → List Lc → List Register
+registers_of inputs lcs = map (register_of inputs) (filter (λ lc. lc.flip) lcs)
 
 -- ---- registers of pins
 

@@ -1,10 +1,11 @@
 -- The value of each driver, and the values of nets that are consistent with a state and the pins.
 use Rattle.std.specs.Prelude.{◌≡◌, ℕ, ◌+◌, ◌*◌, ◌<◌, Bool, true, false, ◌&&◌, ◌||◌, List, [], length, get_or, Contains, Option, Some, None, if◌then◌else◌}
-use Rattle.bit_plane.specs.BitList.{bit_value, word_bits}
+use Rattle.bit_plane.specs.BitList.{bit_value}
 use Rattle.net_extract.specs.declared.register.Source.{Source}
 use Rattle.net_extract.specs.declared.register.Source.TheVariants.{Net, Pin as SourcePin}
 use Rattle.net_extract.specs.declared.register.Table.{Table}
 use Rattle.net_extract.specs.declared.register.Register.{Register}
+use Rattle.net_extract.specs.Luts.{entry_of}
 use Rattle.net_extract.specs.Joins.{class_of}
 use Rattle.net_extract.specs.Fabric.{Fabric}
 use Rattle.net_extract.specs.Drivers.{Rule, Drive, drives_of, is_driven}
@@ -51,7 +52,7 @@ entry_number connected pins bit table =
 
 -- that entry
 unfoldable pub lut_value : (ℕ → Bool) → List Bool → (ℕ → Bool) → Table → Bool
-lut_value connected pins bit table = get_or (word_bits 16 table.word) (entry_number connected pins bit table) false
+lut_value connected pins bit table = entry_of table.word (entry_number connected pins bit table)
 
 -- what at least two of three bits are
 abbrev pub majority : Bool → Bool → Bool → Bool

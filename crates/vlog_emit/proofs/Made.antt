@@ -5,7 +5,8 @@ use Rattle.chipdb_reader.specs.Database.{Database}
 use Rattle.vlog_module.specs.Names.{IsName}
 use Rattle.vlog_module.specs.Parts.{Parts}
 use Rattle.vlog_module.specs.WellFormed.{IsModule}
-use Rattle.net_extract.specs.Fabric.{Fabric, fabric_of}
+use Rattle.net_extract.specs.declared.lut_inputs.LutInputs.{LutInputs}
+use Rattle.net_extract.specs.Fabric.{Fabric, fabric_with}
 use Rattle.fabric.specs.Kept.{Kept, IsKeptOf}
 use Rattle.fabric.specs.Design.{IsDesign, IsDesignOf}
 use Rattle.fabric_module.specs.Written.{pin_ports, items_of, module_of}
@@ -19,7 +20,7 @@ parts-same one two of_name of_ports of_items =
     ∙ (ap (λ p. record { name = two.name; ports = p; items = one.items }) of_ports
     ∙ ap (λ i. record { name = two.name; ports = two.ports; items = i }) of_items)
 
-module _ (law : (db : Database) (image : Configuration) → ModuleIsFabric db image) (design : Kept) (name : List ℕ) (is_name : IsName name) (made : Parts)
+module _ (law : (inputs : LutInputs) (db : Database) (image : Configuration) → ModuleIsFabric inputs db image) (design : Kept) (name : List ℕ) (is_name : IsName name) (made : Parts)
     (of_name : made.name ≡ name) (of_ports : made.ports ≡ flat_map pin_ports design.parts.pins.items)
     (of_items : EachFabric design (λ fabric. made.items ≡ items_of fabric design.order)) where
   -- the module of each fabric whose design is kept
@@ -29,15 +30,15 @@ module _ (law : (db : Database) (image : Configuration) → ModuleIsFabric db im
       parts-same made (record { name = name; ports = flat_map pin_ports fabric.pins; items = items_of fabric design.order }) of_name
       (of_ports ∙ ap (flat_map pin_ports) kept.parts.pins) (of_items fabric kept)
 
-  pub made-is : (db : Database) (image : Configuration) → IsDesignOf db image design → made ≡ module_of (fabric_of db image) design.order name
-  made-is db image of = made-each (fabric_of db image) of.kept
+  pub made-is : (db : Database) (image : Configuration) → IsDesignOf db image design → made ≡ module_of (fabric_with design.parts.lut_inputs db image) design.order name
+  made-is db image of = made-each (fabric_with design.parts.lut_inputs db image) of.kept
 
   pub made-well_formed : IsDesign design → IsModule made
   made-well_formed is =
       subst IsModule (sym (made-is is.0 is.1 is.2))
-      (law is.0 is.1 is.2.fit is.2.few is.2.taken design.order name is.2.kept.order is_name).0
+      (law design.parts.lut_inputs is.0 is.1 is.2.fit is.2.few is.2.taken design.order name is.2.kept.order is_name).0
 
   pub made-runs : (db : Database) (image : Configuration) → IsDesignOf db image design → RunsAs db image made
   made-runs db image of =
-      let runs = (law db image of.fit of.few of.taken design.order name of.kept.order is_name).1 in
+      let runs = (law design.parts.lut_inputs db image of.fit of.few of.taken design.order name of.kept.order is_name).1 in
       subst (RunsAs db image) (sym (made-is db image of)) (record { one_run = runs.one_run; alike = runs.alike })

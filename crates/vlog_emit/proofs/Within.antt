@@ -4,7 +4,7 @@ use Rattle.std.specs.Prelude.{All, Contains, Option, Some, None, filter, option_
 use Rattle.std.proofs.lemmas.Bool.{cases_Bool}
 use Rattle.std.proofs.lemmas.List.Elements.{All-from_get_or, All-nil, All-cons, All-head, All-tail, All-contains, All-contains_itself, All-weaker}
 use Rattle.shared_lemmas.proofs.Lists.{All-both}
-use Rattle.net_extract.specs.Fabric.{Fabric, fabric_of}
+use Rattle.net_extract.specs.Fabric.{Fabric, fabric_with}
 use Rattle.net_extract.specs.declared.register.Source.{Source}
 use Rattle.net_extract.specs.declared.register.Source.TheVariants.{Net, Pin as SourcePin}
 use Rattle.net_extract.specs.declared.register.Register.{Register}
@@ -75,45 +75,48 @@ output-place fabric (copied net) is = absurd is
 -- ---- the parts
 
 module _ (design : Kept) (is : IsDesign design) where
-  count : nets_in design ≡ (fabric_of is.0 is.1).nets
+  abbrev fabric : Fabric
+  fabric = fabric_with design.parts.lut_inputs is.0 is.1
+
+  count : nets_in design ≡ fabric.nets
   count = is.2.kept.drivers.classes
 
-  writable : IsWritable (fabric_of is.0 is.1)
-  writable = fabric-writable is.0 is.1 is.2.fit is.2.few is.2.taken
+  writable : IsWritable fabric
+  writable = fabric-writable design.parts.lut_inputs is.0 is.1 is.2.fit is.2.few is.2.taken
 
   -- what an input of a table reads is there
-  source-in : (source : Source) → IsNetSourceIn (nets_in design) source → IsSourceThere (fabric_of is.0 is.1) source → IsSourceIn design source
+  source-in : (source : Source) → IsNetSourceIn (nets_in design) source → IsSourceThere fabric source → IsSourceIn design source
   source-in (Net net) net_in there = net_in
   source-in (SourcePin place) net_in there = subst (λ pins. place < length pins) (sym is.2.kept.inputs) there
 
-  register-in : (register : Register) → IsNetRegisterIn (fabric_of is.0 is.1).nets register → All (IsSourceThere (fabric_of is.0 is.1)) register.table.ins → IsRegisterIn design register
+  register-in : (register : Register) → IsNetRegisterIn fabric.nets register → All (IsSourceThere fabric) register.table.ins → IsRegisterIn design register
   register-in register nets there =
       let counted : IsNetRegisterIn (nets_in design) register = subst (λ n. IsNetRegisterIn n register) (sym count) nets in
       record {
         clk = counted.clk;
         cen = counted.cen;
         sr = counted.sr;
-        table = All-both (IsNetSourceIn (nets_in design)) (IsSourceThere (fabric_of is.0 is.1)) (IsSourceIn design) source-in register.table.ins counted.ins there;
+        table = All-both (IsNetSourceIn (nets_in design)) (IsSourceThere fabric) (IsSourceIn design) source-in register.table.ins counted.ins there;
       }
 
   pub registers-within : All (IsRegisterIn design) design.parts.registers.items
   registers-within =
       subst (All (IsRegisterIn design)) (sym is.2.kept.parts.registers)
-      (All-both (IsNetRegisterIn (fabric_of is.0 is.1).nets) (λ register. All (IsSourceThere (fabric_of is.0 is.1)) register.table.ins) (IsRegisterIn design) register-in
-      (fabric_of is.0 is.1).registers is.2.kept.parts.within.registers writable.tables)
+      (All-both (IsNetRegisterIn fabric.nets) (λ register. All (IsSourceThere fabric) register.table.ins) (IsRegisterIn design) register-in
+      fabric.registers is.2.kept.parts.within.registers writable.tables)
 
   pub pins-within : All (IsPinIn (nets_in design)) design.parts.pins.items
   pins-within =
       subst (λ nets. All (IsPinIn nets) design.parts.pins.items) (sym count)
-      (subst (All (IsPinIn (fabric_of is.0 is.1).nets)) (sym is.2.kept.parts.pins) is.2.kept.parts.within.pins)
+      (subst (All (IsPinIn fabric.nets)) (sym is.2.kept.parts.pins) is.2.kept.parts.within.pins)
 
   pub rams-within : All (IsRamIn (nets_in design)) design.parts.rams.items
   rams-within =
       subst (λ nets. All (IsRamIn nets) design.parts.rams.items) (sym count)
-      (subst (All (IsRamIn (fabric_of is.0 is.1).nets)) (sym is.2.kept.parts.rams) is.2.kept.parts.within.rams)
+      (subst (All (IsRamIn fabric.nets)) (sym is.2.kept.parts.rams) is.2.kept.parts.within.rams)
 
   ported : All IsPorted design.parts.rams.items
-  ported = subst (All IsPorted) (sym is.2.kept.parts.rams) (fabric-started is.0 is.1).each_port
+  ported = subst (All IsPorted) (sym is.2.kept.parts.rams) (fabric-started is.0 is.1 design.parts.lut_inputs).each_port
 
   -- the modes of RAMs are 0 to 3
   pub reads-moded : All (λ ram. ram.read ≤ 3) design.parts.rams.items
@@ -125,14 +128,14 @@ module _ (design : Kept) (is : IsDesign design) where
   pub order-within : All (λ class. class < nets_in design) design.order
   order-within = All-from_get_or (λ class. class < nets_in design) design.order 0 (λ place less.
       let below = (is.2.kept.order.each place less).ready.within in
-      let same = count-is (fabric_of is.0 is.1) in
+      let same = count-is fabric in
       let nets = count in
       omega arith)
 
   -- ---- drivers
 
   -- the nets and places of a rule of the fabric
-  rule-in : (rule : KeptRule) → IsPlaceIn (fabric_of is.0 is.1) (rule_of rule)
+  rule-in : (rule : KeptRule) → IsPlaceIn fabric (rule_of rule)
       → ((net : ℕ) → has (nets_read (rule_of rule)) net ≡ true → net < nets_in design) → IsRuleIn design rule
   unfolding nets_read
   rule-in (PinBit place) there reads = subst (λ pins. place < length pins) (sym is.2.kept.inputs) there
@@ -141,7 +144,7 @@ module _ (design : Kept) (is : IsDesign design) where
   rule-in (TableEntry table) there reads =
       All-from_get_or (IsSourceIn design) table.ins (Net None)
       (λ k less. source-in (get_or table.ins k (Net None)) (source-from (nets_in design) (get_or table.ins k (Net None)) (λ n at. reads n (has-source table.ins k n at)))
-      (source-there (fabric_of is.0 is.1) table.ins k there))
+      (source-there fabric table.ins k there))
   rule-in (MajorityOf a b c) there reads =
       let first = option_to_list a in
       let second = option_to_list b in
@@ -152,7 +155,7 @@ module _ (design : Kept) (is : IsDesign design) where
       )
   rule-in (RegisterBit place register) there reads =
       let among : Contains design.parts.registers.items register =
-      subst (λ registers. Contains registers register) (sym is.2.kept.parts.registers) (item-there (fabric_of is.0 is.1).registers (place, register) there) in
+      subst (λ registers. Contains registers register) (sym is.2.kept.parts.registers) (item-there fabric.registers (place, register) there) in
       All-contains (IsRegisterIn design) design.parts.registers.items register registers-within among
   rule-in (ReadBit ram bit) there reads = subst (λ rams. ram < length rams) (sym is.2.kept.parts.rams) there.0
   rule-in (Copied net) there reads = reads net (has-first net [])
@@ -160,12 +163,11 @@ module _ (design : Kept) (is : IsDesign design) where
   -- the rule of an output names what is there
   abbrev RuleThere : Output → Type 0
   RuleThere output =
-      IsOutputRule (fabric_of is.0 is.1) output.rule
-      × ((net : ℕ) → has (nets_read output.rule) net ≡ true → net < (fabric_of is.0 is.1).nets)
+      IsOutputRule fabric output.rule
+      × ((net : ℕ) → has (nets_read output.rule) net ≡ true → net < fabric.nets)
 
-  outputs-there : All RuleThere (outputs_of (fabric_of is.0 is.1))
+  outputs-there : All RuleThere (outputs_of fabric)
   outputs-there =
-      let fabric = fabric_of is.0 is.1 in
       All-weaker (Contains (outputs_of fabric)) RuleThere
       (λ output there. (
         All-contains (λ (one : Output). IsOutputRule fabric one.rule) (outputs_of fabric) output (outputs-ruled fabric) there,
@@ -175,14 +177,13 @@ module _ (design : Kept) (is : IsDesign design) where
   pub outputs-within : All (λ output. IsRuleIn design output.rule) design.outputs
   outputs-within =
       All-weaker (λ output. RuleThere (output_of output)) (λ output. IsRuleIn design output.rule)
-      (λ output there. rule-in output.rule (output-place (fabric_of is.0 is.1) (rule_of output.rule) there.0)
-      (λ net reads. let below : net < (fabric_of is.0 is.1).nets = there.1 net reads in let nets = count in omega arith))
+      (λ output there. rule-in output.rule (output-place fabric (rule_of output.rule) there.0)
+      (λ net reads. let below : net < fabric.nets = there.1 net reads in let nets = count in omega arith))
       design.outputs (all-unmapped RuleThere output_of design.outputs (subst (All RuleThere) (sym is.2.kept.outputs) outputs-there))
 
   -- what the driver of a class names
   pub driver-within : (class : ℕ) → class < nets_in design → (drive : KeptDrive) → driver_in design.drivers class ≡ Some drive → IsRuleIn design drive.rule
   driver-within class below drive at =
-      let fabric = fabric_of is.0 is.1 in
       let within : class < fabric.nets = (let nets = count in omega arith) in
       let one : drivers_of fabric class ≡ drive_of drive ∷ [] = is.2.kept.drivers.each class within ∙ ap (λ found. map drive_of (option_to_list found)) at in
       elim (cases_Bool (is_driven fabric class)) [
@@ -192,7 +193,7 @@ module _ (design : Kept) (is : IsDesign design) where
             let same : found.0 ≡ drive_of drive = cc in
             let there : Contains (drives_of fabric) (drive_of drive) = subst (Contains (drives_of fabric)) same found.2.there in
             rule-in drive.rule (writable.places (drive_of drive) there)
-            (λ net reads. let below : net < fabric.nets = (fabric-within is.0 is.1 is.2.fit).reads (drive_of drive) there net reads in let nets = count in omega arith)
+            (λ net reads. let below : net < fabric.nets = (fabric-within is.0 is.1 is.2.fit design.parts.lut_inputs).reads (drive_of drive) there net reads in let nets = count in omega arith)
         | inr away ↦ let none : drivers_of fabric class ≡ [] = none-driven fabric class away in absurd cc
       ]
 
@@ -201,8 +202,7 @@ module _ (design : Kept) (is : IsDesign design) where
   -- a chain ends at an input pin that is there
   pub clock-within : (net : ℕ) → net < nets_in design → (place : ℕ) → end_in design.ends (class_in design.parts.links net) ≡ at_pin place → place < length design.inputs
   clock-within net below place at =
-      let fabric = fabric_of is.0 is.1 in
       let ends : clock_end fabric net ≡ at_pin place = sym (end-is fabric design is.2.kept net below) ∙ at in
       subst (λ pins. place < length pins) (sym is.2.kept.inputs)
       (leads-place fabric writable
-      (clock_end-leads fabric (fabric-within is.0 is.1 is.2.fit) design.order is.2.kept.order net) place ends)
+      (clock_end-leads fabric (fabric-within is.0 is.1 is.2.fit design.parts.lut_inputs) design.order is.2.kept.order net) place ends)

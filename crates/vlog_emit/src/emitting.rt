@@ -3,7 +3,7 @@ ghost use Rattle.std.specs.Prelude.{◌≡◌, ◌++◌, map, flat_map, IfOk, On
 ghost use Rattle.ice_image.specs.Configuration.{Configuration};
 ghost use Rattle.chipdb_reader.specs.Database.{Database};
 ghost use Rattle.vlog_module.specs.Names.{IsName};
-ghost use Rattle.net_extract.specs.Fabric.{fabric_of};
+ghost use Rattle.net_extract.specs.Fabric.{fabric_with};
 ghost use Rattle.net_extract.specs.Outputs.{outputs_of};
 ghost use Rattle.fabric.specs.Design.{IsDesignOf};
 ghost use Rattle.fabric_module.specs.Written.{register_item, read_register, ram_memory, class_wire, output_assign, register_items, read_items, write_items, items_of, module_of};
@@ -62,13 +62,14 @@ fn items_of(alloc: Global, design: &Design) -> Result<Vec<Item>, AllocError>
 ///
 /// It runs as the fabric that the database and the image configure: at the start and after each event the two hold the same values.
 /// Its ports are the pins, its registers and memories the state of registers and RAMs, and its wires the classes of nets that have
-/// a driver, in the order of [`Design::order`].
+/// a driver, in the order of [`Design::order`]. Where LUTs read only the inputs that they use, each other input of a LUT is written
+/// as 0.
 ///
 /// # Errors
 /// `AllocError` where memory is out, and for no other cause.
 pub fn emit(alloc: Global, design: &Design, name: &[u8]) -> Result<Module, AllocError>
     requires { IsName name.now }
-    ensures made { IfOk result (λ made. (db : Database) (image : Configuration) → IsDesignOf db image design.now → made ≡ module_of (fabric_of db image) design.now.order name.now) }
+    ensures made { IfOk result (λ made. (db : Database) (image : Configuration) → IsDesignOf db image design.now → made ≡ module_of (fabric_with design.now.parts.lut_inputs db image) design.now.order name.now) }
     ensures runs { IfOk result (λ made. (db : Database) (image : Configuration) → IsDesignOf db image design.now → RunsAs db image made) }
 {
     // Its clause says that the module is well-formed and runs as the fabric.

@@ -10,3 +10,4 @@ mod sections;
 mod text;
 
 pub use emitting::emit;
+pub use names::{enable_name, port_name};

@@ -11,7 +11,7 @@ use vlog_module::Name;
 
 /// The name of a pin's port: `io_X_Y_N`.
 #[tactic(auto, unfolding(fabric_module::specs::Names::port_name))]
-pub(crate) fn port_name(alloc: Global, pin: &Pin) -> Result<Name, AllocError>
+pub fn port_name(alloc: Global, pin: &Pin) -> Result<Name, AllocError>
     ensures { IfOk result (λ name. name ≡ port_name pin.now) }
 {
     let (x, y, n) = (pin.x, pin.y, pin.n);
@@ -21,7 +21,7 @@ pub(crate) fn port_name(alloc: Global, pin: &Pin) -> Result<Name, AllocError>
 
 /// The name of the port that tells whether a tri-state pin is switched on: `io_X_Y_N_en`.
 #[tactic(auto, unfolding(fabric_module::specs::Names::enable_name, fabric_module::specs::Names::port_name))]
-pub(crate) fn enable_name(alloc: Global, pin: &Pin) -> Result<Name, AllocError>
+pub fn enable_name(alloc: Global, pin: &Pin) -> Result<Name, AllocError>
     ensures { IfOk result (λ name. name ≡ enable_name pin.now) }
 {
     let (x, y, n) = (pin.x, pin.y, pin.n);

@@ -3,7 +3,7 @@ use bitstream_tools::{
     ICEBRAM_HELP, ICEMULTI_HELP, ICEMULTI_USAGE, ICEPACK_HELP, ICEPACK_USAGE, ICESPLIT_HELP,
     ICESPLIT_USAGE, ICEUNPACK_HELP, ICEUNPACK_USAGE,
 };
-use design_tools::{ICEBOX_VLOG_HELP, ICEBOX_VLOG_USAGE};
+use design_tools::ICEBOX_VLOG_HELP;
 use fabric_tools::{
     ICEBOX_EXPLAIN_HELP, ICEBOX_EXPLAIN_USAGE, ICEBOX_STAT_HELP, ICEBOX_STAT_USAGE,
 };
@@ -91,11 +91,12 @@ static HELPS: [Help; 11] = [
     },
     Help {
         help: ICEBOX_VLOG_HELP,
-        usage: ICEBOX_VLOG_USAGE,
+        usage: "icebox_vlog [-n NAME] [--used-inputs] [--layout FILE] DB [IMAGE]",
         heads: &[
             "  DB        the chip database",
             "  IMAGE     a bitstream (.bin) or a text (.asc);",
             "  -n NAME   the name of the module",
+            "  --used-inputs",
             "  --layout FILE",
         ],
     },

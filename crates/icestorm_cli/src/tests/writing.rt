@@ -33,6 +33,13 @@ NegClk B6[0]
 1 0
 ";
 
+/// Lines behind the database: the cell's own value comes to another of its inputs.
+const FED_BACK: &str = ".net 4
+1 1 lutff_0/in_2
+.buffer 1 1 4 B3[0]
+1 2
+";
+
 /// Lines behind the database: pins that aren't taken.
 const PINS: &str = ".io_tile_bits 18 16
 PLL.PLLTYPE_0 B7[0]
@@ -143,6 +150,42 @@ module chip (io_0_1_0, io_0_2_0, io_0_3_0);
 endmodule
 ";
 
+/// A pin, an inverter whose own value comes to an input that it doesn't use, and another pin.
+static LOOPED: [Tile; 3] = [
+    INPUT,
+    OUTPUT,
+    (
+        ".logic_tile 1 1\n",
+        54,
+        &[
+            (0, 37),
+            (0, 39),
+            (0, 40),
+            (0, 42),
+            (1, 36),
+            (1, 38),
+            (1, 41),
+            (1, 43),
+            (2, 0),
+            (3, 0),
+        ],
+    ),
+];
+
+/// What is written of it where LUTs read only the inputs that they use.
+const NOT_LOOPED: &str = "\
+module chip (io_0_1_0, io_0_2_0);
+  input io_0_1_0;
+  output io_0_2_0;
+  wire n_0 = io_0_1_0;
+  wire n_1 = n_0;
+  wire n_2 = 16'h5555 >> {1'b0, 1'b0, 1'b0, n_1};
+  wire n_3 = n_2;
+  wire n_4 = n_2;
+  assign io_0_2_0 = n_3;
+endmodule
+";
+
 /// The database with lines behind it.
 fn database(alloc: Global, lines: &str) -> Result<Vec<u8>, AllocError> {
     let mut database = DATABASE.as_bytes().to_vec(alloc)?;
@@ -202,6 +245,19 @@ fn writes_a_module(rt: HostRuntime) {
     assert!(rt; writes(rt.alloc(), CLOCKED, &TOGGLE, TOGGLED) == Ok(true));
     assert!(rt; writes_of_a_bitstream(rt.alloc(), CLOCKED, &TOGGLE, TOGGLED) == Ok(true));
     assert!(rt; writes(rt.alloc(), RESET, &SETTING, SET) == Ok(true));
+}
+
+/// Whether that module is written where LUTs read only the inputs that they use.
+fn writes_by_used_inputs(alloc: Global, lines: &str, tiles: &[Tile]) -> Result<bool, AllocError> {
+    let image = image(alloc, tiles)?;
+    let words = &["icebox_vlog", "--used-inputs", "A"];
+    is_written(alloc, words, lines, &image, NOT_LOOPED)
+}
+
+#[test]
+fn takes_a_loop_at_an_input_that_is_not_used(rt: HostRuntime) {
+    assert!(rt; is_told(rt.alloc(), FED_BACK, &LOOPED, "icebox_vlog: net 2: Loop\n") == Ok(true));
+    assert!(rt; writes_by_used_inputs(rt.alloc(), FED_BACK, &LOOPED) == Ok(true));
 }
 
 /// A command line, and what it writes of an image that sets nothing.
@@ -284,11 +340,16 @@ static REFUSED: [Refused; 9] = [
     ),
 ];
 
-/// Whether an image is refused with that line.
+/// Whether an image by its tiles is refused with that line.
+fn is_told(alloc: Global, lines: &str, tiles: &[Tile], line: &str) -> Result<bool, AllocError> {
+    let image = image(alloc, tiles)?;
+    let database = database(alloc, lines)?;
+    Ok(left_by(alloc, ALONE, &database, &image)?.refuses(1, line))
+}
+
+/// Whether an image is refused with its line.
 fn is_refused(alloc: Global, refused: &Refused) -> Result<bool, AllocError> {
-    let image = image(alloc, refused.1)?;
-    let database = database(alloc, refused.0)?;
-    Ok(left_by(alloc, ALONE, &database, &image)?.refuses(1, refused.2))
+    is_told(alloc, refused.0, refused.1, refused.2)
 }
 
 #[test]

@@ -20,5 +20,5 @@ returns g c =
     let request = c.args.request in
     let needed = needs-are request.layout (record { name = Some request.db; limit = database_limit } ∷ record { name = request.image; limit = image_limit } ∷ []) c.with_layout.result.now c.with_layout.ensures in
     let task : List Need → Bool → Task =
-    λ needs named. record { tool_name = vlog_name; needs = needs; target = None; answer = vlog_answer named request.name.text.now } in
+    λ needs named. record { tool_name = vlog_name; needs = needs; target = None; answer = vlog_answer request.inputs named request.name.text.now } in
     Does-same _ _ _ _ _ _ (ap₂ task needed (c.is_some.ensures ∙ named-is request.layout)) c.perform_in_pieces.ensures

@@ -6,4 +6,4 @@ use Rattle.net_extract.specs.declared.cell.Lc.{Lc}
 use Rattle.fabric_wiring.proofs.cells.append_luts.Given as goal
 
 abbrev pub invariant-loop-lc : goal.invariant-loop-lc
-invariant-loop-lc l = map drive_of l.drives.items ≡ map drive_of l.initial.drives.items ++ flat_map lut_drives (filter (λ (lc : Lc). not lc.flip) (take l.lc-index l.lcs))
+invariant-loop-lc l = map drive_of l.drives.items ≡ map drive_of l.initial.drives.items ++ flat_map (lut_drives l.inputs) (filter (λ (lc : Lc). not lc.flip) (take l.lc-index l.lcs))

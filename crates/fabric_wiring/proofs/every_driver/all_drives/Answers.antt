@@ -19,9 +19,13 @@ returns c = λ fabric is.
     let backs = gets (map drive_of c.append_pins.new.drives.items) (map drive_of c.append_backs.new.drives.items) (λ (pins : List Pin). flat_map (back_drives fabric.registers) (filter (λ pin. pin.back) pins))
     (c.in_ok-append_backs.ensures ∙ ap (λ registers. map drive_of c.append_pins.new.drives.items ++ flat_map (back_drives registers) (filter (λ (pin : Pin). pin.back) c.deref-4.result.now)) (c.deref-3.ensures.value ∙ is.registers))
     (c.deref-4.ensures.value ∙ is.pins) in
-    let luts = gets (map drive_of c.append_backs.new.drives.items) (map drive_of c.append_luts.new.drives.items) (λ (lcs : List Lc). flat_map lut_drives (filter (λ lc. not lc.flip) lcs)) c.in_ok-append_luts.ensures (c.deref-5.ensures.value ∙ is.lcs) in
+    let luts = gets (map drive_of c.append_backs.new.drives.items) (map drive_of c.append_luts.new.drives.items) (λ (lcs : List Lc). flat_map (lut_drives fabric.lut_inputs) (filter (λ lc. not lc.flip) lcs))
+    (c.in_ok-append_luts.ensures ∙ ap (λ read. map drive_of c.append_backs.new.drives.items ++ flat_map (lut_drives read) (filter (λ (lc : Lc). not lc.flip) c.deref-5.result.now)) is.lut_inputs)
+    (c.deref-5.ensures.value ∙ is.lcs) in
     let flips = gets (map drive_of c.append_luts.new.drives.items) (map drive_of c.append_flips.new.drives.items) (λ (registers : List Register). flat_map flip_drives (numbered registers)) c.in_ok-append_flips.ensures (c.deref-6.ensures.value ∙ is.registers) in
-    let louts = gets (map drive_of c.append_flips.new.drives.items) (map drive_of c.append_louts.new.drives.items) (flat_map lout_drives) c.in_ok-append_louts.ensures (c.deref-7.ensures.value ∙ is.lcs) in
+    let louts = gets (map drive_of c.append_flips.new.drives.items) (map drive_of c.append_louts.new.drives.items) (flat_map (lout_drives fabric.lut_inputs))
+    (c.in_ok-append_louts.ensures ∙ ap (λ read. map drive_of c.append_flips.new.drives.items ++ flat_map (lout_drives read) c.deref-7.result.now) is.lut_inputs)
+    (c.deref-7.ensures.value ∙ is.lcs) in
     let carries = gets (map drive_of c.append_louts.new.drives.items) (map drive_of c.append_carries.new.drives.items) (λ (lcs : List Lc). flat_map carry_drives (filter (λ lc. lc.carry) lcs)) c.in_ok-append_carries.ensures (c.deref-8.ensures.value ∙ is.lcs) in
     let sets = gets (map drive_of c.append_carries.new.drives.items) (map drive_of c.append_sets.new.drives.items) (flat_map set_drives) c.in_ok-append_sets.ensures (c.deref-9.ensures.value ∙ is.sets) in
     let rams = gets (map drive_of c.append_sets.new.drives.items) (map drive_of c.append_rams.new.drives.items) (λ (rams : List RamCell). flat_map ram_drives (numbered rams)) c.in_ok-append_rams.ensures (c.deref-10.ensures.value ∙ is.rams) in

@@ -5,4 +5,4 @@ use Rattle.net_extract.specs.Registers.{register_of}
 use Rattle.fabric_wiring.proofs.registers.registers_of.Given as goal
 
 abbrev pub invariant-loop-lc : goal.invariant-loop-lc
-invariant-loop-lc l = l.registers.items ≡ map register_of (filter (λ (lc : Lc). lc.flip) (take l.lc-index l.lcs))
+invariant-loop-lc l = l.registers.items ≡ map (register_of l.inputs) (filter (λ (lc : Lc). lc.flip) (take l.lc-index l.lcs))

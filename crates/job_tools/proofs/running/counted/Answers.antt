@@ -4,10 +4,10 @@ use Rattle.ice_image.specs.Configuration.{Configuration}
 use Rattle.text_lines.specs.Lines.{lines_of}
 use Rattle.chipdb_reader.specs.Kept.{database_in}
 use Rattle.tile_bits.specs.Explained.{explained}
-use Rattle.net_extract.specs.Fabric.{fabric_of}
+use Rattle.net_extract.specs.Fabric.{fabric_with}
 use Rattle.net_extract.specs.Wiring.{wiring_of}
 use Rattle.design_parts.proofs.Order.{order-is}
-use Rattle.job_tools.specs.Counted.{counts_of}
+use Rattle.job_tools.specs.Counted.{counts_with}
 use Rattle.job_tools.specs.Selfrun.{image_for}
 use Rattle.job_tools.proofs.Devices.{taken-device}
 use Rattle.job_tools.proofs.SameCounts.{same-counts}
@@ -15,11 +15,11 @@ use Rattle.job_tools.proofs.running.counted.Goals as goal
 
 pub explained_lines-requires : goal.explained_lines-requires
 explained_lines-requires c =
-    taken-device (database_in c.args.db.now) (image_for c.args.request) c.requires.design.taken
+    taken-device c.args.design.now.parts.lut_inputs (database_in c.args.db.now) (image_for c.args.request) c.requires.design.taken
     ∙ ap (λ (image : Configuration). image.layout.device) (sym c.requires.image)
 
 pub returns : goal.returns
-unfolding counts_of fabric_of
+unfolding counts_with fabric_with
 returns c entries run =
     let db = database_in c.args.db.now in
     let image = image_for c.args.request in
@@ -27,5 +27,5 @@ returns c entries run =
     let kept = c.requires.design.kept in
     let ran = c.in_ok-ran.ensures db image c.requires.design in
     same-counts _ _ c.requires.bytes c.net_count.ensures (ap length (c.lcs.ensures.lcs ∙ kept.parts.lcs)) (ap length (c.rams.ensures.rams ∙ kept.parts.rams))
-    (ap length (c.order.ensures.order ∙ order-is (wiring_of (fabric_of db image)) design.order kept.order)) ran.events
+    (ap length (c.order.ensures.order ∙ order-is (wiring_of (fabric_with design.parts.lut_inputs db image)) design.order kept.order)) ran.events
     (c.in_ok-explained.ensures ∙ ap (λ (one : Configuration). length (lines_of (explained db one None))) c.requires.image) (ran.ones entries run)

@@ -1,11 +1,10 @@
 use Rattle.std.proofs.Common.{◌∙◌, ap}
 use Rattle.std.proofs.lemmas.Result.{IfOk-weaker}
-use Rattle.tool_run.specs.Tasks.{Done}
 use Rattle.job_tools.specs.Counted.{counts_text}
 use Rattle.job_tools.proofs.running.design_text.Goals as goal
 
 pub returns : goal.returns
 returns c =
     IfOk-weaker c.text_of.result _ _
-    (λ text shown entries run. record { entries = entries; run = run; answer_is = ap Done (shown ∙ ap (counts_text c.args.request.device) (c.in_ok-counts.ensures entries run)) })
+    (λ text shown entries run. shown ∙ ap (counts_text c.args.request.device) (c.in_ok-counts.ensures entries run))
     c.text_of.ensures

@@ -1,7 +1,0 @@
-use Rattle.ice_image.specs.Either.{configuration_of}
-use Rattle.chipdb_reader.specs.Kept.{database_in}
-use Rattle.net_extract.specs.Fabric.{fabric_of}
-use Rattle.fabric.proofs.from_database.design.Given as goal
-
-abbrev pub ghost-wire : goal.ghost-wire
-ghost-wire a = fabric_of (database_in a.db.now) (configuration_of a.image.now)

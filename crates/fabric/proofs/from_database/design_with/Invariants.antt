@@ -1,0 +1,7 @@
+use Rattle.ice_image.specs.Either.{configuration_of}
+use Rattle.chipdb_reader.specs.Kept.{database_in}
+use Rattle.net_extract.specs.Fabric.{fabric_with}
+use Rattle.fabric.proofs.from_database.design_with.Given as goal
+
+abbrev pub ghost-wire : goal.ghost-wire
+ghost-wire a = fabric_with a.parts.now.lut_inputs (database_in a.db.now) (configuration_of a.image.now)

@@ -103,7 +103,7 @@ type Job = (
     Part,
 );
 
-static JOBS: [Job; 22] = [
+static JOBS: [Job; 21] = [
     (
         &["icepack", "image", "out"],
         Way::InParts,
@@ -220,13 +220,6 @@ static JOBS: [Job; 22] = [
     ),
     (
         &["vlogrun", "-s", "module"],
-        Way::Whole,
-        &["module"],
-        "events",
-        Part::Small,
-    ),
-    (
-        &["vlogrun", "--vcd", "module"],
         Way::Whole,
         &["module"],
         "events",

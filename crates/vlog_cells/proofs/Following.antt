@@ -1,5 +1,5 @@
 -- What cells show after an event, and at the start.
-use Rattle.std.proofs.Common.{◌≡◌, ℕ, ◌+◌, ◌*◌, ◌<◌, ◌≤◌, Bool, false, List, [], ap, ap₂, arith, fold, get_or, length, length-set, refl, set, subst, sym, ◌∙◌}
+use Rattle.std.proofs.Common.{◌≡◌, ℕ, ◌+◌, ◌*◌, ◌<◌, ◌≤◌, Bool, true, false, List, [], ap, ap₂, arith, fold, get_or, length, length-set, refl, set, subst, sym, ◌∙◌}
 use Rattle.std.specs.Prelude.{map}
 use Rattle.vlog_module.specs.Parts.{Parts}
 use Rattle.vlog_plan.specs.declared.event.Event.{Event}
@@ -46,22 +46,20 @@ module _ (m : Parts) (layout : Layout) (circuit : Circuit) (laid : IsLaidOut m l
       → is_same_bit event.bit (get_or (values_of (readable entry).bits) event.pin false) ≡ false
       → AreWords words → AreWords words_now → length words_now ≡ length words → bit_count m ≤ length before → bit_count m ≤ length between
       → IsGroup event layout.first_wire (bit_count m) (word_count m) circuit.roots.items layout.plan group
-      → IsClocked (bit_count m) event group words words_now before between
-      → words_now ≡ fold (read_slot event before [] memories) words group.reads.items
-      → memories_now ≡ fold put_written memories (map (written_by event before [] memories) group.writes.items)
-      → IsSettled layout.first_wire (bit_count m) circuit.gates.items circuit.settles.items between after marks blocks
+      → IsClocked true (bit_count m) event group words words_now memories memories_now before between
+      → IsSettled true layout.first_wire (bit_count m) circuit.gates.items circuit.settles.items between after marks blocks
       → outputs_now ≡ map (operand_value after []) circuit.outputs.items
       → ShowsCells m circuit (followed m entry event) after words_now memories_now outputs_now
-  followed-shown entry event group words words_now memories memories_now outputs outputs_now before between after marks blocks shows within pinned differs small small_now same_words room room_between grouped clocked words_is memories_is settled outputs_is =
+  followed-shown entry event group words words_now memories memories_now outputs outputs_now before between after marks blocks shows within pinned differs small small_now same_words room room_between grouped clocked settled outputs_is =
       let plan : Plan = layout.plan in
       let roots : List ℕ = circuit.roots.items in
       let bits : List Bool = values_of (readable entry).bits in
       let show = shown-show entry before words memories outputs shows small in
       let words_are : words_now ≡ words_after plan event bits words memories =
-      words_is ∙ ap (fold (read_slot event before [] memories) words) grouped.reads
+      clocked.known.words_are ∙ ap (fold (read_slot event before [] memories) words) grouped.reads
       ∙ reads-shown (bit_count m) (word_count m) roots bits words before show event memories words plan.reads.items in
       let memories_are : memories_now ≡ memories_after plan event bits words memories =
-      memories_is ∙ ap (λ list. fold put_written memories (map (written_by event before [] memories) list)) grouped.writes
+      clocked.known.memories_are ∙ ap (λ list. fold put_written memories (map (written_by event before [] memories) list)) grouped.writes
       ∙ writes-shown (bit_count m) (word_count m) roots bits words before show event memories memories plan.writes.items in
       let count_now : length words_now ≡ word_count m = same_words ∙ show.words_count in
       let changed : List Bool = set (fold (flip_slot event bits words) bits plan.flips.items) event.pin event.bit in
@@ -69,7 +67,7 @@ module _ (m : Parts) (layout : Layout) (circuit : Circuit) (laid : IsLaidOut m l
       length-set (fold (flip_slot event bits words) bits plan.flips.items) event.pin event.bit
       ∙ length-flips event layout.first_wire (bit_count m) (word_count m) roots bits words before show bits plan.flips.items ∙ show.bits_count in
       let sources : AreSources layout.first_wire changed words_now between =
-      clocked-sources m layout circuit laid made event group bits words words_now before between pinned grouped show room count_now clocked in
+      clocked-sources m layout circuit laid made event group bits words words_now memories memories_now before between pinned grouped show room count_now clocked in
       let last : Show (bit_count m) (word_count m) roots (settled_slots plan (module_wires m) words_now changed) words_now after =
       settled-shown m layout circuit laid made changed words_now between after marks blocks changed_size count_now small_now room_between sources settled in
       let bits_are : settled_slots plan (module_wires m) words_now changed ≡ bits_after plan (module_wires m) event bits words memories =
@@ -93,7 +91,7 @@ module _ (m : Parts) (layout : Layout) (circuit : Circuit) (laid : IsLaidOut m l
 pub started-shown : (m : Parts) (first : Start) (circuit : Circuit) (begins : Begins m first) (made : IsCircuit first.layout.first_wire (bit_count m) (word_count m) first.layout.plan circuit)
     (outputs before after marks blocks : List Bool)
     → AreWords first.words.items → before ≡ cells_of first.bits.items first.words.items → bit_count m ≤ length before
-    → IsSettled first.layout.first_wire (bit_count m) circuit.gates.items circuit.settles.items before after marks blocks
+    → IsSettled true first.layout.first_wire (bit_count m) circuit.gates.items circuit.settles.items before after marks blocks
     → outputs ≡ map (operand_value after []) circuit.outputs.items
     → ShowsCells m circuit (start m) after first.words.items first.memories.items outputs
 started-shown m first circuit begins made outputs before after marks blocks small before_is room settled outputs_is =

@@ -1,5 +1,13 @@
+-- bits of words with a bit for each of sixty-four lanes
+pub mod Bits
 -- marks on wires, and what writes and sweeps leave
 pub mod Marked
+-- the bits of a lane
+pub mod Lanes
+-- lists of which one is changed, and lanes one after the other
+pub mod Lists
+-- what a lane has once clocked items have acted
+pub mod Stored
 -- wires rise, and read only what comes before
 pub mod Order
 -- what cells stand for, once wires that copy have the cells of what they copy
@@ -22,3 +30,17 @@ pub mod Filled
 pub mod Words
 -- the lists of the wires on which cells bear
 pub mod Listed
+-- where the bits of inputs and wires stand
+pub mod Slots
+-- what the cells of a lane have, and what a lane shows after a call
+pub mod Boards
+-- lists that get the items of others, one after the other
+pub mod Merged
+-- an event changes no more than the plan has items
+pub mod Rooms
+-- what writes of values, and sweeps over wires, do in a lane
+pub mod Steps
+-- what a call leaves in a lane, half by half
+pub mod Calls
+-- what a board has at the start
+pub mod First

@@ -86,13 +86,13 @@ write-tracked gates readers cell bit cells marks blocks read tracked =
 -- ---- a sweep
 
 -- a wire that isn't marked
-pub gate-passed : (gates : List Gate) (place : ℕ) (cells marks blocks : List Bool) → is_marked marks blocks place ≡ false
-    → IsSwept gates place cells marks blocks → IsSwept gates (place + 1) cells marks blocks
-gate-passed gates place cells marks blocks off swept = record {
+pub gate-passed : (active : Bool) (gates : List Gate) (place : ℕ) (cells marks blocks : List Bool) → is_marked marks blocks place ≡ false
+    → IsSwept active gates place cells marks blocks → IsSwept active gates (place + 1) cells marks blocks
+gate-passed active gates place cells marks blocks off swept = record {
   tracked = swept.tracked;
-  done = λ p below within.
+  done = λ on p below within.
       elim (cases_lt p place) [
-        | inl before ↦ swept.done p before within
+        | inl before ↦ swept.done on p before within
         | inr after ↦
             let same : p ≡ place = omega arith in
             swept.tracked.even p within (ap (is_marked marks blocks) same ∙ off)
@@ -108,60 +108,77 @@ own-even first count gates place cells rising room within =
     get_or-set_same cells gate.slot (gate_value cells gate) false (omega (arith, at.1, room))
     ∙ sym (same-value cells gate.slot (gate_value cells gate) gate (reads-none first count gates place place rising (omega arith) within))
 
-pub gate-swept : (first count : ℕ) (gates : List Gate) (place : ℕ) (cells marks blocks marks_now blocks_now : List Bool) → AreRising first count gates → count ≤ length cells → place < length gates
-    → IsSwept gates place cells marks blocks
-    → IsTracked gates (set cells (gate_at gates place).slot (gate_value cells (gate_at gates place))) marks_now blocks_now
-    → IsSwept gates (place + 1) (set cells (gate_at gates place).slot (gate_value cells (gate_at gates place))) (set marks_now place false) blocks_now
-gate-swept first count gates place cells marks blocks marks_now blocks_now rising room within swept tracked =
+-- it stays marked where it may not have it
+pub gate-swept : (active left bit : Bool) (first count : ℕ) (gates : List Gate) (place : ℕ) (cells marks blocks marks_now blocks_now : List Bool) → AreRising first count gates → count ≤ length cells → place < length gates
+    → (active ≡ true → bit ≡ gate_value cells (gate_at gates place)) → (left ≡ false → bit ≡ gate_value cells (gate_at gates place))
+    → IsSwept active gates place cells marks blocks
+    → IsTracked gates (set cells (gate_at gates place).slot bit) marks_now blocks_now
+    → IsSwept active gates (place + 1) (set cells (gate_at gates place).slot bit) (set marks_now place left) blocks_now
+gate-swept active left bit first count gates place cells marks blocks marks_now blocks_now rising room within on off swept tracked =
     let gate : Gate = gate_at gates place in
-    let now : List Bool = set cells gate.slot (gate_value cells gate) in
-    let own : IsEven now gate = own-even first count gates place cells rising room within in
+    let now : List Bool = set cells gate.slot bit in
+    let own : bit ≡ gate_value cells gate → IsEven now gate =
+    λ is. subst (λ b. IsEven (set cells gate.slot b) gate) (sym is) (own-even first count gates place cells rising room within) in
     record {
       tracked = record {
         room = tracked.room;
-        marks_room = length-set marks_now place false ∙ tracked.marks_room;
-        even = λ p inside off.
+        marks_room = length-set marks_now place left ∙ tracked.marks_room;
+        even = λ p inside dark.
             elim (cases_eq p place) [
-              | inl same ↦ subst (λ q. IsEven now (gate_at gates q)) (sym same) own
-              | inr apart ↦ tracked.even p inside (ap (λ b. b && get_or blocks_now (p / 64) false) (sym (get_or-set_other marks_now place p false false apart)) ∙ off)
+              | inl same ↦
+                  elim (cases_Bool left) [
+                    | inl stays ↦
+                        let mark_is : get_or (set marks_now place left) p false ≡ true =
+                        ap (λ q. get_or (set marks_now place left) q false) same
+                        ∙ get_or-set_same marks_now place left false (omega (arith, within, tracked.room, tracked.marks_room)) ∙ stays in
+                        let block_is : get_or blocks_now (p / 64) false ≡ false = sym (ap (λ m. m && get_or blocks_now (p / 64) false) mark_is) ∙ dark in
+                        tracked.even p inside (ap (λ b. get_or marks_now p false && b) block_is ∙ and-false (get_or marks_now p false))
+                    | inr cleared ↦ subst (λ q. IsEven now (gate_at gates q)) (sym same) (own (off cleared))
+                  ]
+              | inr apart ↦ tracked.even p inside (ap (λ b. b && get_or blocks_now (p / 64) false) (sym (get_or-set_other marks_now place p left false apart)) ∙ dark)
             ];
       };
-      done = λ p below inside.
+      done = λ act p below inside.
           elim (cases_lt p place) [
-            | inl before ↦ stays-even cells gate.slot (gate_value cells gate) (gate_at gates p) (later-apart first count gates p place rising before within) (swept.done p before inside)
-            | inr after ↦ let same : p ≡ place = omega arith in subst (λ q. IsEven now (gate_at gates q)) (sym same) own
+            | inl before ↦ stays-even cells gate.slot bit (gate_at gates p) (later-apart first count gates p place rising before within) (swept.done act p before inside)
+            | inr after ↦ let same : p ≡ place = omega arith in subst (λ q. IsEven now (gate_at gates q)) (sym same) (own (on act))
           ];
     }
 
--- a block that has been swept
-pub block-swept : (gates : List Gate) (block : ℕ) (cells marks blocks : List Bool) (end : ℕ) → (end ≡ 64 * block + 64) ⊎ (length gates ≤ end)
-    → IsSwept gates end cells marks blocks → IsSwept gates (64 * block + 64) cells marks (set blocks block false)
-block-swept gates block cells marks blocks end last swept =
-    let all : (p : ℕ) → p < 64 * block + 64 → p < length gates → IsEven cells (gate_at gates p) =
-    λ p below inside. elim last [ inl is ↦ swept.done p (omega (arith, below, is)) inside | inr past ↦ swept.done p (omega (arith, inside, past)) inside ] in
-    record {
-      tracked = record {
-        room = omega (arith, swept.tracked.room, length-set blocks block false);
-        marks_room = swept.tracked.marks_room ∙ ap (λ n. 64 * n) (sym (length-set blocks block false));
-        even = λ p inside off.
-            elim (cases_lt p (64 * block + 64)) [
-              | inl below ↦ all p below inside
-              | inr above ↦
-                  swept.tracked.even p inside
-                  (ap (λ b. get_or marks p false && b) (sym (get_or-set_other blocks block (p / 64) false false (λ same. omega (arith, above, same)))) ∙ off)
-            ];
-      };
-      done = all;
-    }
+-- a block that has been swept: it stays marked where one of its wires does
+pub block-swept : (active left : Bool) (gates : List Gate) (block : ℕ) (cells marks blocks : List Bool) (end : ℕ) → block < length blocks → (end ≡ 64 * block + 64) ⊎ (length gates ≤ end)
+    → (left ≡ false → (p : ℕ) → p / 64 ≡ block → get_or marks p false ≡ false)
+    → IsSwept active gates end cells marks blocks → IsSwept active gates (64 * block + 64) cells marks (set blocks block left)
+block-swept active left gates block cells marks blocks end within last none swept = record {
+  tracked = record {
+    room = omega (arith, swept.tracked.room, length-set blocks block left);
+    marks_room = swept.tracked.marks_room ∙ ap (λ n. 64 * n) (sym (length-set blocks block left));
+    even = λ p inside off.
+        elim (cases_Bool (get_or marks p false)) [
+          | inl marked ↦
+              let dark : get_or (set blocks block left) (p / 64) false ≡ false = sym (ap (λ m. m && get_or (set blocks block left) (p / 64) false) marked) ∙ off in
+              elim (cases_eq (p / 64) block) [
+                | inl here ↦
+                    let is : left ≡ false = sym (ap (λ q. get_or (set blocks block left) q false) here ∙ get_or-set_same blocks block left false within) ∙ dark in
+                    absurd (no-both (get_or marks p false) marked (none is p here))
+                | inr apart ↦
+                    swept.tracked.even p inside
+                    (ap (λ b. get_or marks p false && b) (sym (get_or-set_other blocks block (p / 64) left false apart) ∙ dark) ∙ and-false (get_or marks p false))
+              ]
+          | inr unmarked ↦ swept.tracked.even p inside (ap (λ m. m && get_or blocks (p / 64) false) unmarked)
+        ];
+  };
+  done = λ on p below inside. elim last [ inl is ↦ swept.done on p (omega (arith, below, is)) inside | inr past ↦ swept.done on p (omega (arith, inside, past)) inside ];
+}
 
 -- a block that isn't marked
-pub block-passed : (gates : List Gate) (block : ℕ) (cells marks blocks : List Bool) → get_or blocks block false ≡ false
-    → IsSwept gates (64 * block) cells marks blocks → IsSwept gates (64 * block + 64) cells marks blocks
-block-passed gates block cells marks blocks off swept = record {
+pub block-passed : (active : Bool) (gates : List Gate) (block : ℕ) (cells marks blocks : List Bool) → get_or blocks block false ≡ false
+    → IsSwept active gates (64 * block) cells marks blocks → IsSwept active gates (64 * block + 64) cells marks blocks
+block-passed active gates block cells marks blocks off swept = record {
   tracked = swept.tracked;
-  done = λ p below inside.
+  done = λ on p below inside.
       elim (cases_lt p (64 * block)) [
-        | inl before ↦ swept.done p before inside
+        | inl before ↦ swept.done on p before inside
         | inr after ↦
             let here : p / 64 ≡ block = omega arith in
             swept.tracked.even p inside (ap (λ b. get_or marks p false && b) (ap (λ q. get_or blocks q false) here ∙ off) ∙ and-false (get_or marks p false))

@@ -106,7 +106,7 @@ module _ (m : Parts) (layout : Layout) (circuit : Circuit) (laid : IsLaidOut m l
   -- ---- wires
 
   module _ (bits : List Bool) (words : List ℕ) (before after marks blocks : List Bool) (bits_are : length bits ≡ count) (words_are : length words ≡ word_count m) (small : AreWords words)
-      (room : count ≤ length before) (sources : AreSources first bits words before) (settled : IsSettled first count circuit.gates.items circuit.settles.items before after marks blocks) where
+      (room : count ≤ length before) (sources : AreSources first bits words before) (settled : IsSettled true first count circuit.gates.items circuit.settles.items before after marks blocks) where
     abbrev wired : List Bool
     wired = settled.wired
 
@@ -155,7 +155,7 @@ module _ (m : Parts) (layout : Layout) (circuit : Circuit) (laid : IsLaidOut m l
         wire-shown (zero_cell count (word_count m)) roots wired (gate_at raw place) (flat_map (kept_gate roots) raw) (known.follows place inside)
         (subst (λ n. AreBelow n (gate_at raw place).ins) (sym size) parts.0) (omega (arith, parts.1, size)) zero-is
         (λ is. kept-at roots raw place inside is)
-        (subst (λ gates. (p : ℕ) → p < length gates → IsEven wired (gate_at gates p)) (made.gates ∙ ap (flat_map (kept_gate roots)) laid.gates) settled.even)
+        (subst (λ gates. (p : ℕ) → p < length gates → IsEven wired (gate_at gates p)) (made.gates ∙ ap (flat_map (kept_gate roots)) laid.gates) (settled.even refl))
 
     raw-is : raw ≡ map (gate_of count (length words)) (module_wires m)
     raw-is = ap (λ w. map (gate_of count w) (module_wires m)) (sym words_are)
@@ -238,11 +238,11 @@ module _ (m : Parts) (layout : Layout) (circuit : Circuit) (laid : IsLaidOut m l
 
   -- ---- clocked items
 
-  pub clocked-sources : (event : Event) (group : Group) (bits : List Bool) (words next_words : List ℕ) (before after : List Bool) → event.pin < first
+  pub clocked-sources : (event : Event) (group : Group) (bits : List Bool) (words next_words : List ℕ) (memories next_memories : List (List ℕ)) (before after : List Bool) → event.pin < first
       → IsGroup event first count (word_count m) roots layout.plan group → Show count (word_count m) roots bits words before → count ≤ length before → length next_words ≡ word_count m
-      → IsClocked count event group words next_words before after
+      → IsClocked true count event group words next_words memories next_memories before after
       → AreSources first (set (fold (flip_slot event bits words) bits layout.plan.flips.items) event.pin event.bit) next_words after
-  clocked-sources event group bits words next_words before after pinned grouped show room same_words clocked =
+  clocked-sources event group bits words next_words memories next_memories before after pinned grouped show room same_words clocked =
       let stored : List Bool = clocked.stored in
       let flips = layout.plan.flips.items in
       let flipped : List Bool = fold (flip_slot event bits words) bits flips in
@@ -251,10 +251,10 @@ module _ (m : Parts) (layout : Layout) (circuit : Circuit) (laid : IsLaidOut m l
       let runs : fold (flip_slot event before []) stored group.flips.items ≡ fold (flip_slot event before []) stored (flat_map (flip_at event first count (word_count m) roots) flips) =
       ap (fold (flip_slot event before []) stored) grouped.flips in
       let begun : Agree first stored bits = record {
-        some_room = omega (arith, first-within, room, clocked.size);
+        some_room = omega (arith, first-within, room, clocked.known.size);
         other_room = omega (arith, first-within, show.bits_count);
         same = λ cell inside.
-            clocked.same cell (λ less. omega (arith, inside, first-within)) ∙ at_root cell (λ name. inside) (omega (arith, inside, first-within))
+            clocked.known.same cell (λ less. omega (arith, inside, first-within)) ∙ at_root cell (λ name. inside) (omega (arith, inside, first-within))
             ∙ get_or_append_left bits (tail_of words) false cell (omega (arith, inside, first-within, show.bits_count));
       } in
       let agreed = agree-set first _ flipped event.pin event.bit (flips-agree event first count (word_count m) roots bits words before show stored bits flips begun) in
@@ -275,9 +275,9 @@ module _ (m : Parts) (layout : Layout) (circuit : Circuit) (laid : IsLaidOut m l
             ap (λ n. get_or after (n + place) false) size_now ∙ here
             ∙ (elim (cases_lt place (16 * length next_words)) [
               | inl part ↦
-                  clocked.parts (λ p within. was p (omega (arith, within, show.words_count)) ∙ tail-part words p within) place part ∙ sym (tail-part next_words place part)
+                  clocked.known.parts (λ p within. was p (omega (arith, within, show.words_count)) ∙ tail-part words p within) place part ∙ sym (tail-part next_words place part)
               | inr past ↦
-                  clocked.same cell (λ less. absurd (omega (arith, less, past, same_words, show.words_count)))
+                  clocked.known.same cell (λ less. absurd (omega (arith, less, past, same_words, show.words_count)))
                   ∙ was place (omega (arith, inside, same_words))
                   ∙ tail-end words place (omega (arith, past, same_words, show.words_count))
                   ∙ ap (λ n. get_or (false ∷ true ∷ []) (place - 16 * n) false) (show.words_count ∙ sym same_words)

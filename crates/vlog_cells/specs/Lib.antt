@@ -1,7 +1,10 @@
+pub mod Boards
 pub mod Changes
 pub mod Circuits
 pub mod Groups
+pub mod Lanes
 pub mod Marks
 pub mod Passing
 pub mod Resolved
 pub mod Roots
+pub mod Starting

@@ -64,10 +64,10 @@ pub record IsTracked (gates : List Gate) (cells marks blocks : List Bool) : Type
   pub marks_room : length marks ≡ 64 * length blocks
   pub even : (place : ℕ) → place < length gates → is_marked marks blocks place ≡ false → IsEven cells (gate_at gates place)
 
--- and so do the first ones, marked or not
-pub record IsSwept (gates : List Gate) (end : ℕ) (cells marks blocks : List Bool) : Type 0 where
+-- and in an active lane so do the first ones, marked or not
+pub record IsSwept (active : Bool) (gates : List Gate) (end : ℕ) (cells marks blocks : List Bool) : Type 0 where
   pub tracked : IsTracked gates cells marks blocks
-  pub done : (place : ℕ) → place < end → place < length gates → IsEven cells (gate_at gates place)
+  pub done : active ≡ true → (place : ℕ) → place < end → place < length gates → IsEven cells (gate_at gates place)
 
 -- ---- the order of wires: there are so many names, and the cells behind theirs aren't wires'
 

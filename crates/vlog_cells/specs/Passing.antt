@@ -1,7 +1,7 @@
 -- What the two halves of an event leave in cells.
-use Rattle.std.specs.Prelude.{◌≡◌, ◌<◌, ◌+◌, ◌*◌, ℕ, Bool, List, [], fold, length, slice_set}
+use Rattle.std.specs.Prelude.{◌≡◌, ◌<◌, ◌+◌, ◌*◌, ℕ, Bool, false, true, List, [], fold, length, map, slice_set, if◌then◌else◌}
 use Rattle.vlog_plan.specs.Cells.{cell_at}
-use Rattle.vlog_plan.specs.Steps.{flip_slot, settle_slot}
+use Rattle.vlog_plan.specs.Steps.{flip_slot, put_written, read_slot, settle_slot, written_by}
 use Rattle.vlog_plan.specs.declared.event.Event.{Event}
 use Rattle.vlog_plan.specs.declared.gates.Gate.{Gate}
 use Rattle.vlog_plan.specs.declared.plan.Settle.{Settle}
@@ -9,21 +9,29 @@ use Rattle.vlog_cells.specs.declared.groups.Group.{Group}
 use Rattle.vlog_cells.specs.Circuits.{ArePartsAt}
 use Rattle.vlog_cells.specs.Marks.{IsEven, IsTracked, StaySources, gate_at}
 
--- the registers have what clocked items assign, and the input its bit
-pub record IsClocked (bits : ℕ) (event : Event) (group : Group) (words next_words : List ℕ) (before after : List Bool) : Type 0 where
-  -- the cells once those of words have theirs
-  pub stored : List Bool
-  pub size : length stored ≡ length before
-  pub parts : ArePartsAt bits words before → ArePartsAt bits next_words stored
-  pub same : (cell : ℕ) → (cell < bits + 16 * length words → cell < bits) → cell_at stored cell ≡ cell_at before cell
-  pub are : after ≡ slice_set (fold (flip_slot event before []) stored group.flips.items) event.pin event.bit
+-- the registers of 16 bits and the memories of a lane have what reads and writes give them, if the lane is active, and cells the bits of the registers
+pub record IsStored (active : Bool) (bits : ℕ) (event : Event) (group : Group) (words next_words : List ℕ) (memories next_memories : List (List ℕ)) (before after : List Bool) : Type 0 where
+  pub words_are : next_words ≡ (if active then fold (read_slot event before [] memories) words group.reads.items else words)
+  pub memories_are : next_memories ≡ (if active then fold put_written memories (map (written_by event before [] memories) group.writes.items) else memories)
+  pub size : length after ≡ length before
+  pub parts : ArePartsAt bits words before → ArePartsAt bits next_words after
+  pub same : (cell : ℕ) → (cell < bits + 16 * length words → cell < bits) → cell_at after cell ≡ cell_at before cell
+  pub idle : active ≡ false → after ≡ before
 
--- the wires have their values, and registers that wires set at once the bits that these give them
-pub record IsSettled (first count : ℕ) (gates : List Gate) (settles : List Settle) (before after marks blocks : List Bool) : Type 0 where
+-- and the registers of one bit have what flip-flops give them, and the input its bit
+pub record IsClocked (active : Bool) (bits : ℕ) (event : Event) (group : Group) (words next_words : List ℕ) (memories next_memories : List (List ℕ)) (before after : List Bool) : Type 0 where
+  -- the cells once those of registers of 16 bits have theirs
+  pub stored : List Bool
+  pub known : IsStored active bits event group words next_words memories next_memories before stored
+  pub are : after ≡ (if active then slice_set (fold (flip_slot event before []) stored group.flips.items) event.pin event.bit else stored)
+
+-- the wires have their values in an active lane, and registers that wires set at once the bits that these give them
+pub record IsSettled (active : Bool) (first count : ℕ) (gates : List Gate) (settles : List Settle) (before after marks blocks : List Bool) : Type 0 where
   -- the cells once those of wires have theirs
   pub wired : List Bool
   pub size : length wired ≡ length before
   pub same : StaySources first count before wired
-  pub even : (place : ℕ) → place < length gates → IsEven wired (gate_at gates place)
-  pub are : after ≡ fold (settle_slot wired) wired settles
+  pub even : active ≡ true → (place : ℕ) → place < length gates → IsEven wired (gate_at gates place)
+  pub idle : active ≡ false → wired ≡ before
+  pub are : after ≡ (if active then fold (settle_slot wired) wired settles else wired)
   pub tracked : IsTracked gates after marks blocks

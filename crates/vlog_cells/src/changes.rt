@@ -1,75 +1,192 @@
 // Changes of cells, computed before any of them takes effect.
-ghost use Rattle.std.specs.Prelude.{◌≡◌, ◌<◌, ◌≤◌, ◌+◌, Bool, List, [], fold, length, slice_set, take};
-ghost use Rattle.vlog_cells.specs.Changes.{change_slot};
+ghost use Rattle.std.specs.Prelude.{◌≡◌, ◌<◌, ◌≤◌, ◌+◌, ℕ, Bool, List, [], false, fold, length, not, take, true, if◌then◌else◌};
+ghost use Rattle.vlog_cells.specs.Changes.{change_slot, changed_by, step_in};
+ghost use Rattle.vlog_cells.specs.Lanes.{lane_bits};
 ghost use Rattle.vlog_cells.specs.Marks.{IsRead, IsTracked};
-ghost use Rattle.vlog_plan.specs.Steps.{flip_slot, settle_slot};
+ghost use Rattle.vlog_plan.specs.Run.{is_same_bit};
+ghost use Rattle.vlog_plan.specs.Steps.{flip_slot, operand_value, operands_value, settle_slot, table_value};
+ghost use Rattle.vlog_plan.specs.Values.{bit_of};
 ghost use Rattle.vlog_plan.specs.declared.gates.Gate.{Gate as gate_of};
 
 use crate::marks::write;
-use vlog_plan::{Event, Flip, Settle, bit_at, is_edge_of, next_bit, operand_value};
+use crate::reading::{cell_at, operand_at};
+use crate::value::Value;
+use vlog_plan::{Event, Flip, Operand, Settle, Table, is_edge_of};
 
-/// A bit for a cell.
+/// A value for a cell, in some lanes.
 #[derive(Clone, Copy)]
-pub struct Change {
-    pub cell: usize,
-    pub bit: bool,
+pub(crate) struct Change<V> {
+    pub(crate) cell: usize,
+    pub(crate) lanes: V,
+    pub(crate) value: V,
 }
 
-/// Notes what flip-flops do at an event, in the first places, and tells how many these are.
-pub(crate) fn note_flips(
+/// Whether a value has a 1 in no lane.
+pub(crate) fn is_none<V: Value>(value: V) -> bool
+    ensures { result ≡ true → (lane : ℕ) → lane < V.LANES → V.at value lane ≡ false }
+{
+    !value.differs(V::every(false))
+}
+
+/// In each lane whether both values have a 1 there.
+pub(crate) fn both<V: Value>(one: V, other: V) -> V
+    ensures { (lane : ℕ) → lane < V.LANES → V.at result lane ≡ (if V.at one lane then V.at other lane else false) }
+{
+    V::select(one, other, V::every(false))
+}
+
+/// The lanes in which an event gives an input another bit than it has.
+pub(crate) fn changed_lanes<V: Value>(active: V, bits: V, old: V) -> V
+    ensures { (lane : ℕ) → lane < V.LANES → V.at result lane ≡ (if V.at active lane then not (is_same_bit (V.at bits lane) (V.at old lane)) else false) }
+{
+    let other = V::select(old, V::every(false), V::every(true));
+    both(active, V::select(bits, other, old))
+}
+
+/// In each lane the bit of a table whose number four operands write, the lowest first.
+fn operands_bit<V: Value>(cells: &[V], ins: &[Operand; 4], table: u16) -> V
+    ensures { (lane : ℕ) → lane < V.LANES → V.at result lane ≡ bit_of table (operands_value (lane_bits V.at lane cells.now) [] ins.now) }
+{
+    let (a, b) = (operand_at(cells, ins[0]), operand_at(cells, ins[1]));
+    let (c, d) = (operand_at(cells, ins[2]), operand_at(cells, ins[3]));
+    V::of_table(table, a, b, c, d)
+}
+
+/// The value of a table.
+fn table_at<V: Value>(cells: &[V], table: &Table) -> V
+    ensures { (lane : ℕ) → lane < V.LANES → V.at result lane ≡ table_value (lane_bits V.at lane cells.now) [] table.now }
+{
+    operands_bit(cells, &table.ins, table.word)
+}
+
+/// The next value of a register.
+fn next_value<V: Value>(cells: &[V], flip: &Flip) -> V
+    ensures { (lane : ℕ) → lane < V.LANES → V.at result lane ≡ (if operand_value (lane_bits V.at lane cells.now) [] flip.now.reset then flip.now.set
+        else table_value (lane_bits V.at lane cells.now) [] flip.now.table) }
+{
+    let reset = operand_at(cells, flip.reset);
+    V::select(reset, V::every(flip.set), table_at(cells, &flip.table))
+}
+
+/// Notes a change in the place behind the first so many, where there is one, and tells how many are noted then.
+fn note<V: Value>(changes: &mut [Change<V>], count: usize, change: Option<Change<V>>) -> usize
+    requires { count < length changes.old }
+    ensures count { result ≤ count + 1 }
+    ensures noted { (lane : ℕ) (next : List Bool) → fold (change_slot V.at lane) next (take result changes.new)
+        ≡ changed_by V.at lane (fold (change_slot V.at lane) next (take count changes.old)) change }
+{
+    match change {
+        Some(change) => {
+            changes[count] = change;
+            count + 1
+        }
+        None => count,
+    }
+}
+
+/// What a flip-flop does at an event in active lanes: none where it does nothing.
+fn flip_change<V: Value>(flip: &Flip, event: Event, active: V, cells: &[V]) -> Option<Change<V>>
+    ensures { (lane : ℕ) (next : List Bool) → lane < V.LANES
+        → changed_by V.at lane next result ≡ step_in (V.at active lane) (flip_slot event (lane_bits V.at lane cells.now) []) next flip.now }
+{
+    if !is_edge_of(event, flip.edge) {
+        return None;
+    }
+    let lanes = both(active, operand_at(cells, flip.enable));
+    if is_none(lanes) {
+        return None;
+    }
+    Some(Change {
+        cell: flip.target,
+        lanes,
+        value: next_value(cells, flip),
+    })
+}
+
+/// Notes what flip-flops do at an event in active lanes, in the first places, and tells how many these are.
+pub(crate) fn note_flips<V: Value>(
     flips: &[Flip],
     event: Event,
-    cells: &[bool],
-    changes: &mut [Change],
+    active: V,
+    cells: &[V],
+    changes: &mut [Change<V>],
 ) -> usize
     requires { length flips.now ≤ length changes.old }
     ensures count { result ≤ length flips.now }
-    ensures noted { (next : List Bool) → fold change_slot next (take result changes.new) ≡ fold (flip_slot event cells.now []) next flips.now }
+    ensures noted { (lane : ℕ) (next : List Bool) → lane < V.LANES
+        → fold (change_slot V.at lane) next (take result changes.new) ≡ fold (step_in (V.at active lane) (flip_slot event (lane_bits V.at lane cells.now) [])) next flips.now }
 {
     let mut count = 0;
     for flip in flips {
-        if is_edge_of(event, flip.edge) && operand_value(cells, &[], flip.enable) {
-            changes[count] = Change {
-                cell: flip.target,
-                bit: next_bit(flip, cells, &[]),
-            };
-            count += 1;
-        }
+        count = note(changes, count, flip_change(flip, event, active, cells));
     }
     count
 }
 
-/// Notes which registers wires set at once, in the first places, and tells how many these are.
-pub(crate) fn note_settles(settles: &[Settle], cells: &[bool], changes: &mut [Change]) -> usize
+/// Which register a wire sets at once in active lanes: none where it sets none.
+fn settle_change<V: Value>(settle: &Settle, active: V, cells: &[V]) -> Option<Change<V>>
+    ensures { (lane : ℕ) (next : List Bool) → lane < V.LANES
+        → changed_by V.at lane next result ≡ step_in (V.at active lane) (settle_slot (lane_bits V.at lane cells.now)) next settle.now }
+{
+    let lanes = both(active, cell_at(cells, settle.wire));
+    if is_none(lanes) {
+        return None;
+    }
+    Some(Change {
+        cell: settle.target,
+        lanes,
+        value: V::every(settle.set),
+    })
+}
+
+/// Notes which registers wires set at once in active lanes, in the first places, and tells how many these are.
+pub(crate) fn note_settles<V: Value>(
+    settles: &[Settle],
+    active: V,
+    cells: &[V],
+    changes: &mut [Change<V>],
+) -> usize
     requires { length settles.now ≤ length changes.old }
     ensures count { result ≤ length settles.now }
-    ensures noted { (next : List Bool) → fold change_slot next (take result changes.new) ≡ fold (settle_slot cells.now) next settles.now }
+    ensures noted { (lane : ℕ) (next : List Bool) → lane < V.LANES
+        → fold (change_slot V.at lane) next (take result changes.new) ≡ fold (step_in (V.at active lane) (settle_slot (lane_bits V.at lane cells.now))) next settles.now }
 {
     let mut count = 0;
     for settle in settles {
-        if bit_at(cells, settle.wire) {
-            changes[count] = Change {
-                cell: settle.target,
-                bit: settle.set,
-            };
-            count += 1;
-        }
+        count = note(changes, count, settle_change(settle, active, cells));
     }
     count
 }
 
-/// Changes cells.
-pub(crate) fn commit(
+/// Gives a cell a value in some lanes, and marks the wires on which it bears where it changes.
+pub(crate) fn write_lanes<V: Value>(
     readers: &[Vec<usize>],
-    changes: &[Change],
-    cells: &mut [bool],
+    change: Change<V>,
+    cells: &mut [V],
     marks: &mut [bool],
     blocks: &mut [bool],
 )
-    ensures cells { cells.new ≡ fold change_slot cells.old changes.now }
-    ensures tracked { (gates : List gate_of) → IsRead gates readers.now → IsTracked gates cells.old marks.old blocks.old → IsTracked gates cells.new marks.new blocks.new }
+    ensures cells { (lane : ℕ) → lane < V.LANES → lane_bits V.at lane cells.new ≡ change_slot V.at lane (lane_bits V.at lane cells.old) change }
+    ensures tracked { (lane : ℕ) (gates : List gate_of) → IsRead gates readers.now → IsTracked gates (lane_bits V.at lane cells.old) marks.old blocks.old
+        → IsTracked gates (lane_bits V.at lane cells.new) marks.new blocks.new }
+{
+    let value = V::select(change.lanes, change.value, cell_at(cells, change.cell));
+    write(readers, change.cell, value, cells, marks, blocks);
+}
+
+/// Changes cells.
+pub(crate) fn commit<V: Value>(
+    readers: &[Vec<usize>],
+    changes: &[Change<V>],
+    cells: &mut [V],
+    marks: &mut [bool],
+    blocks: &mut [bool],
+)
+    ensures cells { (lane : ℕ) → lane < V.LANES → lane_bits V.at lane cells.new ≡ fold (change_slot V.at lane) (lane_bits V.at lane cells.old) changes.now }
+    ensures tracked { (lane : ℕ) (gates : List gate_of) → IsRead gates readers.now → IsTracked gates (lane_bits V.at lane cells.old) marks.old blocks.old
+        → IsTracked gates (lane_bits V.at lane cells.new) marks.new blocks.new }
 {
     for change in changes {
-        write(readers, change.cell, change.bit, cells, marks, blocks);
+        write_lanes(readers, *change, cells, marks, blocks);
     }
 }

@@ -10,21 +10,21 @@ use vlog_plan::{Event, Gate, Layout, Operand, Settle};
 
 /// A module over cells: each name of one bit has one, then each bit of the registers of 16 bits, then 0 and 1.
 #[derive(Drop)]
-pub struct Circuit {
+pub(crate) struct Circuit {
     /// How many names of one bit there are.
-    pub bits: usize,
+    pub(crate) bits: usize,
     /// The cell that each cell stands for.
-    pub roots: Vec<usize>,
+    pub(crate) roots: Vec<usize>,
     /// The wires that don't copy, in the order of the text.
-    pub gates: Vec<Gate>,
+    pub(crate) gates: Vec<Gate>,
     /// The wires on which each cell bears, by their places.
-    pub readers: Vec<Vec<usize>>,
-    pub settles: Vec<Settle>,
-    pub outputs: Vec<Operand>,
+    pub(crate) readers: Vec<Vec<usize>>,
+    pub(crate) settles: Vec<Settle>,
+    pub(crate) outputs: Vec<Operand>,
     /// What each input runs when it becomes 1.
-    pub rising: Vec<Group>,
+    pub(crate) rising: Vec<Group>,
     /// What each input runs when it becomes 0.
-    pub falling: Vec<Group>,
+    pub(crate) falling: Vec<Group>,
 }
 
 ghost use Rattle.vlog_cells.specs.Circuits.{IsCircuit};
@@ -35,7 +35,7 @@ impl Circuit {
     ghost use Rattle.vlog_plan.specs.declared.plan.Plan.{Plan as plan_of};
 
     /// What an event runs.
-    pub fn group(&self, event: Event) -> &Group
+    pub(crate) fn group(&self, event: Event) -> &Group
         requires rising { event.pin < vec_len self.now.rising }
         requires falling { event.pin < vec_len self.now.falling }
         ensures { (first bits words : ℕ) (plan : plan_of) → IsCircuit first bits words plan self.now → IsGroup event first bits words self.now.roots.items plan result.now }
@@ -49,7 +49,7 @@ impl Circuit {
 }
 
 /// The circuit of a layout with so many names of one bit and registers of 16 bits.
-pub fn circuit_of(
+pub(crate) fn circuit_of(
     alloc: Global,
     layout: &Layout,
     bits: usize,

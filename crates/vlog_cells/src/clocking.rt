@@ -1,67 +1,53 @@
 // What an event does before wires get their values.
-ghost use Rattle.std.specs.Prelude.{◌≡◌, ◌<◌, ◌≤◌, ◌+◌, ◌*◌, ℕ, List, [], fold, get_or, length, map};
-ghost use Rattle.vlog_cells.specs.Passing.{IsClocked};
-ghost use Rattle.vlog_plan.specs.Steps.{put_written, read_slot, written_by};
-ghost use Rattle.vlog_plan.specs.declared.gates.Gate.{Gate as gate_of};
+ghost use Rattle.std.specs.Prelude.{◌≡◌, ◌<◌, ◌≤◌, ◌+◌, ◌*◌, ℕ, List, length};
+ghost use Rattle.vlog_cells.specs.Lanes.{AreLanes, lane_bits, list_of};
 ghost use Rattle.vlog_cells.specs.Marks.{IsRead, IsTracked};
+ghost use Rattle.vlog_cells.specs.Passing.{IsClocked};
+ghost use Rattle.vlog_plan.specs.declared.gates.Gate.{Gate as gate_of};
 
-use crate::changes::{Change, commit, note_flips};
+use crate::changes::{Change, commit, note_flips, write_lanes};
 use crate::groups::Group;
-use crate::marks::write;
-use crate::parts::write_words;
-use vlog_plan::{Event, Memory, Written, copy_words, prepare_writes, run_reads, run_writes};
+use crate::storing::store_all;
+use crate::value::Value;
+use vlog_plan::{Event, Memory, Written};
 
-/// Gives memories what writes put in them, and computes the next words of registers.
-fn run_memories(
-    group: &Group,
-    event: Event,
-    cells: &[bool],
-    words: &[u16],
-    next_words: &mut [u16],
-    memories: &mut [Memory],
-    written: &mut [Option<Written>],
-)
-    requires words { length next_words.old ≡ length words.now }
-    requires written { length group.now.writes.items ≤ length written.old }
-    ensures words { next_words.new ≡ fold (read_slot event cells.now [] memories.old) words.now group.now.reads.items }
-    ensures memories { memories.new ≡ fold put_written memories.old (map (written_by event cells.now [] memories.old) group.now.writes.items) }
-{
-    copy_words(words, next_words);
-    run_reads(&group.reads, event, cells, &[], memories, next_words);
-    let written = &mut written[..group.writes.len()];
-    prepare_writes(&group.writes, event, cells, &[], memories, written);
-    run_writes(written, memories);
-}
-
-/// Takes an event that changes its input. What the clocked items assign is computed before any of it takes effect.
-pub fn clock(
+/// Takes an event that changes its input in active lanes. What the clocked items assign is computed before any of it takes effect.
+pub(crate) fn clock<V: Value>(
     group: &Group,
     readers: &[Vec<usize>],
     bits: usize,
     event: Event,
-    cells: &mut [bool],
+    active: V,
+    cells: &mut [V],
     marks: &mut [bool],
     blocks: &mut [bool],
-    words: &mut [u16],
+    words: &mut [Vec<u16>],
     next_words: &mut [u16],
-    memories: &mut [Memory],
+    memories: &mut [Vec<Memory>],
     written: &mut [Option<Written>],
-    changes: &mut [Change],
+    changes: &mut [Change<V>],
 )
-    requires room { bits + 16 * length words.old + 2 ≤ length cells.old }
-    requires words { length next_words.old ≡ length words.old }
+    requires room { bits + 16 * length next_words.old + 2 ≤ length cells.old }
+    requires words { AreLanes V.LANES (length next_words.old) words.old }
+    requires memories { length memories.old ≡ V.LANES }
     requires written { length group.now.writes.items ≤ length written.old }
     requires changes { length group.now.flips.items ≤ length changes.old }
-    ensures words { words.new ≡ fold (read_slot event cells.old [] memories.old) words.old group.now.reads.items }
-    ensures sixteen_bits { (place : ℕ) → get_or words.new place 0 < 65536 }
-    ensures memories { memories.new ≡ fold put_written memories.old (map (written_by event cells.old [] memories.old) group.now.writes.items) }
-    ensures cells { IsClocked bits event group.now words.old words.new cells.old cells.new }
-    ensures tracked { (gates : List gate_of) → IsRead gates readers.now → IsTracked gates cells.old marks.old blocks.old → IsTracked gates cells.new marks.new blocks.new }
+    ensures clocked { (lane : ℕ) → lane < V.LANES → IsClocked (V.at active lane) bits event group.now (list_of lane words.old) (list_of lane words.new)
+        (list_of lane memories.old) (list_of lane memories.new) (lane_bits V.at lane cells.old) (lane_bits V.at lane cells.new) }
+    ensures lanes { AreLanes V.LANES (length next_words.old) words.new }
+    ensures tracked { (lane : ℕ) (gates : List gate_of) → IsRead gates readers.now → IsTracked gates (lane_bits V.at lane cells.old) marks.old blocks.old
+        → IsTracked gates (lane_bits V.at lane cells.new) marks.new blocks.new }
 {
-    let count = note_flips(&group.flips, event, cells, changes);
-    run_memories(group, event, cells, words, next_words, memories, written);
-    write_words(readers, bits, words, next_words, cells, marks, blocks);
-    copy_words(next_words, words);
+    let count = note_flips(&group.flips, event, active, cells, changes);
+    store_all(
+        group, readers, bits, event, active, cells, marks, blocks, words, next_words, memories,
+        written,
+    );
     commit(readers, &changes[..count], cells, marks, blocks);
-    write(readers, event.pin, event.bit, cells, marks, blocks);
+    let change = Change {
+        cell: event.pin,
+        lanes: active,
+        value: V::every(event.bit),
+    };
+    write_lanes(readers, change, cells, marks, blocks);
 }

@@ -10,10 +10,22 @@ use vlog_plan::{Event, Flip, Plan, Read, Write, is_edge_of};
 
 /// The clocked items whose edge an event is, over cells.
 #[derive(Drop)]
-pub struct Group {
+pub(crate) struct Group {
     pub(crate) flips: Vec<Flip>,
     pub(crate) reads: Vec<Read>,
     pub(crate) writes: Vec<Write>,
+}
+
+impl Group {
+    ghost use Rattle.std.specs.Prelude.{◌≡◌, [], false};
+
+    /// Whether there are reads or writes.
+    pub(crate) fn has_ports(&self) -> bool
+        ensures reads { result ≡ false → self.now.reads.items ≡ [] }
+        ensures writes { result ≡ false → self.now.writes.items ≡ [] }
+    {
+        !self.reads.is_empty() || !self.writes.is_empty()
+    }
 }
 
 /// Adds a flip-flop, where the event is its edge. One whose register isn't below the first wire does nothing.

@@ -1,10 +1,13 @@
 // Marks on wires whose cells may not have their values: a wire is marked where both it and its block of 64 wires are.
 ghost use Rattle.std.specs.Prelude.{◌≡◌, ◌<◌, ◌≤◌, ◌*◌, ℕ, [], IfOk, List, false, fold, get_or, length, slice_set, true};
+ghost use Rattle.vlog_cells.specs.Lanes.{lane_bits};
 ghost use Rattle.vlog_cells.specs.Marks.{IsRead, IsTracked, lists_of, mark_block, mark_gate};
 ghost use Rattle.vlog_plan.specs.declared.gates.Gate.{Gate as gate_of};
 
+use crate::reading::{cell_at, set_cell};
+use crate::value::Value;
 use std::alloc::{AllocError, Global};
-use vlog_plan::{bit_at, set_bit};
+use vlog_plan::set_bit;
 
 /// Marks wires.
 fn mark_all(places: &[usize], marks: &mut [bool], blocks: &mut [bool])
@@ -28,26 +31,27 @@ fn readers_at(readers: &[Vec<usize>], cell: usize) -> &[usize]
     }
 }
 
-/// Gives a cell a bit, and where this is another one marks the wires on which the cell bears.
-pub(crate) fn write(
+/// Gives a cell a value, and where this is another one marks the wires on which the cell bears.
+pub(crate) fn write<V: Value>(
     readers: &[Vec<usize>],
     cell: usize,
-    bit: bool,
-    cells: &mut [bool],
+    value: V,
+    cells: &mut [V],
     marks: &mut [bool],
     blocks: &mut [bool],
 )
-    ensures cells { cells.new ≡ slice_set cells.old cell bit }
-    ensures tracked { (gates : List gate_of) → IsRead gates readers.now → IsTracked gates cells.old marks.old blocks.old → IsTracked gates cells.new marks.new blocks.new }
+    ensures cells { cells.new ≡ slice_set cells.old cell value }
+    ensures tracked { (lane : ℕ) (gates : List gate_of) → IsRead gates readers.now → IsTracked gates (lane_bits V.at lane cells.old) marks.old blocks.old
+        → IsTracked gates (lane_bits V.at lane cells.new) marks.new blocks.new }
 {
-    if bit_at(cells, cell) != bit {
-        set_bit(cells, cell, bit);
+    if cell_at(cells, cell).differs(value) {
+        set_cell(cells, cell, value);
         mark_all(readers_at(readers, cell), marks, blocks);
     }
 }
 
 /// Marks on so many wires, all of them set: those of wires, then those of blocks.
-pub fn marks_of(alloc: Global, count: usize) -> Result<(Vec<bool>, Vec<bool>), AllocError>
+pub(crate) fn marks_of(alloc: Global, count: usize) -> Result<(Vec<bool>, Vec<bool>), AllocError>
     ensures room { IfOk result (λ made. count ≤ 64 * length made.1.items) }
     ensures marks_room { IfOk result (λ made. length made.0.items ≡ 64 * length made.1.items) }
     ensures marks { IfOk result (λ made. (place : ℕ) → place < length made.0.items → get_or made.0.items place false ≡ true) }

@@ -1,14 +1,17 @@
 // The bits of registers of 16 bits in their cells.
-ghost use Rattle.std.specs.Prelude.{◌≡◌, ◌<◌, ◌≤◌, ◌+◌, ◌*◌, ◌^◌, ℕ, List, false, get_or, length};
+ghost use Rattle.std.specs.Prelude.{◌≡◌, ◌≢◌, ◌<◌, ◌≤◌, ◌+◌, ◌*◌, ◌^◌, ℕ, List, false, get_or, length};
 ghost use Rattle.vlog_cells.specs.Changes.{with_word};
+ghost use Rattle.vlog_cells.specs.Lanes.{lane_bits};
 ghost use Rattle.vlog_cells.specs.Marks.{IsRead, IsTracked};
 ghost use Rattle.vlog_cells.specs.Circuits.{ArePartsAt, shown_by};
 ghost use Rattle.vlog_plan.specs.Cells.{cells_of, part_at, parts_below};
 ghost use Rattle.vlog_plan.specs.Values.{bit_of};
 ghost use Rattle.vlog_plan.specs.declared.gates.Gate.{Gate as gate_of};
 
-use crate::marks::write;
-use vlog_plan::{bit_at, bit_of, copy_bits, set_bit, word_at};
+use crate::changes::{Change, write_lanes};
+use crate::reading::{cell_at, set_cell};
+use crate::value::Value;
+use vlog_plan::{bit_of, copy_bits, set_bit, word_at};
 
 /// The bit of a word at its place.
 fn part_at(words: &[u16], place: usize) -> bool
@@ -28,7 +31,7 @@ fn fill_parts(words: &[u16], parts: &mut [bool])
 }
 
 /// Puts bits, the bits of words, 0 and 1 in their cells.
-pub fn fill_cells(bits: &[bool], words: &[u16], cells: &mut [bool])
+pub(crate) fn fill_cells(bits: &[bool], words: &[u16], cells: &mut [bool])
     requires { length cells.old ≡ length bits.now + 16 * length words.now + 2 }
     ensures { cells.new ≡ cells_of bits.now words.now }
 {
@@ -39,76 +42,87 @@ pub fn fill_cells(bits: &[bool], words: &[u16], cells: &mut [bool])
     copy_bits(&[false, true], constants);
 }
 
-/// Gives each place the bit of a cell: that of the first cell to the first place, and so on.
-pub fn show_cells(roots: &[usize], cells: &[bool], shown: &mut [bool])
-    ensures { length shown.old ≡ length roots.now → shown.new ≡ shown_by roots.now cells.now }
+/// Gives each place the value of a cell: that of the first cell to the first place, and so on.
+pub(crate) fn show_cells<V: Value>(roots: &[usize], cells: &[V], shown: &mut [V])
+    ensures { length shown.old ≡ length roots.now → (lane : ℕ) → lane < V.LANES → lane_bits V.at lane shown.new ≡ shown_by roots.now (lane_bits V.at lane cells.now) }
 {
     for (place, root) in roots.iter().enumerate() {
-        let bit = bit_at(cells, *root);
-        set_bit(shown, place, bit);
+        let value = cell_at(cells, *root);
+        set_cell(shown, place, value);
     }
 }
 
-/// Gives the sixteen cells from one on the bits of a word.
-fn write_word(
+/// Gives the sixteen cells from one on the bits of a word, in a lane.
+fn write_word<V: Value>(
     readers: &[Vec<usize>],
     from: usize,
     word: u16,
-    cells: &mut [bool],
+    lane: u32,
+    cells: &mut [V],
     marks: &mut [bool],
     blocks: &mut [bool],
 )
-    requires { from + 16 < 2 ^ 64 }
-    ensures cells { cells.new ≡ with_word cells.old from word 16 }
-    ensures tracked { (gates : List gate_of) → IsRead gates readers.now → IsTracked gates cells.old marks.old blocks.old → IsTracked gates cells.new marks.new blocks.new }
+    requires room { from + 16 < 2 ^ 64 }
+    requires within { lane < V.LANES }
+    ensures own { lane_bits V.at lane cells.new ≡ with_word (lane_bits V.at lane cells.old) from word 16 }
+    ensures others { (other : ℕ) → other < V.LANES → other ≢ lane → lane_bits V.at other cells.new ≡ lane_bits V.at other cells.old }
+    ensures tracked { (other : ℕ) (gates : List gate_of) → IsRead gates readers.now → IsTracked gates (lane_bits V.at other cells.old) marks.old blocks.old
+        → IsTracked gates (lane_bits V.at other cells.new) marks.new blocks.new }
 {
     for k in 0..16_u32 {
-        write(
-            readers,
-            from + k as usize,
-            bit_of(word, k),
-            cells,
-            marks,
-            blocks,
-        );
+        let change = Change {
+            cell: from + k as usize,
+            lanes: V::only(lane),
+            value: V::every(bit_of(word, k)),
+        };
+        write_lanes(readers, change, cells, marks, blocks);
     }
 }
 
-/// Gives the sixteen cells from one on, which have the bits of a word, those of another.
-fn exchange_word(
+/// Gives the sixteen cells from one on, which have the bits of a word in a lane, those of another.
+fn exchange_word<V: Value>(
     readers: &[Vec<usize>],
     from: usize,
     before: u16,
     word: u16,
-    cells: &mut [bool],
+    lane: u32,
+    cells: &mut [V],
     marks: &mut [bool],
     blocks: &mut [bool],
 )
-    requires { from + 16 < length cells.old }
-    ensures parts { ((k : ℕ) → k < 16 → get_or cells.old (from + k) false ≡ bit_of before k) → (k : ℕ) → k < 16 → get_or cells.new (from + k) false ≡ bit_of word k }
-    ensures same { (cell : ℕ) → (cell < from + 16 → cell < from) → get_or cells.new cell false ≡ get_or cells.old cell false }
-    ensures tracked { (gates : List gate_of) → IsRead gates readers.now → IsTracked gates cells.old marks.old blocks.old → IsTracked gates cells.new marks.new blocks.new }
+    requires room { from + 16 < length cells.old }
+    requires within { lane < V.LANES }
+    ensures parts { ((k : ℕ) → k < 16 → get_or (lane_bits V.at lane cells.old) (from + k) false ≡ bit_of before k)
+        → (k : ℕ) → k < 16 → get_or (lane_bits V.at lane cells.new) (from + k) false ≡ bit_of word k }
+    ensures same { (cell : ℕ) → (cell < from + 16 → cell < from) → get_or (lane_bits V.at lane cells.new) cell false ≡ get_or (lane_bits V.at lane cells.old) cell false }
+    ensures others { (other : ℕ) → other < V.LANES → other ≢ lane → lane_bits V.at other cells.new ≡ lane_bits V.at other cells.old }
+    ensures tracked { (other : ℕ) (gates : List gate_of) → IsRead gates readers.now → IsTracked gates (lane_bits V.at other cells.old) marks.old blocks.old
+        → IsTracked gates (lane_bits V.at other cells.new) marks.new blocks.new }
 {
     if before != word {
-        write_word(readers, from, word, cells, marks, blocks);
+        write_word(readers, from, word, lane, cells, marks, blocks);
     }
 }
 
-/// Gives the cells from one on, which have the bits of words, those of as many others.
-pub(crate) fn write_words(
+/// Gives the cells from one on, which have the bits of words in a lane, those of as many others.
+pub(crate) fn write_words<V: Value>(
     readers: &[Vec<usize>],
     from: usize,
     before: &[u16],
     words: &[u16],
-    cells: &mut [bool],
+    lane: u32,
+    cells: &mut [V],
     marks: &mut [bool],
     blocks: &mut [bool],
 )
     requires count { length before.now ≡ length words.now }
     requires room { from + 16 * length words.now + 2 ≤ length cells.old }
-    ensures parts { ArePartsAt from before.now cells.old → ArePartsAt from words.now cells.new }
-    ensures same { (cell : ℕ) → (cell < from + 16 * length words.now → cell < from) → get_or cells.new cell false ≡ get_or cells.old cell false }
-    ensures tracked { (gates : List gate_of) → IsRead gates readers.now → IsTracked gates cells.old marks.old blocks.old → IsTracked gates cells.new marks.new blocks.new }
+    requires within { lane < V.LANES }
+    ensures parts { ArePartsAt from before.now (lane_bits V.at lane cells.old) → ArePartsAt from words.now (lane_bits V.at lane cells.new) }
+    ensures same { (cell : ℕ) → (cell < from + 16 * length words.now → cell < from) → get_or (lane_bits V.at lane cells.new) cell false ≡ get_or (lane_bits V.at lane cells.old) cell false }
+    ensures others { (other : ℕ) → other < V.LANES → other ≢ lane → lane_bits V.at other cells.new ≡ lane_bits V.at other cells.old }
+    ensures tracked { (other : ℕ) (gates : List gate_of) → IsRead gates readers.now → IsTracked gates (lane_bits V.at other cells.old) marks.old blocks.old
+        → IsTracked gates (lane_bits V.at other cells.new) marks.new blocks.new }
 {
     for place in 0..words.len() {
         exchange_word(
@@ -116,6 +130,7 @@ pub(crate) fn write_words(
             from + 16 * place,
             word_at(before, place),
             word_at(words, place),
+            lane,
             cells,
             marks,
             blocks,

@@ -1,27 +1,39 @@
 // The wires get their values, then the registers that wires set at once.
-ghost use Rattle.std.specs.Prelude.{◌≡◌, ◌≤◌, ◌*◌, ℕ, length};
+ghost use Rattle.std.specs.Prelude.{◌≡◌, ◌<◌, ◌≤◌, ◌*◌, ℕ, false, length};
+ghost use Rattle.vlog_cells.specs.Lanes.{lane_bits};
 ghost use Rattle.vlog_cells.specs.Marks.{AreRising, IsRead, IsTracked};
 ghost use Rattle.vlog_cells.specs.Passing.{IsSettled};
 
 use crate::changes::{Change, commit, note_settles};
 use crate::circuit::Circuit;
 use crate::sweep::run_gates;
+use crate::value::Value;
 
-/// Gives the marked wires their values, and then registers that wires set at once their bits. These mark wires for the next time.
-pub fn settle(
+/// Gives the marked wires their values in active lanes, and then registers that wires set at once their bits. These mark wires for the
+/// next time.
+pub(crate) fn settle<V: Value>(
     circuit: &Circuit,
-    cells: &mut [bool],
+    active: V,
+    cells: &mut [V],
     marks: &mut [bool],
     blocks: &mut [bool],
-    changes: &mut [Change],
+    changes: &mut [Change<V>],
 )
     requires marks { length marks.old ≡ 64 * length blocks.old }
     requires changes { length circuit.now.settles.items ≤ length changes.old }
-    ensures { (first count : ℕ) → AreRising first count circuit.now.gates.items → IsRead circuit.now.gates.items circuit.now.readers.items → count ≤ length cells.old
-        → IsTracked circuit.now.gates.items cells.old marks.old blocks.old
-        → IsSettled first count circuit.now.gates.items circuit.now.settles.items cells.old cells.new marks.new blocks.new }
+    ensures idle { (lane : ℕ) → lane < V.LANES → V.at active lane ≡ false → lane_bits V.at lane cells.new ≡ lane_bits V.at lane cells.old }
+    ensures settled { (lane first count : ℕ) → lane < V.LANES → AreRising first count circuit.now.gates.items → IsRead circuit.now.gates.items circuit.now.readers.items → count ≤ length cells.old
+        → IsTracked circuit.now.gates.items (lane_bits V.at lane cells.old) marks.old blocks.old
+        → IsSettled (V.at active lane) first count circuit.now.gates.items circuit.now.settles.items (lane_bits V.at lane cells.old) (lane_bits V.at lane cells.new) marks.new blocks.new }
 {
-    run_gates(&circuit.gates, &circuit.readers, cells, marks, blocks);
-    let count = note_settles(&circuit.settles, cells, changes);
+    run_gates(
+        &circuit.gates,
+        &circuit.readers,
+        active,
+        cells,
+        marks,
+        blocks,
+    );
+    let count = note_settles(&circuit.settles, active, cells, changes);
     commit(&circuit.readers, &changes[..count], cells, marks, blocks);
 }

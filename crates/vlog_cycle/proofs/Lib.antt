@@ -1,10 +1,8 @@
 -- lists of events, line by line
 pub mod EventLines
--- an event changes no more than the plan has items
-pub mod Rooms
--- what the cells of a runner have
-pub mod Sources
--- where the bits of inputs and wires stand
+-- what a runner's only lane has
+pub mod OneLane
+-- what a runner that shows an entry has
 pub mod Reading
 -- the text of runs that go on
 pub mod Texts

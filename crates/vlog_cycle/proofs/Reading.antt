@@ -1,14 +1,10 @@
--- Where the bits of inputs and wires stand, and what a runner that shows an entry has.
-use Rattle.std.proofs.Common.{◌≡◌, ℕ, ◌+◌, ◌≤◌, Bool, List, ◌++◌, ap, ap₂, arith, drop, length, length-append, sym, take, ◌∙◌}
-use Rattle.std.proofs.lemmas.List.{drop_at, length-map, map-append, take_at}
+-- What a runner that shows an entry has.
+use Rattle.std.proofs.Common.{◌≡◌, ℕ, List, ap, length, sym, ◌∙◌}
+use Rattle.std.proofs.lemmas.List.{length-map}
 use Rattle.vlog_module.specs.Parts.{Parts}
-use Rattle.vlog_plan.specs.declared.layout.Layout.{Layout}
 use Rattle.vlog_plan.specs.Entries.{Entry}
-use Rattle.vlog_plan.specs.Laying.{IsLaidOut}
-use Rattle.vlog_plan.specs.ModuleSlots.{IsNamed, register_names}
+use Rattle.vlog_plan.specs.ModuleSlots.{IsNamed}
 use Rattle.vlog_plan.specs.Named.{names_of, values_of}
-use Rattle.vlog_plan.specs.Run.{input_names, readable}
-use Rattle.vlog_plan.proofs.Entering.{registers-apart}
 use Rattle.vlog_cycle.specs.declared.runner.Runner.{Runner}
 use Rattle.vlog_cycle.specs.Showing.{Shows}
 
@@ -19,39 +15,3 @@ named-shown runner m entry shows = shows.shown.named
 -- as many values as names
 pub values-named : {A : Type 0} (entries : List (List ℕ × A)) (names : List (List ℕ)) → names_of entries ≡ names → length (values_of entries) ≡ length names
 values-named {A = A} entries names are = length-map entries (λ (e : List ℕ × A). e.1) ∙ sym (length-map entries (λ (e : List ℕ × A). e.0)) ∙ ap length are
-
--- the inputs stand first
-pub record InputsAt (layout : Layout) (entry : Entry) (bits : List Bool) : Type 0 where
-  pub within : layout.input_count ≤ length bits
-  pub are : take layout.input_count bits ≡ values_of entry.inputs
-
-pub inputs-read : (m : Parts) (entry : Entry) (layout : Layout) (list : List Bool) → IsLaidOut m layout → IsNamed m entry → list ≡ values_of (readable entry).bits → InputsAt layout entry list
-inputs-read m entry layout list laid named values =
-    let inputs : List Bool = values_of entry.inputs in
-    let rest : List Bool = values_of entry.registers ++ values_of entry.wires in
-    let bits : list ≡ inputs ++ rest = values ∙ registers-apart entry in
-    let count : length inputs ≡ layout.input_count = values-named entry.inputs (input_names m.ports) named.inputs ∙ sym laid.input_count in
-    record {
-      within = omega (arith, count, ap length bits, length-append inputs rest);
-      are = ap (take layout.input_count) bits ∙ take_at inputs rest layout.input_count count;
-    }
-
--- the wires stand behind the registers
-pub record WiresAt (layout : Layout) (entry : Entry) (bits : List Bool) : Type 0 where
-  pub within : layout.first_wire ≤ length bits
-  pub are : drop layout.first_wire bits ≡ values_of entry.wires
-
-pub wires-read : (m : Parts) (entry : Entry) (layout : Layout) (list : List Bool) → IsLaidOut m layout → IsNamed m entry → list ≡ values_of (readable entry).bits → WiresAt layout entry list
-wires-read m entry layout list laid named values =
-    let before : List Bool = values_of (entry.inputs ++ entry.registers) in
-    let wires : List Bool = values_of entry.wires in
-    let bits : list ≡ before ++ wires = values ∙ map-append (λ (e : List ℕ × Bool). e.1) (entry.inputs ++ entry.registers) entry.wires in
-    let count : length before ≡ layout.first_wire =
-    ap length (map-append (λ (e : List ℕ × Bool). e.1) entry.inputs entry.registers)
-    ∙ length-append (values_of entry.inputs) (values_of entry.registers)
-    ∙ ap₂ (λ a b. a + b) (values-named entry.inputs (input_names m.ports) named.inputs) (values-named entry.registers (register_names m.items) named.registers)
-    ∙ sym (length-append (input_names m.ports) (register_names m.items)) ∙ sym laid.first_wire in
-    record {
-      within = omega (arith, count, ap length bits, length-append before wires);
-      are = ap (drop layout.first_wire) bits ∙ drop_at before wires layout.first_wire count;
-    }

@@ -1,4 +1,3 @@
 pub mod Events
 pub mod Showing
-pub mod Starting
 pub mod Text

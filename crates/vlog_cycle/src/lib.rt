@@ -4,8 +4,6 @@
 mod event;
 mod event_lines;
 mod runner;
-mod starting;
-mod steps;
 mod text;
 
 pub use event::EventFault;

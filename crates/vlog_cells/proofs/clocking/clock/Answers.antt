@@ -1,22 +1,32 @@
-use Rattle.std.proofs.Common.{◌≡◌, List, Bool, [], ap, arith, fold, set, subst, sym, ◌∙◌}
+use Rattle.std.proofs.Common.{◌≡◌, List, Bool, [], ap, ap₂, arith, cond, fold, set, ◌∙◌}
 use Rattle.vlog_plan.specs.Steps.{flip_slot}
-use Rattle.vlog_cells.specs.Circuits.{ArePartsAt}
+use Rattle.vlog_cells.specs.Changes.{step_in}
+use Rattle.vlog_cells.specs.Lanes.{lane_bits}
+use Rattle.vlog_cells.proofs.Lanes.{steps-in}
+use Rattle.vlog_cells.proofs.Stored.{twice-in}
 use Rattle.vlog_cells.proofs.clocking.clock.Goals as goal
 
-pub returns-clause-cells : goal.returns-clause-cells
-returns-clause-cells c =
-    let stored : List Bool = c.write_words.new.cells in
+pub returns-clause-clocked : goal.returns-clause-clocked
+returns-clause-clocked g c lane within =
+    let at = g.V.Value.at in
+    let active = at c.args.active lane in
     let event = c.args.event in
-    let copied : c.copy_words.new.to ≡ c.run_memories.new.next_words = c.copy_words.ensures (omega arith) in
+    let before : List Bool = lane_bits at lane c.args.cells.now in
+    let stored : List Bool = lane_bits at lane c.store_all.new.cells in
+    let flips = c.args.group.now.flips.items in
     record {
       stored = stored;
-      size = omega arith;
-      parts = λ were. subst (λ words. ArePartsAt c.args.bits words stored) (sym copied) (c.write_words.ensures.parts were);
-      same = λ cell out. c.write_words.ensures.same cell (λ less. out (omega (arith, less)));
-      are = c.write.ensures.cells
-          ∙ ap (λ (list : List Bool). set list event.pin event.bit)
-          (c.commit.ensures.cells ∙ c.note_flips-count.ensures.noted stored ∙ ap (fold (flip_slot event c.args.cells.now []) stored) c.deref.ensures.value);
+      known = c.store_all.ensures.stored lane within;
+      are = c.write_lanes.ensures.cells lane within
+          ∙ ap₂ (λ (list : List Bool) (bit : Bool). cond active (set list event.pin bit) list)
+          (c.commit.ensures.cells lane within
+          ∙ c.note_flips-count.ensures.noted lane stored within
+          ∙ ap (fold (step_in active (flip_slot event before [])) stored) c.deref.ensures.value
+          ∙ steps-in active (flip_slot event before []) stored flips)
+          (c.every.ensures lane within)
+          ∙ twice-in active (fold (flip_slot event before []) stored flips) stored (λ list. set list event.pin event.bit);
     }
 
-pub returns-clause-sixteen_bits : goal.returns-clause-sixteen_bits
-returns-clause-sixteen_bits c place = omega (arith, c.type_inv.words place)
+pub returns-clause-tracked : goal.returns-clause-tracked
+returns-clause-tracked g c lane gates read tracked =
+    c.write_lanes.ensures.tracked lane gates read (c.commit.ensures.tracked lane gates read (c.store_all.ensures.tracked lane gates read tracked))

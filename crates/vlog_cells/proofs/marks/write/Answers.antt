@@ -1,11 +1,11 @@
-use Rattle.std.proofs.Common.{[], ap, fold, get_or, set, subst, sym, ◌∙◌}
-use Rattle.vlog_cells.specs.Marks.{IsTracked, lists_of, mark_block, mark_gate}
-use Rattle.vlog_cells.proofs.Marked.{write-tracked}
+use Rattle.std.proofs.Common.{◌∙◌}
+use Rattle.vlog_cells.proofs.Steps.{lane-tracked, same-cells}
 use Rattle.vlog_cells.proofs.marks.write.Goals as goal
 
-pub returns-then-bit_at-bit-clause-tracked : goal.returns-then-bit_at-bit-clause-tracked
-returns-then-bit_at-bit-clause-tracked c gates read tracked =
-    let all = write-tracked gates c.args.readers.now c.args.cell c.args.bit c.args.cells.now c.args.marks.now c.args.blocks.now read tracked in
-    subst (λ cells. IsTracked gates cells c.mark_all.new.marks c.mark_all.new.blocks) (sym c.set_bit.ensures)
-    (subst (λ marks. IsTracked gates (set c.args.cells.now c.args.cell c.args.bit) marks c.mark_all.new.blocks) (sym (c.mark_all.ensures.marks ∙ ap (fold mark_gate c.args.marks.now) c.readers_at.ensures))
-    (subst (λ blocks. IsTracked gates (set c.args.cells.now c.args.cell c.args.bit) (fold mark_gate c.args.marks.now (get_or (lists_of c.args.readers.now) c.args.cell [])) blocks) (sym (c.mark_all.ensures.blocks ∙ ap (fold mark_block c.args.blocks.now) c.readers_at.ensures)) all))
+pub returns-then-differs-clause-tracked : goal.returns-then-differs-clause-tracked
+returns-then-differs-clause-tracked g c lane gates read tracked =
+    lane-tracked g.V.Value.at lane gates c.args.readers.now c.args.cell c.args.value c.args.cells.now c.set_cell.new.cells c.args.marks.now c.args.blocks.now c.mark_all.new.marks c.mark_all.new.blocks
+    c.readers_at.result.now c.set_cell.ensures c.readers_at.ensures c.mark_all.ensures.marks c.mark_all.ensures.blocks read tracked
+
+pub returns-else-differs-clause-cells : goal.returns-else-differs-clause-cells
+returns-else-differs-clause-cells g c = same-cells c.args.cells.now c.args.cell c.cell_at.result c.args.value c.cell_at.ensures.is (c.differs.ensures c.if-differs.false)

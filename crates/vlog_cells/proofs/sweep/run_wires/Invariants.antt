@@ -1,10 +1,13 @@
-use Rattle.std.proofs.Common.{◌≤◌, ◌+◌, ◌*◌, ℕ, length}
+use Rattle.std.proofs.Common.{◌≡◌, ◌<◌, ◌≤◌, ◌+◌, ◌*◌, ℕ, false, length}
+use Rattle.vlog_cells.specs.Lanes.{lane_bits}
 use Rattle.vlog_cells.specs.Marks.{AreRising, IsRead, IsSwept, StaySources}
 use Rattle.vlog_cells.proofs.sweep.run_wires.Given as goal
 
 abbrev pub invariant-loop-place : goal.invariant-loop-place
-invariant-loop-place l = record {
-  swept : (first count : ℕ) → AreRising first count l.gates → IsRead l.gates l.readers → count ≤ length l.initial.cells
-      → IsSwept l.gates (64 * l.block) l.initial.cells l.initial.marks l.initial.blocks → IsSwept l.gates l.place l.cells l.marks l.blocks;
-  same : (first count : ℕ) → AreRising first count l.gates → StaySources first count l.initial.cells l.cells;
+invariant-loop-place g l = record {
+  swept : (lane first count : ℕ) → lane < g.V.Value.LANES → AreRising first count l.gates → IsRead l.gates l.readers → count ≤ length l.initial.cells
+      → IsSwept (g.V.Value.at l.active lane) l.gates (64 * l.block) (lane_bits g.V.Value.at lane l.initial.cells) l.initial.marks l.initial.blocks
+      → IsSwept (g.V.Value.at l.active lane) l.gates l.place (lane_bits g.V.Value.at lane l.cells) l.marks l.blocks;
+  same : (lane first count : ℕ) → AreRising first count l.gates → StaySources first count (lane_bits g.V.Value.at lane l.initial.cells) (lane_bits g.V.Value.at lane l.cells);
+  idle : (lane : ℕ) → lane < g.V.Value.LANES → g.V.Value.at l.active lane ≡ false → lane_bits g.V.Value.at lane l.cells ≡ lane_bits g.V.Value.at lane l.initial.cells;
 }

@@ -1,19 +1,6 @@
-use Rattle.std.proofs.Common.{◌≡◌, ◌≤◌, ◌∙◌, Bool, List, ap, arith, drop, length, refl, take}
-use Rattle.vlog_plan.specs.Named.{values_of}
-use Rattle.vlog_plan.specs.Run.{readable}
-use Rattle.vlog_plan.proofs.Reading.{registers-read}
-use Rattle.vlog_plan.proofs.Showing.{bits-count}
-use Rattle.vlog_cycle.proofs.Reading.{inputs-read}
-use Rattle.vlog_cycle.proofs.Sources.{cells-room, first-cells}
+use Rattle.std.proofs.Common.{sym, ◌∙◌}
+use Rattle.vlog_cycle.proofs.OneLane.{own-bits}
 use Rattle.vlog_cycle.proofs.runner.Runner.input_bits.Goals as goal
 
 pub returns : goal.returns
-returns c m entry shows =
-    let r = c.args.self.now in
-    let bits : List Bool = values_of (readable entry).bits in
-    let at = inputs-read m entry r.layout bits shows.laid_out shows.shown.named refl in
-    let apart = registers-read m entry r.layout bits shows.laid_out shows.shown.named refl in
-    c.part.ensures (omega arith) (omega (arith, at.within, bits-count m entry shows.shown.named, cells-room m entry r shows, ap (λ (list : List Bool). length list) c.deref.ensures.value))
-    ∙ ap (λ list. take r.layout.input_count list) c.deref.ensures.value
-    ∙ first-cells m entry r shows r.layout.input_count apart.ordered
-    ∙ at.are
+returns c m entry shows = sym (own-bits c.input_bits.result.now) ∙ c.input_bits.ensures 0 m entry shows

@@ -1,29 +1,9 @@
-use Rattle.std.proofs.Common.{Bool, List, Some, None, ap, false, get_or, refl, sym, ◌∙◌}
-use Rattle.std.specs.Option.{option_map}
-use Rattle.vlog_plan.specs.Named.{values_of}
-use Rattle.vlog_plan.specs.Run.{readable}
-use Rattle.vlog_plan.proofs.Reading.{register-read, register-declared}
-use Rattle.vlog_cycle.proofs.Sources.{register-slot, source-cell}
+use Rattle.std.proofs.Common.{sym, ◌∙◌}
+use Rattle.vlog_cycle.proofs.OneLane.{own-option}
 use Rattle.vlog_cycle.proofs.runner.Runner.register.Goals as goal
 
-pub returns-in-Some-clause-is : goal.returns-in-Some-clause-is
-returns-in-Some-clause-is c m entry shows =
-    let r = c.args.self.now in
-    let bits : List Bool = values_of (readable entry).bits in
-    let slot = c.in-Some.slot in
-    ap (λ (bit : Bool). Some bit) (c.bit_at.ensures ∙ ap (λ cells. get_or cells slot false) c.deref.ensures.value
-    ∙ source-cell m entry r shows slot (register-slot m r.layout c.args.name.now slot shows.laid_out c.in-Some.ensures))
-    ∙ ap (option_map (λ slot. get_or bits slot false)) c.in-Some.ensures
-    ∙ sym (register-read m entry r.layout bits c.args.name.now shows.laid_out shows.shown.named refl)
+pub returns-clause-is : goal.returns-clause-is
+returns-clause-is c m entry shows = sym (own-option c.register.result) ∙ c.register.ensures.is 0 m entry shows
 
-pub returns-in-None-clause-is : goal.returns-in-None-clause-is
-returns-in-None-clause-is c m entry shows =
-    let bits : List Bool = values_of (readable entry).bits in
-    ap (option_map (λ slot. get_or bits slot false)) c.in-None.ensures
-    ∙ sym (register-read m entry c.args.self.now.layout bits c.args.name.now shows.laid_out shows.shown.named refl)
-
-pub returns-in-Some-clause-declared : goal.returns-in-Some-clause-declared
-returns-in-Some-clause-declared c m entry shows = register-declared m entry c.args.name.now (Some c.bit_at.result) shows.shown.named (returns-in-Some-clause-is c m entry shows)
-
-pub returns-in-None-clause-declared : goal.returns-in-None-clause-declared
-returns-in-None-clause-declared c m entry shows = register-declared m entry c.args.name.now None shows.shown.named (returns-in-None-clause-is c m entry shows)
+pub returns-clause-declared : goal.returns-clause-declared
+returns-clause-declared c m entry shows = c.register.ensures.declared 0 m entry shows

@@ -5,7 +5,7 @@ use Rattle.vlog_plan.proofs.Runs.{last-run}
 use Rattle.vlog_lanes.specs.declared.call.Call.{Call}
 use Rattle.vlog_lanes.specs.Lanes.{lane_events}
 use Rattle.vlog_lanes.specs.Showing.{Shows}
-use Rattle.vlog_lanes.proofs.Stepped.{called, called-all}
+use Rattle.vlog_lanes.proofs.Called.{called, called-all}
 use Rattle.vlog_lanes.proofs.lanes.Lanes.run.Goals as goal
 
 pub event-requires : goal.event-requires

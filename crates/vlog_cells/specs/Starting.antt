@@ -1,0 +1,35 @@
+-- What there is of a circuit at the start.
+use Rattle.std.specs.Prelude.{◌≡◌, ◌<◌, ◌+◌, ◌*◌, ◌≤◌, ℕ, Bool, List, [], get_or, length, map, true}
+use Rattle.vlog_cells.specs.Circuits.{IsCircuit}
+use Rattle.vlog_cells.specs.Lanes.{AreLanes, lane_bits, list_of}
+use Rattle.vlog_cells.specs.Marks.{AreRising}
+use Rattle.vlog_cells.specs.Passing.{IsSettled}
+use Rattle.vlog_cells.specs.declared.start.Started.{Started}
+use Rattle.vlog_cells.specs.declared.start.Wires.{Wires}
+use Rattle.vlog_plan.specs.Cells.{cells_of}
+use Rattle.vlog_plan.specs.declared.layout.Layout.{Layout}
+use Rattle.vlog_plan.specs.Steps.{operand_value}
+
+-- the circuit is that of the layout, there is room, and the cells have these bits, the bits of these words, 0 and 1, and what wires make of them
+pub record IsStarted {V : Type 0} (lanes : ℕ) (at : V → ℕ → Bool) (layout : Layout) (bits : List Bool) (words : List ℕ) (wires : Wires V) : Type 0 where
+  pub circuit : IsCircuit layout.first_wire (length bits) (length words) layout.plan wires.circuit
+  pub rising : length wires.circuit.rising.items ≡ layout.input_count
+  pub falling : length wires.circuit.falling.items ≡ layout.input_count
+  pub cells_room : length wires.cells.items ≡ length bits + 16 * length words + 2
+  pub marks_room : length wires.marks.items ≡ 64 * length wires.blocks.items
+  pub flips_room : length layout.plan.flips.items ≤ length wires.changes.items
+  pub settles_room : length layout.plan.settles.items ≤ length wires.changes.items
+  pub settled : (lane count : ℕ) → lane < lanes → AreRising layout.first_wire count wires.circuit.gates.items → count ≤ length bits
+      → IsSettled true layout.first_wire count wires.circuit.gates.items wires.circuit.settles.items (cells_of bits words) (lane_bits at lane wires.cells.items) wires.marks.items wires.blocks.items
+
+-- and each lane has outputs, these words and these memories, and there is room for writes
+pub record AreStarted {V : Type 0} (lanes : ℕ) (at : V → ℕ → Bool) (layout : Layout) (bits : List Bool) (words : List ℕ) (memories : List (List ℕ)) (made : Started V) : Type 0 where
+  pub wires : IsStarted lanes at layout bits words made.wires
+  pub outputs : (lane : ℕ) → lane < lanes → lane_bits at lane made.outputs.items ≡ map (operand_value (lane_bits at lane made.wires.cells.items) []) made.wires.circuit.outputs.items
+  pub outputs_room : length made.outputs.items ≡ length layout.plan.outputs.items
+  pub words_are : (lane : ℕ) → lane < lanes → list_of lane made.words.items ≡ words
+  pub lanes_are : AreLanes lanes (length words) made.words.items
+  pub memories_are : (lane : ℕ) → lane < lanes → list_of lane made.memories.items ≡ memories
+  pub memory_lanes : length made.memories.items ≡ lanes
+  pub writes_room : length made.written.items ≡ length layout.plan.writes.items
+  pub sixteen_bits : (place : ℕ) → get_or words place 0 < 65536

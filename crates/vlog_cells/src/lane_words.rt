@@ -1,0 +1,64 @@
+// Words with a bit for each of sixty-four lanes.
+ghost use Rattle.std.specs.Prelude.{◌≡◌, ◌<◌, ◌≤◌, ◌+◌, ℕ, [], ◌∷◌, if◌then◌else◌};
+ghost use Rattle.vlog_plan.specs.Values.{bit_of, number_of};
+
+/// The bit of a lane; lanes count from 0.
+pub(crate) fn lane_bit(word: u64, lane: u32) -> bool
+    requires { lane < 64 }
+    ensures { result ≡ bit_of word lane }
+{
+    (word >> lane) & 1 == 1
+}
+
+/// In each lane the bit of the one word where the choice is 1, and of the other elsewhere.
+pub(crate) fn one_of(choice: u64, one: u64, other: u64) -> u64
+    ensures { (lane : ℕ) → bit_of result lane ≡ (if bit_of choice lane then bit_of one lane else bit_of other lane) }
+{
+    other ^ (choice & (one ^ other))
+}
+
+/// A word with the same bit in each lane.
+fn every(bit: bool) -> u64
+    ensures { (lane : ℕ) → lane < 64 → bit_of result lane ≡ bit }
+{
+    if bit { u64::MAX } else { 0 }
+}
+
+/// Bit `k` of a table.
+fn bit_of(table: u16, k: u32) -> bool
+    requires { k < 16 }
+    ensures { result ≡ bit_of table k }
+{
+    (table >> k) & 1 == 1
+}
+
+/// In each lane one of two bits of a table, from `k` on.
+fn of_two(table: u16, k: u32, a: u64) -> u64
+    requires { k + 2 ≤ 16 }
+    ensures { (lane : ℕ) → lane < 64 → bit_of result lane ≡ bit_of table (k + number_of (bit_of a lane ∷ [])) }
+{
+    one_of(a, every(bit_of(table, k + 1)), every(bit_of(table, k)))
+}
+
+/// In each lane one of four bits of a table, from `k` on.
+fn of_four(table: u16, k: u32, a: u64, b: u64) -> u64
+    requires { k + 4 ≤ 16 }
+    ensures { (lane : ℕ) → lane < 64 → bit_of result lane ≡ bit_of table (k + number_of (bit_of a lane ∷ bit_of b lane ∷ [])) }
+{
+    one_of(b, of_two(table, k + 2, a), of_two(table, k, a))
+}
+
+/// In each lane one of eight bits of a table, from `k` on.
+fn of_eight(table: u16, k: u32, a: u64, b: u64, c: u64) -> u64
+    requires { k + 8 ≤ 16 }
+    ensures { (lane : ℕ) → lane < 64 → bit_of result lane ≡ bit_of table (k + number_of (bit_of a lane ∷ bit_of b lane ∷ bit_of c lane ∷ [])) }
+{
+    one_of(c, of_four(table, k + 4, a, b), of_four(table, k, a, b))
+}
+
+/// In each lane the bit of a table whose number four bits write, the lowest first.
+pub(crate) fn of_table(table: u16, a: u64, b: u64, c: u64, d: u64) -> u64
+    ensures { (lane : ℕ) → lane < 64 → bit_of result lane ≡ bit_of table (number_of (bit_of a lane ∷ bit_of b lane ∷ bit_of c lane ∷ bit_of d lane ∷ [])) }
+{
+    one_of(d, of_eight(table, 8, a, b, c), of_eight(table, 0, a, b, c))
+}

@@ -34,10 +34,14 @@ pub mod Configured
 pub mod Pads
 -- where a database and an image aren't refused, the module that is written for them is their fabric, and it is well-formed
 pub mod Design
+-- the law
+pub mod IsFabric
 -- the written modules of small fabrics, worked out by hand
 pub mod Worked
 -- the names of a written module are names, its ports are apart, and each of its outputs is assigned
 pub mod Named
+-- bytes that a name is made of are a name
+pub mod NameBytes
 -- modules that grow item by item: what each item leaves for those after it
 pub mod Grown
 -- the state that a written module declares may stand after its ports

@@ -5,8 +5,9 @@ use Rattle.vlog_module.specs.Maps.{value_in}
 use Rattle.vlog_plan.specs.Named.{names_of, values_of}
 use Rattle.vlog_plan.specs.declared.event.Event.{Event as ModuleEvent}
 use Rattle.vlog_plan.specs.Entries.{Entry as ModuleEntry}
+use Rattle.net_extract.specs.declared.pin.Pin.{Pin}
 use Rattle.net_extract.specs.Fabric.{Fabric, inputs_of}
-use Rattle.net_extract.specs.Outputs.{outputs_of}
+use Rattle.net_extract.specs.Outputs.{Output, outputs_of}
 use Rattle.net_extract.specs.Drivers.{is_driven}
 use Rattle.net_extract.specs.Values.{bit_in}
 use Rattle.net_extract.specs.Steps.{Event, Entry}
@@ -23,15 +24,20 @@ pub record HasWires (fabric : Fabric) (v : List Bool) (wires : List (List ℕ ×
   pub only : (wire : List ℕ × Bool) → Contains wires wire
       → (class : ℕ) × (is_driven fabric class ≡ true) × (wire.0 ≡ wire_name class) × (wire.1 ≡ bit_in v class)
 
--- An entry of a fabric and one of a module match: inputs have the values of the pins and outputs those of the outputs, in the order of the ports,
--- registers and memories those of the state, and wires those of the nets.
-pub record Matches (fabric : Fabric) (entry : Entry) (other : ModuleEntry) : Type 0 where
-  pub inputs : HasValues other.inputs (map port_name (inputs_of fabric)) entry.pins
-  pub outputs : HasValues other.outputs (map output_name (outputs_of fabric)) entry.outputs
+-- An entry of a fabric and one of a module match, where the ports of input pins and those of outputs have these names: inputs have the
+-- values of the pins and outputs those of the outputs, in the order of the ports, registers and memories those of the state, and wires
+-- those of the nets.
+pub record MatchesAs (input_name : Pin → List ℕ) (name_of : Output → List ℕ) (fabric : Fabric) (entry : Entry) (other : ModuleEntry) : Type 0 where
+  pub inputs : HasValues other.inputs (map input_name (inputs_of fabric)) entry.pins
+  pub outputs : HasValues other.outputs (map name_of (outputs_of fabric)) entry.outputs
   pub registers : HasValues other.registers (map register_name fabric.registers) entry.state.bits
   pub words : HasValues other.words (map read_name fabric.rams) (map word_of entry.state.reads)
   pub memories : HasValues other.memories (map memory_name fabric.rams) (map (map word_of) entry.state.words)
   pub wires : HasWires fabric entry.v other.wires
+
+-- so with the names of the module that is written for the fabric
+abbrev pub Matches : Fabric → Entry → ModuleEntry → Type 0
+Matches fabric entry other = MatchesAs port_name output_name fabric entry other
 
 -- the same event of a module
 abbrev pub module_event : Event → ModuleEvent

@@ -1,5 +1,3 @@
--- the names of a written module are names
-pub mod Named
 -- what is kept of a design tells the drivers and the clocks of its fabric
 pub mod Kept
 -- what is read of nets, by their classes

@@ -10,8 +10,8 @@ ghost use Rattle.fabric_wiring.specs.Drives.{rule_of};
 ghost use Rattle.fabric_module.specs.Rights.{input_atom, port_atoms, input_name, source_atom, table_atom, lut_of, driven_wire, setting_wire, pattern_of, shift_atom, shift_atoms, data_atoms, output_atom};
 ghost use Rattle.vlog_emit.specs.Each.{EachFabric, IsRuleIn, IsSourceIn, IsTableIn, nets_in};
 
-use crate::names::{port_name, register_name, wire_name};
 use fabric::Design;
+use fabric_module::{port_name, register_name, wire_name};
 use fabric_wiring::Rule;
 use net_extract::{Register, Source, Table};
 use std::alloc::{AllocError, Global};

@@ -69,6 +69,7 @@ fn items_of(alloc: Global, design: &Design) -> Result<Vec<Item>, AllocError>
 /// `AllocError` where memory is out, and for no other cause.
 pub fn emit(alloc: Global, design: &Design, name: &[u8]) -> Result<Module, AllocError>
     requires { IsName name.now }
+    ensures name { IfOk result (λ made. made.name ≡ name.now) }
     ensures made { IfOk result (λ made. (db : Database) (image : Configuration) → IsDesignOf db image design.now → made ≡ module_of (fabric_with design.now.parts.lut_inputs db image) design.now.order name.now) }
     ensures runs { IfOk result (λ made. (db : Database) (image : Configuration) → IsDesignOf db image design.now → RunsAs db image made) }
 {

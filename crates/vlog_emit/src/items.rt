@@ -4,7 +4,7 @@ ghost use Rattle.net_extract.specs.Within.{IsNetIn, IsRamIn};
 ghost use Rattle.net_extract.specs.Pins.{is_tri_state};
 ghost use Rattle.fabric_wiring.specs.Outputs.{output_of};
 ghost use Rattle.fabric.specs.Design.{IsDesign};
-ghost use Rattle.fabric_module.specs.Names.{register_name};
+ghost use Rattle.fabric_module.specs.Names.{output_name, register_name};
 ghost use Rattle.fabric_module.specs.Written.{clock_name, port_of, pin_ports, register_item, read_register, ram_memory, class_wire, output_assign, flip_item, at_once_item, items_by, register_items, read_item, read_items, write_item, write_items};
 ghost use Rattle.vlog_emit.specs.Each.{EachFabric, IsRegisterIn, IsRuleIn, nets_in};
 
@@ -12,15 +12,24 @@ use crate::atoms::{
     data_atoms, input_atom, input_name, lut_of, output_atom, pattern_of, port_atoms, setting_wire,
     shift_atoms,
 };
-use crate::names::{
-    enable_name, memory_name, output_name, port_name, read_name, register_name, wire_name,
-};
 use crate::rights::class_right;
 use fabric::Design;
+use fabric_module::{enable_name, memory_name, port_name, read_name, register_name, wire_name};
 use fabric_wiring::{ClockEnd, Output};
 use net_extract::{Pin, PinKind, RamCell, Register};
 use std::alloc::{AllocError, Global};
 use vlog_module::{Item, Name, Port};
+
+/// The name of an output's port.
+fn output_name(alloc: Global, output: &Output) -> Result<Name, AllocError>
+    ensures { IfOk result (λ name. name ≡ output_name (output_of output.now)) }
+{
+    if output.enable {
+        enable_name(alloc, &output.pin)
+    } else {
+        port_name(alloc, &output.pin)
+    }
+}
 
 /// The port of a pin's value.
 fn port_of(alloc: Global, pin: &Pin) -> Result<Port, AllocError>

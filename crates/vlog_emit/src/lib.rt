@@ -4,10 +4,7 @@
 mod atoms;
 mod emitting;
 mod items;
-mod names;
 mod rights;
 mod sections;
-mod text;
 
 pub use emitting::emit;
-pub use names::{enable_name, port_name};

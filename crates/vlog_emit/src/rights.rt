@@ -8,8 +8,8 @@ ghost use Rattle.fabric_module.specs.Rights.{input_atom, atom_or_0, read_at, set
 ghost use Rattle.vlog_emit.specs.Each.{EachFabric, IsRuleIn, nets_in};
 
 use crate::atoms::{input_atom, input_name, lut_of, setting_wire};
-use crate::names::{read_name, register_name};
 use fabric::Design;
+use fabric_module::{read_name, register_name};
 use fabric_wiring::Rule;
 use net_extract::Register;
 use std::alloc::{AllocError, Global};

@@ -11,8 +11,8 @@ use crate::items::{
     append_ports, append_read, append_register, append_write, class_wire, output_assign,
     ram_memory, read_register, register_item,
 };
-use crate::names::memory_name;
 use fabric::Design;
+use fabric_module::memory_name;
 use fabric_wiring::Output;
 use net_extract::{Pin, RamCell, Register};
 use std::alloc::{AllocError, Global};

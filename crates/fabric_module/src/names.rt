@@ -1,16 +1,14 @@
 // The names of a module that is written for a design.
 ghost use Rattle.std.specs.Prelude.{◌≡◌, ◌≤◌, ◌+◌, ◌++◌, length, IfOk};
-ghost use Rattle.fabric_wiring.specs.Outputs.{output_of};
-ghost use Rattle.fabric_module.specs.Names.{two_numbers, three_numbers, port_name, enable_name, output_name, user_prefix, user_number, register_name, read_name, memory_name, wire_name};
+ghost use Rattle.fabric_module.specs.Names.{two_numbers, three_numbers, port_name, enable_name, user_prefix, user_number, register_name, read_name, memory_name, wire_name};
 
 use crate::text::Text;
-use fabric_wiring::Output;
 use net_extract::{ClockUser, Pin, RamCell, Register};
 use std::alloc::{AllocError, Global};
 use vlog_module::Name;
 
 /// The name of a pin's port: `io_X_Y_N`.
-#[tactic(auto, unfolding(fabric_module::specs::Names::port_name))]
+#[tactic(auto, unfolding(crate::specs::Names::port_name))]
 pub fn port_name(alloc: Global, pin: &Pin) -> Result<Name, AllocError>
     ensures { IfOk result (λ name. name ≡ port_name pin.now) }
 {
@@ -20,7 +18,7 @@ pub fn port_name(alloc: Global, pin: &Pin) -> Result<Name, AllocError>
 }
 
 /// The name of the port that tells whether a tri-state pin is switched on: `io_X_Y_N_en`.
-#[tactic(auto, unfolding(fabric_module::specs::Names::enable_name, fabric_module::specs::Names::port_name))]
+#[tactic(auto, unfolding(crate::specs::Names::enable_name, crate::specs::Names::port_name))]
 pub fn enable_name(alloc: Global, pin: &Pin) -> Result<Name, AllocError>
     ensures { IfOk result (λ name. name ≡ enable_name pin.now) }
 {
@@ -30,20 +28,9 @@ pub fn enable_name(alloc: Global, pin: &Pin) -> Result<Name, AllocError>
     Name::new(alloc, text.bytes())
 }
 
-/// The name of an output's port.
-pub(crate) fn output_name(alloc: Global, output: &Output) -> Result<Name, AllocError>
-    ensures { IfOk result (λ name. name ≡ output_name (output_of output.now)) }
-{
-    if output.enable {
-        enable_name(alloc, &output.pin)
-    } else {
-        port_name(alloc, &output.pin)
-    }
-}
-
 /// The name of a register: `ff_X_Y_I`, `pi_X_Y_N` or `po_X_Y_N`.
-#[tactic(auto, unfolding(fabric_module::specs::Names::register_name))]
-pub(crate) fn register_name(alloc: Global, register: &Register) -> Result<Name, AllocError>
+#[tactic(auto, unfolding(crate::specs::Names::register_name))]
+pub fn register_name(alloc: Global, register: &Register) -> Result<Name, AllocError>
     ensures { IfOk result (λ name. name ≡ register_name register.now) }
 {
     let (x, y, n) = (register.x, register.y, user_number(register.user));
@@ -74,8 +61,8 @@ fn user_number(user: ClockUser) -> u8
 }
 
 /// The name of the read register of a RAM: `rd_X_Y`.
-#[tactic(auto, unfolding(fabric_module::specs::Names::read_name))]
-pub(crate) fn read_name(alloc: Global, ram: &RamCell) -> Result<Name, AllocError>
+#[tactic(auto, unfolding(crate::specs::Names::read_name))]
+pub fn read_name(alloc: Global, ram: &RamCell) -> Result<Name, AllocError>
     ensures { IfOk result (λ name. name ≡ read_name ram.now) }
 {
     let (x, y) = (ram.x, ram.y);
@@ -84,8 +71,8 @@ pub(crate) fn read_name(alloc: Global, ram: &RamCell) -> Result<Name, AllocError
 }
 
 /// The name of the memory of a RAM: `mem_X_Y`.
-#[tactic(auto, unfolding(fabric_module::specs::Names::memory_name))]
-pub(crate) fn memory_name(alloc: Global, ram: &RamCell) -> Result<Name, AllocError>
+#[tactic(auto, unfolding(crate::specs::Names::memory_name))]
+pub fn memory_name(alloc: Global, ram: &RamCell) -> Result<Name, AllocError>
     ensures { IfOk result (λ name. name ≡ memory_name ram.now) }
 {
     let (x, y) = (ram.x, ram.y);
@@ -94,8 +81,8 @@ pub(crate) fn memory_name(alloc: Global, ram: &RamCell) -> Result<Name, AllocErr
 }
 
 /// The name of the wire of a class: `n_K`.
-#[tactic(auto, unfolding(fabric_module::specs::Names::wire_name))]
-pub(crate) fn wire_name(alloc: Global, class: u32) -> Result<Name, AllocError>
+#[tactic(auto, unfolding(crate::specs::Names::wire_name))]
+pub fn wire_name(alloc: Global, class: u32) -> Result<Name, AllocError>
     ensures { IfOk result (λ name. name ≡ wire_name class) }
 {
     let mut text = Text::of(b"n_");
@@ -104,7 +91,7 @@ pub(crate) fn wire_name(alloc: Global, class: u32) -> Result<Name, AllocError>
 }
 
 /// Two numbers behind a short text.
-#[tactic(auto, unfolding(fabric_module::specs::Names::two_numbers))]
+#[tactic(auto, unfolding(crate::specs::Names::two_numbers))]
 fn two_numbers(before: &[u8], x: u8, y: u8) -> Text
     requires { length before.now ≤ 4 }
     ensures { result ≡ before.now ++ two_numbers x y }
@@ -117,7 +104,7 @@ fn two_numbers(before: &[u8], x: u8, y: u8) -> Text
 }
 
 /// Three numbers behind a short text.
-#[tactic(auto, unfolding(fabric_module::specs::Names::three_numbers))]
+#[tactic(auto, unfolding(crate::specs::Names::three_numbers))]
 fn three_numbers(before: &[u8], x: u8, y: u8, n: u8) -> Text
     requires { length before.now ≤ 4 }
     ensures text { result ≡ before.now ++ three_numbers x y n }

@@ -1,6 +1,6 @@
 use Rattle.std.proofs.Common.{◌∙◌, arith}
-use Rattle.vlog_emit.proofs.Named.{read-bytes}
-use Rattle.vlog_emit.proofs.names.read_name.Goals as goal
+use Rattle.fabric_module.proofs.NameBytes.{read-bytes}
+use Rattle.fabric_module.proofs.names.read_name.Goals as goal
 
 pub new-requires : goal.new-requires
 new-requires c = read-bytes c.args.ram.now c.bytes.result.now (c.bytes.ensures ∙ c.two_numbers-text.ensures) (omega arith) (omega arith)

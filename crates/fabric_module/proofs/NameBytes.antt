@@ -1,4 +1,4 @@
--- The names of a written module are names.
+-- Bytes that a name is made of are a name.
 use Rattle.std.proofs.Common.{◌≡◌, ℕ, ◌++◌, List, sym, subst}
 use Rattle.std.specs.Prelude.{codes, decimal}
 use Rattle.net_extract.specs.declared.register.Register.{Register}

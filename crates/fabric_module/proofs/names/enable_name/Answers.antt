@@ -1,7 +1,7 @@
 use Rattle.std.proofs.Common.{◌∙◌, ap, ◌++◌, arith}
 use Rattle.std.specs.Prelude.{codes}
-use Rattle.vlog_emit.proofs.Named.{enable-bytes}
-use Rattle.vlog_emit.proofs.names.enable_name.Goals as goal
+use Rattle.fabric_module.proofs.NameBytes.{enable-bytes}
+use Rattle.fabric_module.proofs.names.enable_name.Goals as goal
 
 pub new-requires : goal.new-requires
 new-requires c =

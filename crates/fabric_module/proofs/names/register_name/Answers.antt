@@ -1,8 +1,8 @@
 use Rattle.std.proofs.Common.{ap, ap₂, ◌∙◌, ◌++◌, subst, arith}
 use Rattle.fabric_module.specs.Names.{three_numbers}
 use Rattle.fabric_module.proofs.Apart.{IsSmall}
-use Rattle.vlog_emit.proofs.Named.{register-bytes}
-use Rattle.vlog_emit.proofs.names.register_name.Goals as goal
+use Rattle.fabric_module.proofs.NameBytes.{register-bytes}
+use Rattle.fabric_module.proofs.names.register_name.Goals as goal
 
 pub new-requires : goal.new-requires
 new-requires c =

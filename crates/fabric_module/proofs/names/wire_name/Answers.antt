@@ -1,7 +1,7 @@
 use Rattle.std.proofs.Common.{◌++◌, ap, ◌∙◌, arith}
 use Rattle.std.specs.Prelude.{decimal}
-use Rattle.vlog_emit.proofs.Named.{wire-bytes}
-use Rattle.vlog_emit.proofs.names.wire_name.Goals as goal
+use Rattle.fabric_module.proofs.NameBytes.{wire-bytes}
+use Rattle.fabric_module.proofs.names.wire_name.Goals as goal
 
 pub new-requires : goal.new-requires
 new-requires c =

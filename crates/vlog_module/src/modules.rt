@@ -68,4 +68,14 @@ impl Module {
     {
         &self.items
     }
+
+    /// The name, the ports and the items.
+    pub fn into_parts(self) -> (Name, Vec<Port>, Vec<Item>)
+        ensures name { result.0 ≡ self.name }
+        ensures ports { result.1.items ≡ self.ports }
+        ensures items { result.2.items ≡ self.items }
+        ensures well_formed { IsModule self }
+    {
+        (self.name, self.ports, self.items)
+    }
 }

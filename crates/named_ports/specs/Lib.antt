@@ -1,0 +1,3 @@
+pub mod Named
+pub mod Matching
+pub mod Law

@@ -1,0 +1,86 @@
+-- The names that a pin file gives to the ports of a module that is written for a fabric.
+use Rattle.std.specs.Prelude.{◌≡◌, ℕ, true, List, [], ◌∷◌, map, filter, find, flat_map, Option, Some, None, option_map, if◌then◌else◌}
+use Rattle.vlog_module.specs.declared.modules.Port.{Port}
+use Rattle.vlog_module.specs.Parts.{Parts}
+use Rattle.net_extract.specs.declared.pin.Pin.{Pin}
+use Rattle.net_extract.specs.Pins.{is_tri_state}
+use Rattle.net_extract.specs.Fabric.{Fabric}
+use Rattle.net_extract.specs.Outputs.{Output}
+use Rattle.fabric_module.specs.Names.{port_name, enable_name}
+use Rattle.fabric_module.specs.Written.{module_of}
+use Rattle.pin_file.specs.declared.place.PinPlace.{PinPlace}
+use Rattle.pin_file.specs.declared.pin_name.PinName.{PinName}
+use Rattle.pin_file.specs.PortNames.{is_place, enable_name as enable_name_behind}
+use Rattle.pin_file.specs.Packages.{Package}
+use Rattle.pin_file.specs.Faults.{ports_of, pin_fault_of}
+use Rattle.port_names.specs.Renamed.{renamed}
+
+-- ---- places
+
+abbrev pub place_of : Pin → PinPlace
+place_of pin = record { x = pin.x; y = pin.y; pio = pin.n }
+
+-- the places of the pins that have a second port
+abbrev pub switched_places : List Pin → List PinPlace
+switched_places pins = map place_of (filter is_tri_state pins)
+
+-- The named ports are those of a pin file that has no fault, for the package that was chosen and for these pins.
+pub record AreAccepted (pins : List Pin) (named : List PinName) : Type 0 where
+  pub chosen : Package
+  pub text : List ℕ
+  pub faultless : pin_fault_of chosen (switched_places pins) text ≡ None
+  pub are : named ≡ ports_of chosen text
+
+-- ---- names
+
+-- the name that is given for the place of a pin
+abbrev pub given_name : List PinName → Pin → Option (List ℕ)
+given_name named pin = option_map (λ port. port.name) (find (λ port. is_place (place_of pin) port.place) named)
+
+-- the name of a pin's port: the one that is given, or else its own
+abbrev pub port_by : Pin → Option (List ℕ) → List ℕ
+port_by pin (Some name) = name
+port_by pin None = port_name pin
+
+-- the name of the port that tells whether a pin is switched on: the one that is given with `_en` behind it, or else its own
+abbrev pub enable_by : Pin → Option (List ℕ) → List ℕ
+enable_by pin (Some name) = enable_name_behind name
+enable_by pin None = enable_name pin
+
+abbrev pub named_port : List PinName → Pin → List ℕ
+named_port named pin = port_by pin (given_name named pin)
+
+abbrev pub named_enable : List PinName → Pin → List ℕ
+named_enable named pin = enable_by pin (given_name named pin)
+
+-- the name of an output's port
+abbrev pub named_output : List PinName → Output → List ℕ
+named_output named output = if output.enable then named_enable named output.pin else named_port named output.pin
+
+-- the ports of a pin, as a module declares them
+abbrev pub named_pin_ports : List PinName → Pin → List Port
+named_pin_ports named pin =
+    record { name = named_port named pin; output = pin.output } ∷ (if is_tri_state pin then record { name = named_enable named pin; output = true } ∷ [] else [])
+
+-- those of all pins
+unfoldable pub named_ports : List PinName → List Pin → List Port
+named_ports named pins = flat_map (named_pin_ports named) pins
+
+-- ---- the renaming
+
+-- the own names of a pin's ports, each with the one that it gets
+abbrev pub renaming_by : Pin → Option (List ℕ) → List (List ℕ × List ℕ)
+renaming_by pin None = []
+renaming_by pin (Some name) =
+    (port_name pin, name) ∷ (if is_tri_state pin then (enable_name pin, enable_name_behind name) ∷ [] else [])
+
+abbrev pub pin_renaming : List PinName → Pin → List (List ℕ × List ℕ)
+pin_renaming named pin = renaming_by pin (given_name named pin)
+
+-- those of all pins; a pin that isn't named keeps its names
+unfoldable pub port_renaming : List PinName → List Pin → List (List ℕ × List ℕ)
+port_renaming named pins = flat_map (pin_renaming named) pins
+
+-- the module of a fabric with the names that are given
+unfoldable pub named_module : List PinName → Fabric → List ℕ → List ℕ → Parts
+named_module named fabric order name = renamed (port_renaming named fabric.pins) (module_of fabric order name)

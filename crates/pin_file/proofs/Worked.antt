@@ -1,0 +1,162 @@
+-- The definitions at small texts, worked out by hand.
+use Rattle.std.proofs.Common.{◌≡◌, ℕ, true, false, List, [], ◌∷◌, ◌++◌, refl}
+use Rattle.std.specs.Prelude.{codes, bytes_eq, if◌then◌else◌, Option, Some, None}
+use Rattle.text_lines.specs.Lines.{lines_of}
+use Rattle.text_lines.specs.Words.{words_of, pieces_of, numbers_of, number_of}
+use Rattle.place_search.specs.Places.{any_below, first_below, last_below}
+use Rattle.vlog_module.specs.Names.{is_name, reserved_words}
+use Rattle.pin_file.specs.declared.place.PinPlace.{PinPlace}
+use Rattle.pin_file.specs.declared.fault.PinCause.{PinCause}
+use Rattle.pin_file.specs.declared.fault.PinCause.TheVariants.{Statement, Package as NoPackage, Pin, Repeated, Name}
+use Rattle.pin_file.specs.declared.fault.PinFault.{PinFault}
+use Rattle.pin_file.specs.declared.fault.PinFault.TheVariants.{At}
+use Rattle.pin_file.specs.Lines.{Passed, Port, Unknown, plain_line, words_in, behind_options, line_of}
+use Rattle.pin_file.specs.PortNames.{port_name, places_of, all_names, own_beginnings, has_own_form}
+use Rattle.pin_file.specs.Packages.{Package, begins_package, place_in_line, stands_below, package_of}
+use Rattle.pin_file.specs.Faults.{ports_in, ports_of, port_cause, pin_fault_of}
+
+-- ---- lines
+
+-- a vertical tab, a form feed, a tab and CR are blanks, and what `#` begins isn't read
+blanks : words_in (codes " set_io" ++ 11 ∷ codes "led" ++ 12 ∷ 9 ∷ codes "A10#B1 x" ++ 13 ∷ []) ≡ codes "set_io" ∷ codes "led" ∷ codes "A10" ∷ []
+unfolding plain_line words_of pieces_of
+blanks = refl
+
+-- options with and without a word
+options : line_of (codes "set_io -nowarn -pullup yes --warn-no-port -pullup_resistor 3P3K led[3] A10") ≡ Port (codes "led[3]") (codes "A10")
+unfolding line_of plain_line words_of pieces_of behind_options
+options = refl
+
+-- the word behind an option is missing
+short : line_of (codes "set_io -pullup led A10") ≡ Unknown
+unfolding line_of plain_line words_of pieces_of behind_options
+short = refl
+
+-- an option behind the pin
+late : line_of (codes "set_io led A10 -nowarn") ≡ Unknown
+unfolding line_of plain_line words_of pieces_of behind_options
+late = refl
+
+passed : line_of (codes "set_frequency clk 48 # MHz") ≡ Passed
+unfolding line_of plain_line words_of pieces_of behind_options
+passed = refl
+
+other : line_of (codes "set_location led 1 2 3") ≡ Unknown
+unfolding line_of plain_line words_of pieces_of behind_options
+other = refl
+
+-- ---- names
+
+indexed : port_name (codes "led[3]") ≡ codes "led_3"
+unfolding port_name
+indexed = refl
+
+nested : port_name (codes "top.bus[1][20]") ≡ codes "top_bus_1__20"
+unfolding port_name
+nested = refl
+
+nothing : port_name (codes "[_]") ≡ []
+unfolding port_name
+nothing = refl
+
+own_pin : has_own_form (codes "io_0_2_0_en") ≡ true
+unfolding has_own_form own_beginnings
+own_pin = refl
+
+own_wire : has_own_form (codes "n_12") ≡ true
+unfolding has_own_form own_beginnings
+own_wire = refl
+
+no_own : has_own_form (codes "io_led") ≡ false
+unfolding has_own_form own_beginnings
+no_own = refl
+
+-- ---- packages
+
+-- two statements of the package, with a statement of another one between, and lines of other forms
+database : List ℕ
+database = codes ".pins cb121\nA10 12 17 1\nB1 0 2\n# 1 1 1\nB1 0 x 0\n.pins cb132\nA10 1 1 1\n.pins cb121 \n A10 3 3 0\nB1 5 0 1\n.other\nC1 1 1 1\n"
+
+pins : Package
+pins = package_of (codes "cb121") database
+
+first_counts : pins.place_of (codes "A10") ≡ Some (record { x = 12; y = 17; pio = 1 })
+unfolding pins database package_of lines_of first_below stands_below last_below begins_package place_in_line words_of pieces_of numbers_of number_of
+first_counts = refl
+
+later_counts : pins.place_of (codes "B1") ≡ Some (record { x = 5; y = 0; pio = 1 })
+unfolding pins database package_of lines_of first_below stands_below last_below begins_package place_in_line words_of pieces_of numbers_of number_of
+later_counts = refl
+
+no_pin : pins.place_of (codes "C1") ≡ None
+unfolding pins database package_of lines_of first_below stands_below last_below begins_package place_in_line words_of pieces_of numbers_of number_of
+no_pin = refl
+
+is_known : pins.known ≡ true
+unfolding pins database package_of lines_of any_below begins_package words_of pieces_of
+is_known = refl
+
+is_unknown : (package_of (codes "cb12") database).known ≡ false
+unfolding database package_of lines_of any_below begins_package words_of pieces_of
+is_unknown = refl
+
+-- ---- pin files
+
+place_a : PinPlace
+place_a = record { x = 0; y = 2; pio = 1 }
+
+place_b : PinPlace
+place_b = record { x = 5; y = 17; pio = 0 }
+
+-- a package with the pins `A` and `B` alone
+two_pins : Package
+two_pins = record {
+  known = true;
+  place_of = λ pin. if bytes_eq pin (codes "A") then Some place_a else if bytes_eq pin (codes "B") then Some place_b else None;
+}
+
+-- a package that the database doesn't list
+no_pins : Package
+no_pins = record { known = false; place_of = λ pin. None }
+
+fault : ℕ → PinCause → Option PinFault
+fault line cause = Some (At line cause)
+
+-- two ports, with an empty line and a remark between
+accepted : ports_of two_pins (codes "set_io clk A\n\n# led\nset_io led[0] B\n") ≡ record { place = place_a; name = codes "clk" } ∷ record { place = place_b; name = codes "led_0" } ∷ []
+unfolding two_pins place_a place_b ports_of ports_in lines_of line_of plain_line words_of pieces_of behind_options port_name
+accepted = refl
+
+accepted_whole : pin_fault_of two_pins [] (codes "set_io clk A\n\n# led\nset_io led[0] B\n") ≡ None
+unfolding two_pins place_a place_b pin_fault_of first_below ports_in port_cause lines_of line_of plain_line words_of pieces_of behind_options port_name places_of all_names has_own_form own_beginnings is_name reserved_words
+accepted_whole = refl
+
+statement_first : pin_fault_of no_pins [] (codes "set_io clk\nset_io clk A\n") ≡ fault 1 Statement
+unfolding no_pins fault pin_fault_of first_below ports_in port_cause lines_of line_of plain_line words_of pieces_of behind_options port_name places_of all_names has_own_form own_beginnings is_name reserved_words
+statement_first = refl
+
+no_package : pin_fault_of no_pins [] (codes "set_frequency clk 12\nset_io module A\n") ≡ fault 2 NoPackage
+unfolding no_pins fault pin_fault_of first_below ports_in port_cause lines_of line_of plain_line words_of pieces_of behind_options port_name places_of all_names has_own_form own_beginnings is_name reserved_words
+no_package = refl
+
+not_there : pin_fault_of two_pins [] (codes "set_io module C\n") ≡ fault 1 Pin
+unfolding two_pins fault pin_fault_of first_below ports_in port_cause lines_of line_of plain_line words_of pieces_of behind_options port_name places_of all_names has_own_form own_beginnings is_name reserved_words
+not_there = refl
+
+-- the line has the causes `Repeated` and `Name`
+twice : pin_fault_of two_pins [] (codes "set_io clk A\nset_io clk A\n") ≡ fault 2 Repeated
+unfolding two_pins place_a place_b fault pin_fault_of first_below ports_in port_cause lines_of line_of plain_line words_of pieces_of behind_options port_name places_of all_names has_own_form own_beginnings is_name reserved_words
+twice = refl
+
+same_name : pin_fault_of two_pins [] (codes "set_io led[1] A\nset_io led.1 B\n") ≡ fault 2 Name
+unfolding two_pins place_a place_b fault pin_fault_of first_below ports_in port_cause lines_of line_of plain_line words_of pieces_of behind_options port_name places_of all_names has_own_form own_beginnings is_name reserved_words
+same_name = refl
+
+-- a name of the second port of a pin that can be switched off
+enable_taken : pin_fault_of two_pins (place_a ∷ []) (codes "set_io bus A\nset_io bus_en B\n") ≡ fault 2 Name
+unfolding two_pins place_a place_b fault pin_fault_of first_below ports_in port_cause lines_of line_of plain_line words_of pieces_of behind_options port_name places_of all_names has_own_form own_beginnings is_name reserved_words
+enable_taken = refl
+
+enable_free : pin_fault_of two_pins (place_b ∷ []) (codes "set_io bus A\nset_io bus_en B\n") ≡ None
+unfolding two_pins place_a place_b fault pin_fault_of first_below ports_in port_cause lines_of line_of plain_line words_of pieces_of behind_options port_name places_of all_names has_own_form own_beginnings is_name reserved_words
+enable_free = refl

@@ -1,0 +1,9 @@
+use Rattle.text_lines.specs.Lines.{lines_of}
+use Rattle.pin_file.specs.Feeding.{StandsFor}
+use Rattle.pin_file.proofs.PackageSteps.{package-is}
+use Rattle.pin_file.proofs.pin_reader.PinReader.finish.Goals as goal
+
+pub returns-in-Ok : goal.returns-in-Ok
+unfolding StandsFor
+returns-in-Ok c = λ name text stands.
+    package-is name text _ (c.finish-in-Ok.ensures name (lines_of text) (c.in-Ok.ensures.taken name text stands))

@@ -1,0 +1,6 @@
+pub mod Lines
+pub mod PortNames
+pub mod Packages
+pub mod Faults
+pub mod Feeding
+pub mod inside

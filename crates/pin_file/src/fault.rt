@@ -1,0 +1,46 @@
+// What can be wrong with a pin file.
+ghost use Rattle.std.specs.Prelude.{◌≡◌};
+ghost use Rattle.pin_file.specs.declared.fault.PinFault.TheVariants.{Memory};
+
+use std::alloc::AllocError;
+use thiserror::Error;
+
+/// Why a line of a pin file is refused. Of several causes the first in this list is told.
+#[derive(Clone, Copy, Debug, PartialEq, Eq, Error)]
+pub enum PinCause {
+    /// Neither `set_io OPTIONS NAME PIN` nor `set_frequency` and anything.
+    #[error("it isn't `set_io NAME PIN`")]
+    Statement,
+    /// The database doesn't list the package.
+    #[error("the database doesn't have the package")]
+    Package,
+    /// The package doesn't have the pin.
+    #[error("the package doesn't have the pin")]
+    Pin,
+    /// An earlier line is for the same pin, or for one at the same place.
+    #[error("an earlier line names the pin")]
+    Repeated,
+    /// What becomes of the name isn't a name of the Verilog subset, or has the form of the names that a module uses itself, or is that
+    /// of an earlier line. The name of the second port of a pin that can be switched off counts too.
+    #[error("the port can't have the name")]
+    Name,
+}
+
+/// Why a pin file isn't read.
+#[derive(Clone, Copy, Debug, PartialEq, Eq, Error)]
+pub enum PinFault {
+    /// The first faulty line, counted from 1, and the first of its causes.
+    #[error("line {line}: {cause}")]
+    At { line: u64, cause: PinCause },
+    /// Out of memory. It may come in place of any other answer.
+    #[error(transparent)]
+    Memory(AllocError),
+}
+
+impl From<AllocError> for PinFault {
+    ghost from_gives = { λ e fault. fault ≡ Memory e };
+
+    fn from(e: AllocError) -> PinFault {
+        PinFault::Memory(e)
+    }
+}

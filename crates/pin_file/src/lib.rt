@@ -1,0 +1,26 @@
+//! Pin files: texts that name the ports at the pins of a package.
+//!
+//! [`PinReader`] takes the text of a chip database and keeps the pins of one package, and [`pin_names`] reads a pin file by them.
+#![tactic(auto)]
+
+mod database;
+mod fault;
+mod line;
+mod name_set;
+mod package_pins;
+mod pin_lines;
+mod pin_name;
+mod pin_reader;
+mod place;
+mod place_set;
+mod port_name;
+mod ports;
+mod reading;
+mod refusal;
+
+pub use fault::{PinCause, PinFault};
+pub use package_pins::PackagePins;
+pub use pin_name::PinName;
+pub use pin_reader::PinReader;
+pub use place::PinPlace;
+pub use reading::pin_names;

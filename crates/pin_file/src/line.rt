@@ -1,0 +1,147 @@
+// What a line of a pin file says.
+ghost use Rattle.std.specs.Prelude.{◌≡◌, ◌≤◌, ◌<◌, false, length, map, position, IfOk, IfSome};
+ghost use Rattle.std.specs.List.{before_first};
+ghost use Rattle.text_lines.specs.declared.words.Separators.TheVariants.{Spaces};
+ghost use Rattle.text_lines.specs.Words.{words_of};
+ghost use Rattle.pin_file.specs.Lines.{begins_remark, behind_options, is_blank, is_option, line_of_words, plain_byte, plain_line, port_line, takes_word};
+ghost use Rattle.pin_file.specs.inside.Reading.{said_by};
+
+use std::alloc::{AllocError, Global};
+use text_lines::{Separators, one_word, split_word};
+
+/// What a line is.
+#[derive(Clone, Copy)]
+pub(crate) enum LineKind<'a> {
+    /// It is passed over.
+    Passed,
+    /// The name of a port, and its pin.
+    Port { name: &'a [u8], pin: &'a [u8] },
+    /// No line of a pin file.
+    Unknown,
+}
+
+/// A line without `#` and all behind it, and with a space for each blank.
+#[tactic(auto, unfolding(crate::specs::Lines::plain_line))]
+pub(crate) fn plain_line(alloc: Global, line: &[u8]) -> Result<Vec<u8>, AllocError>
+    ensures { IfOk result (λ plain. plain.items ≡ plain_line line.now) }
+{
+    plain_bytes(alloc, before_remark(line))
+}
+
+/// What stands before the first `#`.
+fn before_remark(line: &[u8]) -> &[u8]
+    ensures { result.now ≡ before_first begins_remark line.now }
+{
+    match remark_in(line) {
+        Some(offset) => &line[..offset],
+        None => line,
+    }
+}
+
+/// The offset of the first `#`.
+fn remark_in(line: &[u8]) -> Option<usize>
+    ensures offset { result ≡ position begins_remark line.now }
+    ensures within { IfSome result (λ offset. offset < length line.now) }
+{
+    line.iter().position(|byte| *byte == b'#')
+}
+
+/// Bytes with a space for each blank.
+fn plain_bytes(alloc: Global, bytes: &[u8]) -> Result<Vec<u8>, AllocError>
+    ensures { IfOk result (λ plain. plain.items ≡ map plain_byte bytes.now) }
+{
+    let mut plain = Vec::new(alloc);
+    for byte in bytes {
+        plain.push(plain_byte(*byte))?;
+    }
+    Ok(plain)
+}
+
+/// A space for a blank, and any other byte itself.
+fn plain_byte(byte: u8) -> u8
+    ensures { result ≡ plain_byte byte }
+{
+    if is_blank(byte) { b' ' } else { byte }
+}
+
+/// Whether the byte is a space, a tab, a vertical tab, a form feed or a CR.
+fn is_blank(byte: u8) -> bool
+    ensures { result ≡ is_blank byte }
+{
+    byte == b' ' || byte == b'\t' || byte == 0x0B || byte == 0x0C || byte == b'\r'
+}
+
+/// What a plain line says.
+pub(crate) fn line_kind(line: &[u8]) -> LineKind<'_>
+    ensures { said_by result ≡ line_of_words (words_of Spaces line.now) }
+{
+    match split_word(Separators::Spaces, line) {
+        None => LineKind::Passed,
+        Some((word, behind)) => {
+            if word == b"set_io".as_slice() {
+                port_kind(behind_options(behind))
+            } else if word == b"set_frequency".as_slice() {
+                LineKind::Passed
+            } else {
+                LineKind::Unknown
+            }
+        }
+    }
+}
+
+/// The words behind the options at the front.
+fn behind_options(words: &[u8]) -> &[u8]
+    ensures { words_of Spaces result.now ≡ behind_options false (words_of Spaces words.now) }
+{
+    let mut left = words;
+    while let Some((word, behind)) = split_word(Separators::Spaces, left) {
+        if is_option(word) {
+            left = behind_option(word, behind);
+        } else {
+            return left;
+        }
+    }
+    left
+}
+
+/// The words behind an option, without the one that belongs to it.
+fn behind_option<'a>(option: &[u8], words: &'a [u8]) -> &'a [u8]
+    ensures options { behind_options false (words_of Spaces result.now) ≡ behind_options (takes_word option.now) (words_of Spaces words.now) }
+    ensures shorter { length result.now ≤ length words.now }
+{
+    if takes_word(option) {
+        match split_word(Separators::Spaces, words) {
+            None => words,
+            Some((_, behind)) => behind,
+        }
+    } else {
+        words
+    }
+}
+
+/// Whether a word is an option.
+fn is_option(word: &[u8]) -> bool
+    ensures { result ≡ is_option word.now }
+{
+    matches!(word, [b'-', ..])
+}
+
+/// Whether a word behind the option belongs to it.
+fn takes_word(option: &[u8]) -> bool
+    ensures { result ≡ takes_word option.now }
+{
+    option == b"-pullup".as_slice() || option == b"-pullup_resistor".as_slice()
+}
+
+/// What a line says behind `set_io` and its options.
+fn port_kind(words: &[u8]) -> LineKind<'_>
+    ensures { said_by result ≡ port_line (words_of Spaces words.now) }
+{
+    match split_word(Separators::Spaces, words) {
+        None => LineKind::Unknown,
+        Some((name, behind)) => match one_word(Separators::Spaces, behind) {
+            None => LineKind::Unknown,
+            Some(pin) => LineKind::Port { name, pin },
+        },
+    }
+}

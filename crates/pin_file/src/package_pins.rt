@@ -1,0 +1,93 @@
+// The pins of a package, as they are kept.
+ghost use Rattle.std.specs.Prelude.{◌≡◌, ◌||◌, ℕ, List, None, Some, false, bytes_eq, if◌then◌else◌, OnOk};
+ghost use Rattle.place_search.specs.Places.{or_else};
+
+use crate::place::PinPlace;
+use indexmap::IndexMap;
+use std::alloc::{AllocError, Global};
+
+/// The pins of a package: whether the database lists it, and the place of each of its pins.
+#[derive(Drop)]
+pub struct PackagePins {
+    known: bool,
+    places: IndexMap<Vec<u8>, PinPlace>,
+    alloc: Global,
+}
+
+impl PackagePins {
+    ghost use Rattle.pin_file.specs.Feeding.{kept_in, place_kept};
+
+    /// No package, and no pins. It takes no memory yet.
+    pub(crate) fn new(alloc: Global) -> PackagePins
+        ensures unknown { result.known ≡ false }
+        ensures empty { (pin : List ℕ) → place_kept result pin ≡ None }
+    {
+        PackagePins {
+            known: false,
+            places: IndexMap::new(alloc),
+            alloc,
+        }
+    }
+
+    /// Whether the database lists the package.
+    #[tactic(auto, unfolding(crate::specs::Feeding::kept_in))]
+    pub fn is_known(&self) -> bool
+        ensures { result ≡ (kept_in self.now).known }
+    {
+        self.known
+    }
+
+    /// The place of a pin of the package: the first that the database lists for it.
+    #[tactic(auto, unfolding(crate::specs::Feeding::kept_in))]
+    pub fn place_of(&self, pin: &[u8]) -> Option<PinPlace>
+        ensures { result ≡ (kept_in self.now).place_of pin.now }
+    {
+        self.find(pin)
+    }
+
+    /// The place that is kept of a pin.
+    fn find(&self, pin: &[u8]) -> Option<PinPlace>
+        ensures { result ≡ place_kept self.now pin.now }
+    {
+        self.places.get(pin).copied()
+    }
+
+    /// The package is listed from now on, if it is here.
+    pub(crate) fn list_if(&mut self, here: bool)
+        ensures known { self.new.known ≡ (self.old.known || here) }
+        ensures places { (pin : List ℕ) → place_kept self.new pin ≡ place_kept self.old pin }
+    {
+        self.known = self.known || here;
+    }
+
+    /// Gives a pin its place, where it has none.
+    pub(crate) fn add(&mut self, pin: &[u8], place: PinPlace) -> Result<(), AllocError>
+        ensures known { self.new.known ≡ self.old.known }
+        ensures places { OnOk result ((other : List ℕ) → place_kept self.new other
+            ≡ or_else (place_kept self.old other) (if bytes_eq pin.now other then Some place else None)) }
+    {
+        if self.find(pin).is_some() {
+            return Ok(());
+        }
+        let pin = Vec::from_slice(self.alloc, pin)?;
+        insert(&mut self.places, pin, place)
+    }
+}
+
+ghost use Rattle.std.specs.Prelude.{◌++◌, ◌∷◌, []};
+ghost use Rattle.std.specs.Map.{lookup};
+
+/// Gives a pin that has no place its place.
+fn insert(
+    places: &mut IndexMap<Vec<u8>, PinPlace>,
+    pin: Vec<u8>,
+    place: PinPlace,
+) -> Result<(), AllocError>
+    requires { lookup (λ key. bytes_eq pin.items key.items) places.old.entries ≡ None }
+    ensures { OnOk result (places.new.entries ≡ places.old.entries ++ (pin, place) ∷ []) }
+{
+    match places.insert(pin, place) {
+        Ok(_) => Ok(()),
+        Err(e) => Err(AllocError::from(e)),
+    }
+}

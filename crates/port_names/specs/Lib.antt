@@ -1,0 +1,4 @@
+pub mod Renamed
+pub mod Fresh
+pub mod Law
+pub mod Listed

@@ -113,6 +113,11 @@ NR == 1 {
   next
 }
 
+is_usage && /^ +\[/ { # the line before goes on
+  add("SYNOPSIS", escaped(trimmed($0)))
+  next
+}
+
 is_usage && /^ / {
   usage_line(trimmed($0))
   next

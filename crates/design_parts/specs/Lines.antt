@@ -1,15 +1,12 @@
 -- The run of a fabric as lines, as `vlogrun` writes that of a module.
 use Rattle.std.specs.Prelude.{ℕ, Bool, List, [], ◌∷◌, ◌++◌, map, flat_map, if◌then◌else◌}
 use Rattle.bit_plane.specs.BitList.{word_of}
-use Rattle.ice_image.specs.Configuration.{Configuration}
-use Rattle.chipdb_reader.specs.Database.{Database}
+use Rattle.vlog_module.specs.declared.modules.Port.{Port}
 use Rattle.vlog_plan.specs.declared.event.Event.{Event as ModuleEvent}
 use Rattle.vlog_cycle.specs.Events.{events_of}
 use Rattle.vlog_cycle.specs.Text.{bit_digit, word_text}
-use Rattle.net_extract.specs.Fabric.{fabric_of}
 use Rattle.net_extract.specs.Values.{State}
 use Rattle.net_extract.specs.Steps.{Event, Entry}
-use Rattle.fabric_module.specs.Written.{pin_ports}
 
 -- a space, the registers of one bit, and the read register of each RAM
 abbrev pub state_text : State → List ℕ
@@ -27,6 +24,6 @@ fabric_text registers entries = flat_map (fabric_line registers) entries
 abbrev pub fabric_event : ModuleEvent → Event
 fabric_event event = record { pin = event.pin; bit = event.bit }
 
--- the events of a text for the fabric of a database and an image
-abbrev pub fabric_events : Database → Configuration → List ℕ → List Event
-fabric_events db image events = map fabric_event (events_of (flat_map pin_ports (fabric_of db image).pins) events)
+-- the events of a text for a fabric, where the module that is written for it has these ports
+abbrev pub fabric_events : List Port → List ℕ → List Event
+fabric_events ports events = map fabric_event (events_of ports events)

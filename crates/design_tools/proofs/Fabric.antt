@@ -1,5 +1,5 @@
 -- The text that is written for a database and an image is that of their fabric.
-use Rattle.std.proofs.Common.{◌≡◌, ℕ, ◌^◌, ◌≤◌, Bool, true, false, List, [], refl, subst}
+use Rattle.std.proofs.Common.{◌≡◌, ◌∙◌, ℕ, ◌^◌, ◌≤◌, Bool, true, false, List, [], ap, refl, subst, sym}
 use Rattle.std.specs.Prelude.{Option, Some, None, Result, Ok, Err, get_or, codes, if◌then◌else◌, is_some, ◌&&◌, nat_le, length}
 use Rattle.clap.specs.Words.{Row, Text, first_of, matches_of}
 use Rattle.layout_file.specs.declared.layouts.Layouts.{Layouts}
@@ -9,6 +9,17 @@ use Rattle.ice_image.specs.Configuration.{Configuration}
 use Rattle.chipdb_reader.specs.Database.{Database}
 use Rattle.chipdb_reader.specs.Fit.{IsFit}
 use Rattle.vlog_module.specs.Names.{is_name, reserved_words, IsName}
+use Rattle.vlog_module.specs.Parts.{Parts}
+use Rattle.vlog_module.specs.WellFormed.{IsModule}
+use Rattle.net_extract.specs.declared.pin.Pin.{Pin}
+use Rattle.net_extract.specs.Steps.{IsRun}
+use Rattle.pin_file.specs.declared.pin_name.PinName.{PinName}
+use Rattle.pin_file.specs.declared.fault.PinFault.{PinFault}
+use Rattle.pin_file.specs.Faults.{pin_fault_of, ports_of}
+use Rattle.pin_file.specs.Packages.{Package, package_of}
+use Rattle.named_ports.specs.Named.{AreAccepted, named_module, named_output, named_port, named_ports, switched_places}
+use Rattle.named_ports.specs.Law.{RunsNamed}
+use Rattle.named_ports.proofs.IsFabric.{named-is-fabric}
 use Rattle.vlog_forms.specs.Printed.{printed}
 use Rattle.vlog_forms.proofs.PrintedTokens.{printed-spells}
 use Rattle.vlog_forms.proofs.Spelled.{one-module}
@@ -25,15 +36,16 @@ use Rattle.tool_parts.proofs.CommandLines.{helped-no}
 use Rattle.tool_parts.specs.Databases.{database_read}
 use Rattle.tool_parts.specs.Images.{image_read}
 use Rattle.tool_run.specs.Runs.{Does, Outside, Scene}
-use Rattle.tool_run.specs.Tasks.{Done, Task, usage_error}
+use Rattle.tool_run.specs.Tasks.{Answer, Done, Task, usage_error}
 use Rattle.tool_parts.specs.Commands.{has_flag, is_taken}
 use Rattle.tool_parts.specs.Outcomes.{asked}
 use Rattle.design_tools.specs.declared.request.TheConstants.{ICEBOX_VLOG_HELP}
 use Rattle.design_tools.specs.Names.{name_given}
 use Rattle.design_parts.specs.Lines.{fabric_events}
 use Rattle.design_parts.specs.Order.{write_order}
-use Rattle.design_tools.specs.Vlog.{icebox_vlog, inputs_wanted, written, written_module, written_with, vlog_command, vlog_name, vlog_outcome, vlog_task_by, vlog_task_of, vlog_usage}
-use Rattle.design_tools.specs.Fabric.{PromisesFabric, SpellsFabric, WritesFabric, names_layout}
+use Rattle.design_tools.specs.Pins.{database_text, pin_text, texts_without_pins}
+use Rattle.design_tools.specs.Vlog.{Named, icebox_vlog, inputs_wanted, module_with_names, named_by, named_where, named_with, pins_in, written, written_module, written_named, written_with, vlog_command, vlog_name, vlog_outcome, vlog_task_by, vlog_task_of, vlog_usage}
+use Rattle.design_tools.specs.Fabric.{HasNoPinFault, PromisesFabric, SpellsFabric, WritesFabric, names_given, names_layout, package_given, texts_of_design}
 use Rattle.tool_parts.proofs.Appended.{helped-kept}
 use Rattle.tool_parts.proofs.Databases.{read-few, read-fit}
 use Rattle.design_parts.proofs.Lines.{run-shown}
@@ -50,34 +62,94 @@ ordered inputs db image fit none =
     let order = taken-order image.layout.device fabric (design-taken inputs db image none).fabric (fabric-within db image fit inputs) in
     subst (IsWriteOrder wiring) (order-is wiring order.it order.is) order.is
 
-spells-fabric : (inputs : LutInputs) (name : List ℕ) → IsName name → (db : Database) (image : Configuration) → IsFit db → db.chip.nets ≤ 2 ^ 64
-    → design_fault inputs db image ≡ None → SpellsFabric db image (printed (written_module inputs name db image))
-unfolding written_module module_of fabric_with
-spells-fabric inputs name named db image fit few none =
-    let fabric = fabric_with inputs db image in
-    let order = write_order (wiring_of fabric) in
-    let is = ordered inputs db image fit none in
-    let m = module_of fabric order name in
-    let spells = printed-spells m (design-well_formed inputs db image fit few none order is name named) in
-    record {
-      one_module = record { it = m; is = spells; only = λ other also. one-module (printed m) other m also spells };
-      one_run = λ events. design-run inputs db image fit none events;
-      alike = λ events entries run. design-is-module inputs db image fit few none order is name events entries run;
-      lines = λ registers events entries run.
-          run-shown (fabric_of db image) m registers events entries
-          (design-is-module inputs db image fit few none order is name (fabric_events db image events) entries run);
-    }
+module _ (inputs : LutInputs) (name : List ℕ) (is_name : IsName name) (db : Database) (image : Configuration) (fit : IsFit db) (few : db.chip.nets ≤ 2 ^ 64)
+    (none : design_fault inputs db image ≡ None) where
+  abbrev order : List ℕ
+  order = write_order (wiring_of (fabric_with inputs db image))
+
+  order-right : IsWriteOrder (wiring_of (fabric_with inputs db image)) order
+  order-right = ordered inputs db image fit none
+
+  -- a module that runs as the fabric
+  spelled : (named : List PinName) (m : Parts) → IsModule m → RunsNamed named db image m → SpellsFabric named db image (printed m)
+  spelled named m whole runs =
+      let spells = printed-spells m whole in
+      record {
+        one_module = record { it = m; is = spells; only = λ other also. one-module (printed m) other m also spells };
+        ports = runs.ports;
+        one_run = runs.one_run;
+        alike = runs.alike;
+        lines = λ registers events entries run.
+            run-shown (named_port named) (named_output named) (fabric_of db image) m registers events entries
+            (runs.alike (fabric_events m.ports events) entries
+            (subst (λ ports. IsRun (fabric_of db image) (fabric_events ports events) entries) (sym runs.ports) run));
+      }
+
+  own-runs : RunsNamed [] db image (module_of (fabric_with inputs db image) order name)
+  unfolding module_of fabric_with named_ports
+  own-runs = record {
+    ports = refl;
+    one_run = λ events. design-run inputs db image fit none events;
+    alike = λ events entries run. design-is-module inputs db image fit few none order order-right name events entries run;
+  }
+
+  own-spelled : SpellsFabric [] db image (printed (written_module inputs name db image))
+  unfolding written_module
+  own-spelled =
+      spelled [] (module_of (fabric_with inputs db image) order name) (design-well_formed inputs db image fit few none order order-right name is_name) own-runs
+
+  named-spelled : (named : List PinName) → AreAccepted (fabric_of db image).pins named → SpellsFabric named db image (printed (module_with_names named inputs name db image))
+  unfolding module_with_names
+  named-spelled named accepted =
+      let law = named-is-fabric named inputs db image fit few none accepted order name order-right is_name in
+      spelled named (named_module named (fabric_with inputs db image) order name) law.0 law.1
 
 -- ---- the answer
 
-done-with : (inputs : LutInputs) (name : List ℕ) → IsName name → (db : Database) (image : Configuration) → IsFit db → db.chip.nets ≤ 2 ^ 64 → (bytes : List ℕ) (fault : Option Fault)
-    → design_fault inputs db image ≡ fault → written_with inputs name db image fault ≡ Done bytes → SpellsFabric db image bytes
-done-with inputs name named db image fit few bytes (Some fault) is done = absurd cc
-done-with inputs name named db image fit few bytes None is done =
-    let same : printed (written_module inputs name db image) ≡ bytes = cc in
-    subst (SpellsFabric db image) same (spells-fabric inputs name named db image fit few is)
+-- what bytes are, by the package of a pin file where there is one
+IsWritten : Option (List ℕ) → Bool → List (List ℕ) → List ℕ → Database → Configuration → Type 0
+IsWritten package_name behind texts bytes db image =
+    HasNoPinFault package_name behind texts (fabric_of db image).pins × SpellsFabric (names_given package_name behind texts) db image bytes
 
-module _ (inputs : LutInputs) (name : List ℕ) (named : IsName name) (behind : Bool) (texts : List (List ℕ)) (bytes : List ℕ) where
+own-done : (inputs : LutInputs) (name : List ℕ) → IsName name → (db : Database) (image : Configuration) → IsFit db → db.chip.nets ≤ 2 ^ 64 → (bytes : List ℕ) (fault : Option Fault)
+    → design_fault inputs db image ≡ fault → written_with inputs name db image fault ≡ Done bytes → SpellsFabric [] db image bytes
+own-done inputs name is_name db image fit few bytes (Some fault) is done = absurd cc
+own-done inputs name is_name db image fit few bytes None is done =
+    let same : printed (written_module inputs name db image) ≡ bytes = cc in
+    subst (SpellsFabric [] db image) same (own-spelled inputs name is_name db image fit few is)
+
+-- the pins are the same whichever inputs LUTs read
+pins-same : (inputs : LutInputs) (db : Database) (image : Configuration) → (fabric_with inputs db image).pins ≡ (fabric_of db image).pins
+unfolding fabric_with
+pins-same inputs db image = refl
+
+module _ (inputs : LutInputs) (name : List ℕ) (is_name : IsName name) (db : Database) (image : Configuration) (fit : IsFit db) (few : db.chip.nets ≤ 2 ^ 64)
+    (chosen : Package) (file bytes : List ℕ) where
+  -- the pin file has no fault, and bytes spell the fabric by its names
+  abbrev IsNamed : Type 0
+  IsNamed = (pin_fault_of chosen (switched_places (fabric_of db image).pins) file ≡ None) × SpellsFabric (ports_of chosen file) db image bytes
+
+  accepted-done : (fault : Option PinFault) → design_fault inputs db image ≡ None
+      → pin_fault_of chosen (switched_places (fabric_with inputs db image).pins) file ≡ fault → named_with inputs name (ports_of chosen file) db image fault ≡ Done bytes → IsNamed
+  accepted-done (Some fault) none is done = absurd cc
+  accepted-done None none is done =
+      let same : printed (module_with_names (ports_of chosen file) inputs name db image) ≡ bytes = cc in
+      let faultless : pin_fault_of chosen (switched_places (fabric_of db image).pins) file ≡ None =
+      sym (ap (λ (ports : List Pin). pin_fault_of chosen (switched_places ports) file) (pins-same inputs db image)) ∙ is in (
+        faultless,
+        subst (SpellsFabric (ports_of chosen file) db image) same
+            (named-spelled inputs name is_name db image fit few none (ports_of chosen file) (record { chosen = chosen; text = file; faultless = faultless; are = refl })),
+      )
+
+  named-done : (fault : Option Fault) → design_fault inputs db image ≡ fault → named_where inputs name chosen file db image fault ≡ Done bytes → IsNamed
+  named-done (Some fault) is done = absurd cc
+  named-done None is done = accepted-done (pin_fault_of chosen (switched_places (fabric_with inputs db image).pins) file) is refl done
+
+module _ (package_name : Option (List ℕ)) (behind : Bool) (all : List (List ℕ)) (bytes : List ℕ) (answer : Database → Configuration → Answer)
+    (shown : (db : Database) (image : Configuration) → IsFit db → db.chip.nets ≤ 2 ^ 64 → answer db image ≡ Done bytes → IsWritten package_name behind all bytes db image) where
+  abbrev texts : List (List ℕ)
+  texts = texts_of_design package_name behind all
+
   abbrev db_text : List ℕ
   db_text = get_or texts (behind_layout behind 0) []
 
@@ -85,20 +157,24 @@ module _ (inputs : LutInputs) (name : List ℕ) (named : IsName name) (behind : 
   image_text = get_or texts (behind_layout behind 1) []
 
   done-of : (layouts : Layouts) (db : Result Database (List ℕ)) (image : Result Configuration (List ℕ))
-      → layouts_for behind texts ≡ Ok layouts → database_read db_text ≡ db → image_read layouts image_text ≡ image → answer_of_both db image (written inputs name) ≡ Done bytes → WritesFabric behind texts bytes
+      → layouts_for behind texts ≡ Ok layouts → database_read db_text ≡ db → image_read layouts image_text ≡ image → answer_of_both db image answer ≡ Done bytes → WritesFabric package_name behind all bytes
+  unfolding IsWritten
   done-of layouts (Err text) image layouts_are db_is image_is done = absurd cc
   done-of layouts (Ok db) (Err text) layouts_are db_is image_is done = absurd cc
-  done-of layouts (Ok db) (Ok image) layouts_are db_is image_is done = record {
-    layouts = layouts;
-    db = db;
-    image = image;
-    layouts_are = layouts_are;
-    db_is = db_is;
-    image_is = image_is;
-    spells = done-with inputs name named db image (read-fit db_text db db_is) (read-few db_text db db_is) bytes (design_fault inputs db image) refl done;
-  }
+  done-of layouts (Ok db) (Ok image) layouts_are db_is image_is done =
+      let found = shown db image (read-fit db_text db db_is) (read-few db_text db db_is) done in
+      record {
+        layouts = layouts;
+        db = db;
+        image = image;
+        layouts_are = layouts_are;
+        db_is = db_is;
+        image_is = image_is;
+        faultless = found.0;
+        spells = found.1;
+      }
 
-  done-under : (read : Result Layouts (List ℕ)) → layouts_for behind texts ≡ read → answer_under read (answer_to_both (written inputs name) db_text image_text) ≡ Done bytes → WritesFabric behind texts bytes
+  done-under : (read : Result Layouts (List ℕ)) → layouts_for behind texts ≡ read → answer_under read (answer_to_both answer db_text image_text) ≡ Done bytes → WritesFabric package_name behind all bytes
   done-under (Ok layouts) are done = done-of layouts (database_read db_text) (image_read layouts image_text) are refl refl done
   done-under (Err text) are done = absurd cc
 
@@ -116,34 +192,49 @@ given-name None name is = let same : codes "chip" ≡ name = cc in subst IsName 
 given-name (Some text) name is = name-by text name (nat_le (length text) 64) (is_name text) refl is
 
 -- what a task makes of texts
-abbrev TaskWrites : Bool → Task → Type 0
-TaskWrites behind task = (texts : List (List ℕ)) (bytes : List ℕ) → task.answer texts ≡ Done bytes → WritesFabric behind texts bytes
+abbrev TaskWrites : Option (List ℕ) → Bool → Task → Type 0
+TaskWrites package_name behind task = (texts : List (List ℕ)) (bytes : List ℕ) → task.answer texts ≡ Done bytes → WritesFabric package_name behind texts bytes
 
-task-of : (used : Bool) (name layout db image : Option Text) → ((one : Text) → name ≡ Some one → IsName one) → TaskWrites (is_some layout) (vlog_task_of used name layout db image)
-task-of used (Some name) layout (Some db) image named texts bytes done =
-    done-under (inputs_wanted used) name (named name refl) (is_some layout) texts bytes (layouts_for (is_some layout) texts) refl done
-task-of used (Some name) layout None image named texts bytes done = absurd cc
-task-of used None layout db image named texts bytes done = absurd cc
+task-of : (used : Bool) (name file package_name layout db image : Option Text) → ((one : Text) → name ≡ Some one → IsName one)
+    → TaskWrites package_name (is_some layout) (vlog_task_of used name (named_by file package_name) layout db image)
+unfolding IsWritten
+task-of used (Some name) None None layout (Some db) image is_name texts bytes done =
+    done-under None (is_some layout) texts bytes (written (inputs_wanted used) name)
+    (λ db image fit few done. (tt, own-done (inputs_wanted used) name (is_name name refl) db image fit few bytes (design_fault (inputs_wanted used) db image) refl done))
+    (layouts_for (is_some layout) texts) refl done
+task-of used (Some name) (Some file) (Some package_name) layout (Some db) image is_name texts bytes done =
+    let behind = is_some layout in
+    let chosen = package_of package_name (database_text behind texts) in
+    done-under (Some package_name) behind texts bytes (written_named (inputs_wanted used) name chosen (pin_text behind texts))
+    (λ db image fit few done. named-done (inputs_wanted used) name (is_name name refl) db image fit few chosen (pin_text behind texts) bytes (design_fault (inputs_wanted used) db image) refl done)
+    (layouts_for behind (texts_without_pins behind texts)) refl done
+task-of used (Some name) (Some file) None layout db image is_name texts bytes done = absurd cc
+task-of used (Some name) None (Some package_name) layout db image is_name texts bytes done = absurd cc
+task-of used (Some name) None None layout None image is_name texts bytes done = absurd cc
+task-of used (Some name) (Some file) (Some package_name) layout None image is_name texts bytes done = absurd cc
+task-of used None file package_name layout db image is_name texts bytes done = absurd cc
 
-task-writes : (args : List Text) → TaskWrites (names_layout args) (asked icebox_vlog args)
+task-writes : (args : List Text) → TaskWrites (package_given args) (names_layout args) (asked icebox_vlog args)
 unfolding asked
 task-writes args = by_case (is_taken vlog_command args)
   where
     rows : List Row
     rows = matches_of vlog_command args
 
-    by_case : (taken : Bool) → TaskWrites (names_layout args) (if taken then vlog_task_by rows else usage_error vlog_name vlog_usage)
+    by_case : (taken : Bool) → TaskWrites (package_given args) (names_layout args) (if taken then vlog_task_by rows else usage_error vlog_name vlog_usage)
     by_case true =
-        task-of (has_flag (codes "used-inputs") rows) (name_given (first_of (codes "name") rows)) (first_of (codes "layout") rows) (first_of (codes "db") rows)
-        (first_of (codes "image") rows) (given-name (first_of (codes "name") rows))
+        task-of (has_flag (codes "used-inputs") rows) (name_given (first_of (codes "name") rows)) (first_of (codes "pins") rows) (first_of (codes "package") rows)
+        (first_of (codes "layout") rows) (first_of (codes "db") rows) (first_of (codes "image") rows) (given-name (first_of (codes "name") rows))
     by_case false = λ texts bytes done. absurd cc
 
 -- ---- a run
 
-target-of : (used : Bool) (name layout db image : Option Text) → (vlog_task_of used name layout db image).target ≡ None
-target-of used (Some name) layout (Some db) image = refl
-target-of used (Some name) layout None image = refl
-target-of used None layout db image = refl
+target-of : (used : Bool) (name : Option Text) (pins : Option (Option Named)) (layout db image : Option Text) → (vlog_task_of used name pins layout db image).target ≡ None
+target-of used (Some name) (Some (Some pins)) layout (Some db) image = refl
+target-of used (Some name) (Some None) layout (Some db) image = refl
+target-of used (Some name) (Some pins) layout None image = refl
+target-of used (Some name) None layout db image = refl
+target-of used None pins layout db image = refl
 
 -- the module goes to standard output
 task-target : (args : List Text) → (asked icebox_vlog args).target ≡ None
@@ -155,12 +246,12 @@ task-target args = by_case (is_taken vlog_command args)
 
     by_case : (taken : Bool) → (if taken then vlog_task_by rows else usage_error vlog_name vlog_usage).target ≡ None
     by_case true =
-        target-of (has_flag (codes "used-inputs") rows) (name_given (first_of (codes "name") rows)) (first_of (codes "layout") rows) (first_of (codes "db") rows)
-        (first_of (codes "image") rows)
+        target-of (has_flag (codes "used-inputs") rows) (name_given (first_of (codes "name") rows)) (pins_in rows) (first_of (codes "layout") rows)
+        (first_of (codes "db") rows) (first_of (codes "image") rows)
     by_case false = refl
 
 pub promise-kept : {F I O E : Type 0} (by : Outside F I O E) (args : List Text) (status : ℕ) (old new : Scene F I O E) → Does by (vlog_outcome args) status old new
     → PromisesFabric args status (by.contents old.files) (by.left old.input) (by.held old.output) (by.held new.output)
 promise-kept by args status old new does done asks =
     let same : asked icebox_vlog args ≡ vlog_outcome args = helped-no vlog_name ICEBOX_VLOG_HELP.now args (asked icebox_vlog args) asks in
-    helped-kept (WritesFabric (names_layout args)) by (asked icebox_vlog args) (vlog_outcome args) status old new same (task-writes args) (task-target args) does done
+    helped-kept (WritesFabric (package_given args) (names_layout args)) by (asked icebox_vlog args) (vlog_outcome args) status old new same (task-writes args) (task-target args) does done

@@ -1,11 +1,12 @@
 -- What is written for a design, and what is told where there is none.
-use Rattle.std.proofs.Common.{◌≡◌, ℕ, List, refl, sym, ap, ◌∙◌}
+use Rattle.std.proofs.Common.{◌≡◌, ℕ, List, refl, subst, sym, ap, ap₂, ◌∙◌}
 use Rattle.std.specs.Prelude.{Option, None, Some}
 use Rattle.plane_map.specs.declared.device.DeviceName.{DeviceName}
 use Rattle.ice_image.specs.Configuration.{Configuration}
 use Rattle.chipdb_reader.specs.Database.{Database}
 use Rattle.vlog_module.specs.Parts.{Parts}
 use Rattle.vlog_forms.specs.Printed.{printed}
+use Rattle.net_extract.specs.declared.pin.Pin.{Pin}
 use Rattle.net_extract.specs.declared.lut_inputs.LutInputs.{LutInputs}
 use Rattle.net_extract.specs.Fabric.{Fabric, fabric_with}
 use Rattle.net_extract.specs.Wiring.{wiring_of}
@@ -15,13 +16,20 @@ use Rattle.fabric.specs.Kept.{Kept}
 use Rattle.fabric.specs.Design.{IsDesignOf}
 use Rattle.fabric.specs.Faults.{IsCause}
 use Rattle.fabric_module.specs.Written.{module_of}
+use Rattle.pin_file.specs.declared.pin_name.PinName.{PinName}
+use Rattle.pin_file.specs.declared.fault.PinFault.{PinFault}
+use Rattle.pin_file.specs.declared.fault.PinFault.TheVariants.{At, Memory as OutOfMemory}
+use Rattle.pin_file.specs.Faults.{Tells, pin_fault_of, ports_of}
+use Rattle.pin_file.specs.Packages.{Package}
+use Rattle.named_ports.specs.Named.{named_module, switched_places}
 use Rattle.tool_run.specs.declared.tool.Stop.{Stop}
 use Rattle.tool_run.specs.declared.tool.Stop.TheVariants.{Refused, UsageError, Memory}
 use Rattle.tool_run.specs.Stops.{StopsWith}
-use Rattle.tool_run.specs.Tasks.{Done, Refused as Refuses}
-use Rattle.design_parts.specs.Faults.{StopsFor, told_fault}
+use Rattle.tool_run.specs.Tasks.{Answer, Done, Refused as Refuses}
+use Rattle.design_parts.specs.Faults.{StopsFor, design_fault_text, told_fault}
 use Rattle.design_parts.proofs.Causes.{cause-told}
-use Rattle.design_tools.specs.Vlog.{written, written_module, written_with}
+use Rattle.design_tools.specs.Pins.{StopsForPins}
+use Rattle.design_tools.specs.Vlog.{module_with_names, named_where, named_with, written, written_module, written_named, written_with}
 use Rattle.design_parts.proofs.Order.{order-is}
 
 -- the text of the module of a design
@@ -33,17 +41,60 @@ written_done name db image design m text is made shown =
     ap (written_with design.parts.lut_inputs name db image) is.taken
     ∙ sym (ap Done (shown ∙ ap printed (made ∙ ap (λ order. module_of fabric order name) (order-is (wiring_of fabric) design.order is.kept.order))))
 
--- a tool that tells the fault stops as it has to
-stops-told : (inputs : LutInputs) (name : List ℕ) (db : Database) (image : Configuration) (cause told : Option Fault) (stop : Stop) → ((one : Fault) → told ≡ Some one → cause ≡ Some one) → StopsFor told stop
-    → StopsWith (written_with inputs name db image cause) stop
-stops-told inputs name db image cause (Some fault) (Refused refusal) same stops = ap (written_with inputs name db image) (same fault refl) ∙ ap Refuses stops
-stops-told inputs name db image cause None Memory same stops = tt
-stops-told inputs name db image cause (Some fault) (UsageError refusal) same stops = absurd stops
-stops-told inputs name db image cause (Some fault) Memory same stops = tt
-stops-told inputs name db image cause None (Refused refusal) same stops = absurd stops
-stops-told inputs name db image cause None (UsageError refusal) same stops = absurd stops
+-- the text of the module whose ports have the names of a pin file
+pub named_done : (named : List PinName) (name : List ℕ) (db : Database) (image : Configuration) (design : Kept) (own : List ℕ) (m : Parts) (text : List ℕ) → IsDesignOf db image design
+    → own ≡ name → m ≡ named_module named (fabric_with design.parts.lut_inputs db image) design.order own → text ≡ printed m
+    → text ≡ printed (module_with_names named design.parts.lut_inputs name db image)
+unfolding module_with_names
+named_done named name db image design own m text is same made shown =
+    let fabric = fabric_with design.parts.lut_inputs db image in
+    shown ∙ ap printed (made ∙ ap₂ (named_module named fabric) (order-is (wiring_of fabric) design.order is.kept.order) same)
+
+-- ---- a pin file
+
+module _ (name : List ℕ) (chosen : Package) (pins : List ℕ) (db : Database) (image : Configuration) (design : Kept) (is : IsDesignOf db image design) where
+  abbrev inputs : LutInputs
+  inputs = design.parts.lut_inputs
+
+  fault-is : (fault : Option PinFault) → pin_fault_of chosen (switched_places design.parts.pins.items) pins ≡ fault
+      → written_named inputs name chosen pins db image ≡ named_with inputs name (ports_of chosen pins) db image fault
+  fault-is fault told =
+      ap (named_where inputs name chosen pins db image) is.taken
+      ∙ ap (named_with inputs name (ports_of chosen pins) db image)
+      (ap (λ (list : List Pin). pin_fault_of chosen (switched_places list) pins) (sym is.kept.parts.pins) ∙ told)
+
+  -- the text of the module whose ports have its names
+  pub accepted_done : (named : List PinName) (bytes : List ℕ) → pin_fault_of chosen (switched_places design.parts.pins.items) pins ≡ None → named ≡ ports_of chosen pins
+      → bytes ≡ printed (module_with_names named inputs name db image) → written_named inputs name chosen pins db image ≡ Done bytes
+  accepted_done named bytes none are shown =
+      fault-is None none ∙ ap Done (sym (shown ∙ ap (λ (ports : List PinName). printed (module_with_names ports inputs name db image)) are))
+
+  -- a tool that tells its fault stops as it has to
+  pub pins_stop : (fault : PinFault) (stop : Stop) → Tells (pin_fault_of chosen (switched_places design.parts.pins.items) pins) fault → StopsForPins fault stop
+      → StopsWith (written_named inputs name chosen pins db image) stop
+  pins_stop (At line cause) stop tells stops = subst (λ (answer : Answer). StopsWith answer stop) (sym (fault-is (Some (At line cause)) tells)) stops
+  pins_stop (OutOfMemory failed) stop tells stops = rw stops tt
+
+-- ---- a design that isn't taken
+
+module _ (answer : Option Fault → Answer) (refuses : (fault : Fault) → answer (Some fault) ≡ Refuses (design_fault_text fault)) where
+  -- a tool that tells the fault stops as it has to
+  stops-told : (cause told : Option Fault) (stop : Stop) → ((one : Fault) → told ≡ Some one → cause ≡ Some one) → StopsFor told stop → StopsWith (answer cause) stop
+  stops-told cause (Some fault) (Refused refusal) same stops = ap answer (same fault refl) ∙ refuses fault ∙ ap Refuses stops
+  stops-told cause None Memory same stops = tt
+  stops-told cause (Some fault) (UsageError refusal) same stops = absurd stops
+  stops-told cause (Some fault) Memory same stops = tt
+  stops-told cause None (Refused refusal) same stops = absurd stops
+  stops-told cause None (UsageError refusal) same stops = absurd stops
+
+  stops-caused : (device : DeviceName) (fabric : Fabric) (cause : Option Fault) (fault : FabricFault) (stop : Stop)
+      → IsCause device fabric cause fault → StopsFor (told_fault fault) stop → StopsWith (answer cause) stop
+  stops-caused device fabric cause fault stop is stops = stops-told cause (told_fault fault) stop (λ one told. cause-told device fabric cause fault one is told) stops
 
 pub stops_design : (inputs : LutInputs) (name : List ℕ) (db : Database) (image : Configuration) (device : DeviceName) (fabric : Fabric) (cause : Option Fault) (fault : FabricFault) (stop : Stop)
     → IsCause device fabric cause fault → StopsFor (told_fault fault) stop → StopsWith (written_with inputs name db image cause) stop
-stops_design inputs name db image device fabric cause fault stop is stops =
-    stops-told inputs name db image cause (told_fault fault) stop (λ one told. cause-told device fabric cause fault one is told) stops
+stops_design inputs name db image = stops-caused (written_with inputs name db image) (λ fault. refl)
+
+pub stops_named : (inputs : LutInputs) (name : List ℕ) (chosen : Package) (pins : List ℕ) (db : Database) (image : Configuration) (device : DeviceName) (fabric : Fabric) (cause : Option Fault)
+    (fault : FabricFault) (stop : Stop) → IsCause device fabric cause fault → StopsFor (told_fault fault) stop → StopsWith (named_where inputs name chosen pins db image cause) stop
+stops_named inputs name chosen pins db image = stops-caused (named_where inputs name chosen pins db image) (λ fault. refl)

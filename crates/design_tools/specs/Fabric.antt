@@ -1,5 +1,5 @@
 -- What a written module promises: it is the fabric of the database and the image for which it was written.
-use Rattle.std.specs.Prelude.{◌≡◌, ℕ, Bool, false, List, [], map, codes, get_or, is_some, Option, Ok}
+use Rattle.std.specs.Prelude.{◌≡◌, ℕ, Bool, false, List, [], map, codes, get_or, is_some, Option, Some, None, Ok}
 use Rattle.std.specs.List.{AllZip}
 use Rattle.clap.specs.Words.{first_of, matches_of}
 use Rattle.ice_io.specs.Files.{FileMap}
@@ -14,46 +14,81 @@ use Rattle.vlog_cycle.specs.Text.{run_text}
 use Rattle.net_extract.specs.Fabric.{fabric_of}
 use Rattle.net_extract.specs.Steps.{Event, Entry, IsRun}
 use Rattle.net_extract.specs.Unique.{ExactlyOne}
-use Rattle.fabric_module.specs.Matching.{Matches, module_event}
+use Rattle.fabric_module.specs.Matching.{module_event}
+use Rattle.pin_file.specs.declared.pin_name.PinName.{PinName}
+use Rattle.net_extract.specs.declared.pin.Pin.{Pin}
+use Rattle.pin_file.specs.Faults.{pin_fault_of, ports_of}
+use Rattle.pin_file.specs.Packages.{Package, package_of}
+use Rattle.named_ports.specs.Named.{named_ports, switched_places}
+use Rattle.named_ports.specs.Matching.{MatchesNamed}
 use Rattle.tool_run.specs.Tasks.{asks_for_help}
 use Rattle.tool_parts.specs.Appended.{AppendsFor}
 use Rattle.tool_parts.specs.Databases.{database_read}
 use Rattle.tool_parts.specs.Images.{image_read}
 use Rattle.design_parts.specs.Lines.{fabric_events, fabric_text}
+use Rattle.design_tools.specs.Pins.{database_text, pin_text, texts_without_pins}
 use Rattle.design_tools.specs.Vlog.{vlog_command, vlog_outcome}
 
--- A text spells the fabric of a database and an image.
-pub record SpellsFabric (db : Database) (image : Configuration) (text : List ℕ) : Type 0 where
+-- A text spells the fabric of a database and an image, whose ports have the names of a pin file where these are given.
+pub record SpellsFabric (named : List PinName) (db : Database) (image : Configuration) (text : List ℕ) : Type 0 where
   -- it spells exactly one module
   pub one_module : ExactlyOne (IsSpelling text)
+  -- its ports are those of the pins
+  pub ports : one_module.it.ports ≡ named_ports named (fabric_of db image).pins
   -- the fabric has exactly one run for each list of events
   pub one_run : (events : List Event) → ExactlyOne (IsRun (fabric_of db image) events)
   -- the module runs as it does: at the start and after each event the two hold the same values
   pub alike : (events : List Event) (entries : List Entry) → IsRun (fabric_of db image) events entries
-      → AllZip (Matches (fabric_of db image)) entries (module_run one_module.it (map module_event events))
-  -- and the lines of its run over the events of a text are those of the fabric's run
-  pub lines : (registers : Bool) (events : List ℕ) (entries : List Entry) → IsRun (fabric_of db image) (fabric_events db image events) entries
+      → AllZip (MatchesNamed named (fabric_of db image)) entries (module_run one_module.it (map module_event events))
+  -- the lines of its run over the events of a text are those of the fabric's run
+  pub lines : (registers : Bool) (events : List ℕ) (entries : List Entry)
+      → IsRun (fabric_of db image) (fabric_events (named_ports named (fabric_of db image).pins) events) entries
       → run_text one_module.it (events_of one_module.it.ports events) registers ≡ fabric_text registers entries
 
 -- ---- what was appended
 
--- Bytes spell the fabric of a database and an image. The texts are those that were loaded: the layout file where one is `named`, then
--- the database, then the image, which is read under the layouts.
-pub record WritesFabric (named : Bool) (texts : List (List ℕ)) (bytes : List ℕ) : Type 0 where
+-- the texts without the pin file, where there is one for a package
+abbrev pub texts_of_design : Option (List ℕ) → Bool → List (List ℕ) → List (List ℕ)
+texts_of_design None behind texts = texts
+texts_of_design (Some package_name) behind texts = texts_without_pins behind texts
+
+-- the package of that name in the database
+abbrev pub package_read : List ℕ → Bool → List (List ℕ) → Package
+package_read package_name behind texts = package_of package_name (database_text behind texts)
+
+-- the names that the pin file gives for the package, where there is one
+abbrev pub names_given : Option (List ℕ) → Bool → List (List ℕ) → List PinName
+names_given None behind texts = []
+names_given (Some package_name) behind texts = ports_of (package_read package_name behind texts) (pin_text behind texts)
+
+-- the pin file has no fault, where there is one, for pins of which some can be switched off
+abbrev pub HasNoPinFault : Option (List ℕ) → Bool → List (List ℕ) → List Pin → Type 0
+HasNoPinFault None behind texts pins = Unit {0}
+HasNoPinFault (Some package_name) behind texts pins =
+    pin_fault_of (package_read package_name behind texts) (switched_places pins) (pin_text behind texts) ≡ None
+
+-- Bytes spell the fabric of a database and an image. The texts are those that were loaded: the layout file where one is `named`, the pin
+-- file where a package is given, then the database, then the image, which is read under the layouts.
+pub record WritesFabric (package_name : Option (List ℕ)) (named : Bool) (texts : List (List ℕ)) (bytes : List ℕ) : Type 0 where
   pub layouts : Layouts
   pub db : Database
   pub image : Configuration
-  pub layouts_are : layouts_for named texts ≡ Ok layouts
-  pub db_is : database_read (get_or texts (behind_layout named 0) []) ≡ Ok db
-  pub image_is : image_read layouts (get_or texts (behind_layout named 1) []) ≡ Ok image
-  pub spells : SpellsFabric db image bytes
+  pub layouts_are : layouts_for named (texts_of_design package_name named texts) ≡ Ok layouts
+  pub db_is : database_read (get_or (texts_of_design package_name named texts) (behind_layout named 0) []) ≡ Ok db
+  pub image_is : image_read layouts (get_or (texts_of_design package_name named texts) (behind_layout named 1) []) ≡ Ok image
+  pub faultless : HasNoPinFault package_name named texts (fabric_of db image).pins
+  pub spells : SpellsFabric (names_given package_name named texts) db image bytes
 
 -- whether the arguments of `icebox_vlog` name a layout file
 abbrev pub names_layout : List (List ℕ) → Bool
 names_layout args = is_some (first_of (codes "layout") (matches_of vlog_command args))
 
+-- the package that the arguments name
+abbrev pub package_given : List (List ℕ) → Option (List ℕ)
+package_given args = first_of (codes "package") (matches_of vlog_command args)
+
 -- Where a run of `icebox_vlog` with these arguments has status 0, and isn't asked for help, the bytes that it appended spell the fabric of
 -- the database and the image that it loaded.
 abbrev pub PromisesFabric : List (List ℕ) → ℕ → Option FileMap → Option (List ℕ) → Option (List ℕ) → Option (List ℕ) → Type 0
 PromisesFabric args status contents left held new_held =
-    status ≡ 0 → asks_for_help args ≡ false → AppendsFor (WritesFabric (names_layout args)) (vlog_outcome args) contents left held new_held
+    status ≡ 0 → asks_for_help args ≡ false → AppendsFor (WritesFabric (package_given args) (names_layout args)) (vlog_outcome args) contents left held new_held

@@ -1,4 +1,6 @@
 pub mod Names
+pub mod Pins
+pub mod Taken
 pub mod Vlog
 pub mod Laws
 pub mod Fabric

@@ -1,5 +1,6 @@
 -- `icebox_vlog`: the module of a database and an image.
 use Rattle.std.specs.Prelude.{ℕ, Bool, true, false, List, [], ◌∷◌, codes, is_some, Option, None, Some}
+use Rattle.std.specs.Option.{option_map}
 use Rattle.clap.specs.Words.{App, Row, Text, first_of}
 use Rattle.ice_image.specs.Configuration.{Configuration}
 use Rattle.chipdb_reader.specs.Database.{Database}
@@ -21,8 +22,15 @@ use Rattle.tool_parts.specs.Images.{image_limit}
 use Rattle.tool_parts.specs.Databases.{database_limit}
 use Rattle.design_tools.specs.declared.name.ModuleName.{ModuleName}
 use Rattle.design_tools.specs.declared.request.Request.{Request}
+use Rattle.design_tools.specs.declared.request.PinRequest.{PinRequest}
 use Rattle.design_tools.specs.declared.request.TheConstants.{ICEBOX_VLOG_HELP}
 use Rattle.design_tools.specs.Names.{name_given}
+use Rattle.design_tools.specs.Pins.{database_text, pin_fault_text, pin_text, texts_without_pins}
+use Rattle.pin_file.specs.declared.fault.PinFault.{PinFault}
+use Rattle.pin_file.specs.declared.pin_name.PinName.{PinName}
+use Rattle.pin_file.specs.Faults.{pin_fault_of, ports_of}
+use Rattle.pin_file.specs.Packages.{Package, package_of}
+use Rattle.named_ports.specs.Named.{named_module, switched_places}
 use Rattle.design_parts.specs.Order.{write_order}
 use Rattle.design_parts.specs.Faults.{design_fault_text}
 
@@ -33,6 +41,11 @@ use Rattle.design_parts.specs.Faults.{design_fault_text}
 unfoldable pub written_module : LutInputs → List ℕ → Database → Configuration → Parts
 written_module inputs name db image = module_of (fabric_with inputs db image) (write_order (wiring_of (fabric_with inputs db image))) name
 
+-- the same with the names of a pin file for the ports
+unfoldable pub module_with_names : List PinName → LutInputs → List ℕ → Database → Configuration → Parts
+module_with_names named inputs name db image =
+    named_module named (fabric_with inputs db image) (write_order (wiring_of (fabric_with inputs db image))) name
+
 -- its text, where there is no fault
 abbrev pub written_with : LutInputs → List ℕ → Database → Configuration → Option Fault → Answer
 written_with inputs name db image None = Done (printed (written_module inputs name db image))
@@ -40,6 +53,26 @@ written_with inputs name db image (Some fault) = Refused (design_fault_text faul
 
 abbrev pub written : LutInputs → List ℕ → Database → Configuration → Answer
 written inputs name db image = written_with inputs name db image (design_fault inputs db image)
+
+-- the text of the module whose ports have the names of a pin file, where the file has no fault
+abbrev pub named_with : LutInputs → List ℕ → List PinName → Database → Configuration → Option PinFault → Answer
+named_with inputs name named db image None = Done (printed (module_with_names named inputs name db image))
+named_with inputs name named db image (Some fault) = Refused (pin_fault_text fault)
+
+-- the same where the database and the image have no fault either; theirs is told first. The pins are those of the package that was
+-- chosen
+abbrev pub named_where : LutInputs → List ℕ → Package → List ℕ → Database → Configuration → Option Fault → Answer
+named_where inputs name chosen file db image None =
+    named_with inputs name (ports_of chosen file) db image (pin_fault_of chosen (switched_places (fabric_with inputs db image).pins) file)
+named_where inputs name chosen file db image (Some fault) = Refused (design_fault_text fault)
+
+abbrev pub written_named : LutInputs → List ℕ → Package → List ℕ → Database → Configuration → Answer
+written_named inputs name chosen file db image = named_where inputs name chosen file db image (design_fault inputs db image)
+
+-- the same for texts, and for a package of the database
+abbrev pub named_answer : LutInputs → Bool → List ℕ → List ℕ → List (List ℕ) → Answer
+named_answer inputs named name package_name texts =
+    input_answer named (written_named inputs name (package_of package_name (database_text named texts)) (pin_text named texts)) (texts_without_pins named texts)
 
 -- `named` tells whether a layout file was taken before the others
 abbrev pub vlog_answer : LutInputs → Bool → List ℕ → List (List ℕ) → Answer
@@ -54,7 +87,7 @@ abbrev pub vlog_usage : List ℕ
 vlog_usage = codes "icebox_vlog [-n NAME] [--layout FILE] DB [IMAGE]"
 
 abbrev pub vlog_command : App
-vlog_command = command vlog_name (short_option (codes "name") 110 ∷ long_flag (codes "used-inputs") ∷ long_option (codes "layout") ∷ positional (codes "db") ∷ positional (codes "image") ∷ [])
+vlog_command = command vlog_name (short_option (codes "name") 110 ∷ short_option (codes "pins") 112 ∷ short_option (codes "package") 100 ∷ long_flag (codes "used-inputs") ∷ long_option (codes "layout") ∷ positional (codes "db") ∷ positional (codes "image") ∷ [])
 
 -- with `--used-inputs` LUTs read only the inputs that they use
 abbrev pub inputs_wanted : Bool → LutInputs
@@ -72,21 +105,56 @@ write_task inputs name layout db image = record {
   answer = vlog_answer inputs (is_some layout) name;
 }
 
+-- the most bytes of a pin file
+abbrev pub pins_limit : ℕ
+pins_limit = 1048576
+
+-- a pin file, and the package that it is for
+pub record Named : Type 0 where
+  pub file : Text
+  pub package_name : Text
+
+-- the pin file, and what is needed without it
+abbrev pub named_task : LutInputs → Text → Named → Option Text → Text → Option Text → Task
+named_task inputs name pins layout db image = record {
+  tool_name = vlog_name;
+  needs = with_layout layout
+      (record { name = Some pins.file; limit = pins_limit } ∷ record { name = Some db; limit = database_limit } ∷ record { name = image; limit = image_limit } ∷ []);
+  target = None;
+  answer = named_answer inputs (is_some layout) name pins.package_name;
+}
+
+-- with a pin file, or without
+abbrev pub task_with : LutInputs → Text → Option Named → Option Text → Text → Option Text → Task
+task_with inputs name (Some pins) layout db image = named_task inputs name pins layout db image
+task_with inputs name None layout db image = write_task inputs name layout db image
+
+-- a pin file and a package are given together, or neither is
+abbrev pub named_by : Option Text → Option Text → Option (Option Named)
+named_by (Some file) (Some package_name) = Some (Some (record { file = file; package_name = package_name }))
+named_by None None = Some None
+named_by _ _ = None
+
 -- the bytes of a name, where there is one
 abbrev pub name_text : Option ModuleName → Option Text
 name_text None = None
 name_text (Some name) = Some name.text.now
 
--- there has to be a name, and a database
-abbrev pub vlog_task_of : Bool → Option Text → Option Text → Option Text → Option Text → Task
-vlog_task_of used (Some name) layout (Some db) image = write_task (inputs_wanted used) name layout db image
-vlog_task_of used (Some name) layout None image = usage_error vlog_name vlog_usage
-vlog_task_of used None layout db image = usage_error vlog_name vlog_usage
+-- there has to be a name, and a database, and no pin file without a package
+abbrev pub vlog_task_of : Bool → Option Text → Option (Option Named) → Option Text → Option Text → Option Text → Task
+vlog_task_of used (Some name) (Some pins) layout (Some db) image = task_with (inputs_wanted used) name pins layout db image
+vlog_task_of used (Some name) (Some pins) layout None image = usage_error vlog_name vlog_usage
+vlog_task_of used (Some name) None layout db image = usage_error vlog_name vlog_usage
+vlog_task_of used None pins layout db image = usage_error vlog_name vlog_usage
+
+-- the pin file and the package that the arguments name
+abbrev pub pins_in : List Row → Option (Option Named)
+pins_in rows = named_by (first_of (codes "pins") rows) (first_of (codes "package") rows)
 
 abbrev pub vlog_task_by : List Row → Task
 vlog_task_by rows =
-    vlog_task_of (has_flag (codes "used-inputs") rows) (name_given (first_of (codes "name") rows)) (first_of (codes "layout") rows) (first_of (codes "db") rows)
-    (first_of (codes "image") rows)
+    vlog_task_of (has_flag (codes "used-inputs") rows) (name_given (first_of (codes "name") rows)) (pins_in rows) (first_of (codes "layout") rows)
+    (first_of (codes "db") rows) (first_of (codes "image") rows)
 
 -- the tool
 abbrev pub icebox_vlog : Manual
@@ -96,7 +164,16 @@ icebox_vlog = record { name = vlog_name; usage = vlog_usage; help = ICEBOX_VLOG_
 abbrev pub vlog_outcome : List Text → Task
 vlog_outcome args = outcome icebox_vlog args
 
+-- a pin file and its package
+abbrev pub pins_named : PinRequest → Named
+pins_named pins = record { file = pins.file.now; package_name = pins.package_name.now }
+
+-- the same where the arguments name them
+abbrev pub pins_of_request : Option PinRequest → Option Named
+pins_of_request pins = option_map pins_named pins
+
 -- the task of the request that was found in the arguments
 abbrev pub vlog_task_for : Option Request → Task
 vlog_task_for None = usage_error vlog_name vlog_usage
-vlog_task_for (Some request) = write_task request.inputs request.name.text.now (text_of request.layout) request.db.now (text_of request.image)
+vlog_task_for (Some request) =
+    task_with request.inputs request.name.text.now (pins_of_request request.pins) (text_of request.layout) request.db.now (text_of request.image)

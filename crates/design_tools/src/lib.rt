@@ -1,10 +1,12 @@
-//! The tools that take the design of a chip database and an image: `icebox_vlog`.
+//! The tool that writes the design of a chip database and an image as a module: `icebox_vlog`.
 //!
-//! Each tool has its command line, its usage line and what it makes of what it loads. The function that runs it has one clause: a
-//! run does the task that the command line asks for.
+//! The tool has its command line, its usage line and what it makes of what it loads. The function that runs it has two clauses: a run
+//! does the task that the command line asks for, and what it writes spells the fabric of the database and the image.
 #![tactic(auto)]
 
 mod name;
+mod named_intake;
+mod naming;
 mod request;
 mod writing;
 

@@ -1,8 +1,9 @@
 // What the command line of `icebox_vlog` asks for.
 ghost use Rattle.std.specs.Prelude.{◌≡◌, IfOk};
+ghost use Rattle.std.specs.Option.{option_map};
 ghost use Rattle.clap.specs.Words.{app_of, found_of, rows_of};
 ghost use Rattle.tool_run.specs.Needs.{text_of};
-ghost use Rattle.design_tools.specs.Vlog.{inputs_wanted, name_text, vlog_command, vlog_task_by, vlog_task_for, vlog_task_of};
+ghost use Rattle.design_tools.specs.Vlog.{inputs_wanted, name_text, named_by, pins_of_request, vlog_command, vlog_task_by, vlog_task_for, vlog_task_of};
 
 use crate::name::{ModuleName, name_given};
 use clap::{ArgMatches, Command};
@@ -17,11 +18,15 @@ pub const ICEBOX_VLOG_USAGE: &str = "icebox_vlog [-n NAME] [--layout FILE] DB [I
 pub const ICEBOX_VLOG_HELP: &str = "\
 icebox_vlog: writes the design of an image as a module in a subset of Verilog.
 
-Usage: icebox_vlog [-n NAME] [--used-inputs] [--layout FILE] DB [IMAGE]
+Usage: icebox_vlog [-n NAME] [-p PCF -d PACKAGE] [--used-inputs]
+                   [--layout FILE] DB [IMAGE]
 
   DB        the chip database of the image's device
   IMAGE     a bitstream (.bin) or a text (.asc); standard input if it is missing
   -n NAME   the name of the module, at most 64 bytes; chip if it is missing
+  -p PCF    the pin file: ports get its names
+  -d PACKAGE
+            the package whose pins it names, as tq144 or ct256
   --used-inputs
             LUTs read only the inputs that they use, so more designs are taken
   --layout FILE
@@ -47,9 +52,19 @@ bit of that input alone: another input can't change its value. With
 doesn't use, and 1'b0 is written in its place. The module has the same values
 as without.
 
+In a pin file a line `set_io NAME PIN` gives the port at PIN a name: NAME, with _
+for each byte that is no letter, digit or _, and without _ at the end. Its second
+port, if it has one, is NAME_en. Lists of events then use these names. Options
+of set_io, lines with set_frequency, and # and all behind it are passed over. A
+pin file with a fault is refused, and told by its first faulty line: Statement,
+another statement; Package or Pin, the database has no such package, or the
+package no such pin; Repeated, the pin has a name; Name, the port can't have
+that name, since it is no name, is taken, or has the form of those above.
+
 Example: icebox_vlog -n blink chipdb-1k.txt blink.asc >blink.v
 
-Limits: a database has at most 268435456 bytes, an image 16777216, FILE 65536.
+Limits: a database has at most 268435456 bytes, an image 16777216, FILE 65536,
+PCF 1048576.
 
 A layout, a database or an image with a fault is refused, and told by the first
 fault. A design is refused for these causes, looked for in this order:
@@ -71,15 +86,23 @@ fault. A design is refused for these causes, looked for in this order:
   Clock         a flip-flop or a RAM whose clock is made by logic, and comes
                 from no pin: clock it by the pin, and use an enable
 
-Exit status: 0 done; 1 FILE, the database, the image or the design is refused;
-2 the command line isn't taken; 3 reading failed; 4 writing failed; 5 out of
-memory; 6 an input is longer than its limit.
+Exit status: 0 done; 1 a file or the design is refused; 2 the command line isn't
+taken; 3 reading failed; 4 writing failed; 5 out of memory; 6 an input is longer
+than its limit.
 ";
 
-/// What the arguments ask for: the name of the module, which inputs LUTs read, a layout file, a database and an image.
+/// A pin file, and the package whose pins it names.
+#[derive(Clone, Copy)]
+pub(crate) struct PinRequest<'a> {
+    pub(crate) file: &'a str,
+    pub(crate) package_name: &'a str,
+}
+
+/// What the arguments ask for: the name of the module, a pin file, which inputs LUTs read, a layout file, a database and an image.
 #[derive(Clone, Copy)]
 pub(crate) struct Request<'a> {
     pub(crate) name: ModuleName<'a>,
+    pub(crate) pins: Option<PinRequest<'a>>,
     pub(crate) inputs: LutInputs,
     pub(crate) layout: Option<&'a str>,
     pub(crate) db: &'a str,
@@ -92,6 +115,8 @@ pub(crate) fn command<'a>(alloc: Global) -> Result<Command<'a>, AllocError>
 {
     let command = Command::new(alloc, "icebox_vlog");
     let command = with(command, short_option(alloc, "name", 'n'))?;
+    let command = with(command, short_option(alloc, "pins", 'p'))?;
+    let command = with(command, short_option(alloc, "package", 'd'))?;
     let command = with(command, long_flag(alloc, "used-inputs"))?;
     let command = with(command, long_option(alloc, "layout"))?;
     let command = with(command, positional(alloc, "db"))?;
@@ -108,20 +133,36 @@ fn inputs_wanted(used: bool) -> LutInputs
     }
 }
 
+// The pin file and its package, where both are given or neither is.
+fn pins_wanted<'a>(
+    file: Option<&'a str>,
+    package_name: Option<&'a str>,
+) -> Option<Option<PinRequest<'a>>>
+    ensures { option_map pins_of_request result ≡ named_by (text_of file.entry) (text_of package_name.entry) }
+{
+    match (file, package_name) {
+        (Some(file), Some(package_name)) => Some(Some(PinRequest { file, package_name })),
+        (None, None) => Some(None),
+        (Some(_), None) | (None, Some(_)) => None,
+    }
+}
+
 // What the arguments ask for by what was found in them: the name has to be one, and there has to be a database.
 fn wanted<'a>(
     used: bool,
     name: Option<ModuleName<'a>>,
+    pins: Option<Option<PinRequest<'a>>>,
     layout: Option<&'a str>,
     db: Option<&'a str>,
     image: Option<&'a str>,
 ) -> Option<Request<'a>>
-    ensures { vlog_task_for result ≡ vlog_task_of used (name_text name.entry) (text_of layout.entry) (text_of db.entry) (text_of image.entry) }
+    ensures { vlog_task_for result ≡ vlog_task_of used (name_text name.entry) (option_map pins_of_request pins.entry) (text_of layout.entry) (text_of db.entry) (text_of image.entry) }
 {
     let inputs = inputs_wanted(used);
-    match (name, db) {
-        (Some(name), Some(db)) => Some(Request {
+    match (name, pins, db) {
+        (Some(name), Some(pins), Some(db)) => Some(Request {
             name,
+            pins,
             inputs,
             layout,
             db,
@@ -138,8 +179,11 @@ pub(crate) fn request_in<'a>(matches: &ArgMatches<'a>) -> Option<Request<'a>>
     let used = has_flag(matches, "used-inputs");
     let given = value(matches, "name");
     let name = name_given(given);
+    let file = value(matches, "pins");
+    let package_name = value(matches, "package");
+    let pins = pins_wanted(file, package_name);
     let layout = value(matches, "layout");
     let db = value(matches, "db");
     let image = value(matches, "image");
-    wanted(used, name, layout, db, image)
+    wanted(used, name, pins, layout, db, image)
 }

@@ -12,9 +12,11 @@ ghost use Rattle.tool_run.specs.Tasks.{Done};
 ghost use Rattle.tool_parts.specs.DesignInput.{TakesInput};
 ghost use Rattle.tool_parts.specs.Taking.{IsTaking};
 ghost use Rattle.design_tools.specs.Fabric.{PromisesFabric};
-ghost use Rattle.design_tools.specs.Vlog.{vlog_answer, vlog_outcome, vlog_task_for, written};
+ghost use Rattle.design_tools.specs.Vlog.{vlog_answer, vlog_outcome, vlog_task_for, write_task, written};
+ghost use Rattle.tool_run.specs.Needs.{text_of};
 
 use crate::name::ModuleName;
+use crate::naming::write_named;
 use crate::request::{ICEBOX_VLOG_HELP, ICEBOX_VLOG_USAGE, Request, command, request_in};
 use chipdb_reader::ChipDb;
 use clap::{ArgMatches, Command};
@@ -120,8 +122,8 @@ fn module_text(alloc: Global, design: &Design, name: &[u8]) -> Result<Vec<u8>, A
     print(alloc, &module)
 }
 
-// Writes by the files of a request.
-fn write_files<F: Files, I: Source, O: Sink, E: Sink>(
+// Writes by the files of a request, without a pin file.
+fn write_plain<F: Files, I: Source, O: Sink, E: Sink>(
     alloc: Global,
     request: Request<'_>,
     files: &mut F,
@@ -130,7 +132,7 @@ fn write_files<F: Files, I: Source, O: Sink, E: Sink>(
     errors: &mut E,
 ) -> u8
     ensures { Does (outside F.contents F.steady F.load_faults F.store_faults I.left I.faults O.held O.faults E.held E.faults)
-        (vlog_task_for (Some request.entry)) result
+        (write_task request.entry.inputs request.entry.name.text.now (text_of request.entry.layout) request.entry.db.now (text_of request.entry.image)) result
         (scene files.old input.old output.old errors.old) (scene files.new input.new output.new errors.new) }
 {
     let loads = [
@@ -158,6 +160,25 @@ fn write_files<F: Files, I: Source, O: Sink, E: Sink>(
         target: None,
     };
     perform_in_pieces(alloc, &tool, &job, files, input, output, errors)
+}
+
+// Writes by the files of a request.
+fn write_files<F: Files, I: Source, O: Sink, E: Sink>(
+    alloc: Global,
+    request: Request<'_>,
+    files: &mut F,
+    input: &mut I,
+    output: &mut O,
+    errors: &mut E,
+) -> u8
+    ensures { Does (outside F.contents F.steady F.load_faults F.store_faults I.left I.faults O.held O.faults E.held E.faults)
+        (vlog_task_for (Some request.entry)) result
+        (scene files.old input.old output.old errors.old) (scene files.new input.new output.new errors.new) }
+{
+    match request.pins {
+        None => write_plain(alloc, request, files, input, output, errors),
+        Some(pins) => write_named(alloc, request, pins, files, input, output, errors),
+    }
 }
 
 // Does what the arguments ask for.

@@ -1,6 +1,6 @@
 -- What a run of `vlogrun` appends where its text spells the module of a design.
 use Rattle.std.proofs.Common.{◌≡◌, ◌∙◌, ℕ, Bool, true, false, List, [], codes, refl, sym, ap, subst}
-use Rattle.std.specs.Prelude.{Option, Some, None, get_or, if◌then◌else◌}
+use Rattle.std.specs.Prelude.{Option, Some, None, flat_map, get_or, if◌then◌else◌}
 use Rattle.clap.specs.Words.{Text, first_of, matches_of}
 use Rattle.ice_image.specs.Configuration.{Configuration}
 use Rattle.chipdb_reader.specs.Database.{Database}
@@ -13,8 +13,12 @@ use Rattle.vlog_cycle.specs.Events.{event_fault, events_of}
 use Rattle.vlog_cycle.specs.Text.{run_text}
 use Rattle.net_extract.specs.Fabric.{fabric_with, fabric_of}
 use Rattle.net_extract.specs.Steps.{Entry, IsRun}
-use Rattle.fabric_module.specs.Written.{module_of}
+use Rattle.fabric_module.specs.Names.{output_name, port_name}
+use Rattle.fabric_module.specs.Written.{module_of, pin_ports}
 use Rattle.fabric_module.proofs.Design.{design-is-module}
+use Rattle.pin_file.specs.declared.pin_name.PinName.{PinName}
+use Rattle.named_ports.specs.Named.{named_module, named_output, named_port}
+use Rattle.named_ports.proofs.IsFabric.{named-is-fabric}
 use Rattle.tool_run.specs.Runs.{Does, Outside, Scene}
 use Rattle.tool_run.specs.Tasks.{Done, Task, usage_error}
 use Rattle.tool_parts.specs.Commands.{is_taken}
@@ -27,7 +31,7 @@ use Rattle.module_tools.specs.declared.told.Told.TheVariants.{Lines}
 use Rattle.module_tools.specs.Vlogrun.{run_of, run_over, told_by, vlogrun, vlogrun_answer, vlogrun_command, vlogrun_name, vlogrun_outcome, vlogrun_task_by, vlogrun_task_of, vlogrun_usage}
 use Rattle.design_parts.specs.Lines.{fabric_events, fabric_text}
 use Rattle.design_parts.proofs.Lines.{run-shown}
-use Rattle.icestorm_cli.specs.Runs.{IsModuleOf, PromisesRun, RunsFabric, shows_registers, tells_waves}
+use Rattle.icestorm_cli.specs.Runs.{IsModuleOf, PromisesRun, RunsFabric, ports_with, shows_registers, tells_waves}
 
 -- ---- the lines
 
@@ -47,16 +51,33 @@ spelled-done registers m text events lines spells done =
     over-done registers m events lines (event_fault m.ports events) (sym (ap (λ outcome. run_of (Lines registers) outcome events) (outcome-spelled text m spells)) ∙ done)
 
 -- the lines of the module of a design
-module-shown : (db : Database) (image : Configuration) (m : Parts) → IsModuleOf db image m → (registers : Bool) (events : List ℕ) (entries : List Entry)
-    → IsRun (fabric_of db image) (fabric_events db image events) entries → run_text m (events_of m.ports events) registers ≡ fabric_text registers entries
+own-shown : (db : Database) (image : Configuration) (m : Parts) → IsModuleOf None db image m → (registers : Bool) (events : List ℕ) (entries : List Entry)
+    → IsRun (fabric_of db image) (fabric_events (ports_with None (fabric_of db image).pins) events) entries → run_text m (events_of m.ports events) registers ≡ fabric_text registers entries
 unfolding module_of fabric_with
-module-shown db image m is registers events entries run =
+own-shown db image m is registers events entries run =
     let fabric = fabric_of db image in
     let inputs = is.design.parts.lut_inputs in
     let design = is.is_design in
-    let shown = run-shown fabric (module_of (fabric_with inputs db image) is.design.order is.name) registers events entries
-    (design-is-module inputs db image design.fit design.few design.taken is.design.order design.kept.order is.name (fabric_events db image events) entries run) in
+    let shown = run-shown port_name output_name fabric (module_of (fabric_with inputs db image) is.design.order is.name) registers events entries
+    (design-is-module inputs db image design.fit design.few design.taken is.design.order design.kept.order is.name (fabric_events (flat_map pin_ports fabric.pins) events) entries run) in
     subst (λ (one : Parts). run_text one (events_of one.ports events) registers ≡ fabric_text registers entries) (sym is.is) shown
+
+-- those of the module with the names of a pin file
+named-shown : (named : List PinName) (db : Database) (image : Configuration) (m : Parts) → IsModuleOf (Some named) db image m → (registers : Bool) (events : List ℕ) (entries : List Entry)
+    → IsRun (fabric_of db image) (fabric_events (ports_with (Some named) (fabric_of db image).pins) events) entries → run_text m (events_of m.ports events) registers ≡ fabric_text registers entries
+named-shown named db image m is registers events entries run =
+    let inputs = is.design.parts.lut_inputs in
+    let design = is.is_design in
+    let made = named_module named (fabric_with inputs db image) is.design.order is.name in
+    let runs = (named-is-fabric named inputs db image design.fit design.few design.taken is.are_taken is.design.order is.name design.kept.order is.is_name).1 in
+    let shown = run-shown (named_port named) (named_output named) (fabric_of db image) made registers events entries
+    (runs.alike (fabric_events made.ports events) entries (subst (λ ports. IsRun (fabric_of db image) (fabric_events ports events) entries) (sym runs.ports) run)) in
+    subst (λ (one : Parts). run_text one (events_of one.ports events) registers ≡ fabric_text registers entries) (sym is.is) shown
+
+module-shown : (names : Option (List PinName)) (db : Database) (image : Configuration) (m : Parts) → IsModuleOf names db image m → (registers : Bool) (events : List ℕ) (entries : List Entry)
+    → IsRun (fabric_of db image) (fabric_events (ports_with names (fabric_of db image).pins) events) entries → run_text m (events_of m.ports events) registers ≡ fabric_text registers entries
+module-shown None = own-shown
+module-shown (Some named) = named-shown named
 
 -- ---- the task
 
@@ -65,10 +86,10 @@ abbrev TaskRuns : Bool → Task → Type 0
 TaskRuns registers task = (texts : List (List ℕ)) (bytes : List ℕ) → task.answer texts ≡ Done bytes → RunsFabric registers texts bytes
 
 task-of : (registers waves : Bool) (text events : Option Text) → waves ≡ false → TaskRuns registers (vlogrun_task_of (told_by registers waves) text events)
-task-of registers false (Some text) events lines = λ texts bytes done db image m is spells entries run.
-    spelled-done registers m (get_or texts 0 []) (get_or texts 1 []) bytes spells done ∙ module-shown db image m is registers (get_or texts 1 []) entries run
-task-of registers false None events lines = λ texts bytes done. absurd cc
-task-of registers true text events lines = absurd cc
+task-of registers false (Some text) events untold = λ texts bytes done names db image m is spells entries run.
+    spelled-done registers m (get_or texts 0 []) (get_or texts 1 []) bytes spells done ∙ module-shown names db image m is registers (get_or texts 1 []) entries run
+task-of registers false None events untold = λ texts bytes done. absurd cc
+task-of registers true text events untold = absurd cc
 
 target-of : (told : Option Told) (text events : Option Text) → (vlogrun_task_of told text events).target ≡ None
 target-of (Some told) (Some text) events = refl
@@ -78,11 +99,11 @@ target-of None text events = refl
 module _ (args : List Text) where
   task-runs : tells_waves args ≡ false → TaskRuns (shows_registers args) (asked vlogrun args)
   unfolding asked
-  task-runs lines = by_case (is_taken vlogrun_command args)
+  task-runs untold = by_case (is_taken vlogrun_command args)
     where
       by_case : (taken : Bool) → TaskRuns (shows_registers args) (if taken then vlogrun_task_by (matches_of vlogrun_command args) else usage_error vlogrun_name vlogrun_usage)
       by_case true =
-          task-of (shows_registers args) (tells_waves args) (first_of (codes "module") (matches_of vlogrun_command args)) (first_of (codes "events") (matches_of vlogrun_command args)) lines
+          task-of (shows_registers args) (tells_waves args) (first_of (codes "module") (matches_of vlogrun_command args)) (first_of (codes "events") (matches_of vlogrun_command args)) untold
       by_case false = λ texts bytes done. absurd cc
 
   -- the lines go to standard output
@@ -97,6 +118,6 @@ module _ (args : List Text) where
 
   pub run-kept : {F I O E : Type 0} (by : Outside F I O E) (status : ℕ) (old new : Scene F I O E) → Does by (vlogrun_outcome args) status old new
       → PromisesRun args status (by.contents old.files) (by.left old.input) (by.held old.output) (by.held new.output)
-  run-kept by status old new does done asks lines =
+  run-kept by status old new does done asks untold =
       let same : asked vlogrun args ≡ vlogrun_outcome args = helped-no vlogrun_name VLOGRUN_HELP.now args (asked vlogrun args) asks in
-      helped-kept (RunsFabric (shows_registers args)) by (asked vlogrun args) (vlogrun_outcome args) status old new same (task-runs lines) task-target does done
+      helped-kept (RunsFabric (shows_registers args)) by (asked vlogrun args) (vlogrun_outcome args) status old new same (task-runs untold) task-target does done

@@ -1,37 +1,58 @@
 -- What a run of `vlogrun` promises of a module that is that of a design: it is the run of the design's fabric.
-use Rattle.std.specs.Prelude.{◌≡◌, ℕ, Bool, false, List, [], codes, get_or, Option}
+use Rattle.std.specs.Prelude.{◌≡◌, ℕ, Bool, false, List, [], codes, flat_map, get_or, Option, None, Some}
 use Rattle.clap.specs.Words.{matches_of}
 use Rattle.ice_io.specs.Files.{FileMap}
 use Rattle.ice_image.specs.Configuration.{Configuration}
 use Rattle.chipdb_reader.specs.Database.{Database}
+use Rattle.vlog_module.specs.declared.modules.Port.{Port}
 use Rattle.vlog_module.specs.Parts.{Parts}
 use Rattle.vlog_module.specs.Names.{IsName}
 use Rattle.vlog_forms.specs.Items.{IsSpelling}
-use Rattle.net_extract.specs.Fabric.{fabric_with, fabric_of}
+use Rattle.net_extract.specs.declared.pin.Pin.{Pin}
+use Rattle.net_extract.specs.Fabric.{Fabric, fabric_with, fabric_of}
 use Rattle.net_extract.specs.Steps.{Entry, IsRun}
 use Rattle.fabric.specs.Kept.{Kept}
 use Rattle.fabric.specs.Design.{IsDesignOf}
-use Rattle.fabric_module.specs.Written.{module_of}
+use Rattle.fabric_module.specs.Written.{module_of, pin_ports}
+use Rattle.pin_file.specs.declared.pin_name.PinName.{PinName}
+use Rattle.named_ports.specs.Named.{AreAccepted, named_module, named_ports}
 use Rattle.tool_run.specs.Tasks.{asks_for_help}
 use Rattle.tool_parts.specs.Appended.{AppendsFor}
 use Rattle.tool_parts.specs.Commands.{has_flag}
 use Rattle.module_tools.specs.Vlogrun.{vlogrun_command, vlogrun_outcome}
 use Rattle.design_parts.specs.Lines.{fabric_events, fabric_text}
 
--- A module is that of a design of a database and an image, under a name.
-pub record IsModuleOf (db : Database) (image : Configuration) (m : Parts) : Type 0 where
+-- the ports of a design's module, where they have the names of a pin file or their own
+abbrev pub ports_with : Option (List PinName) → List Pin → List Port
+ports_with None pins = flat_map pin_ports pins
+ports_with (Some named) pins = named_ports named pins
+
+-- the module of a fabric with these ports
+abbrev pub module_with : Option (List PinName) → Fabric → List ℕ → List ℕ → Parts
+module_with None fabric order name = module_of fabric order name
+module_with (Some named) fabric order name = named_module named fabric order name
+
+-- names are those of a pin file without a fault, for these pins
+abbrev pub AreTaken : Option (List PinName) → List Pin → Type 0
+AreTaken None pins = Unit {0}
+AreTaken (Some named) pins = AreAccepted pins named
+
+-- A module is that of a design of a database and an image, under a name, where its ports have the names of a pin file or their own.
+pub record IsModuleOf (names : Option (List PinName)) (db : Database) (image : Configuration) (m : Parts) : Type 0 where
   pub design : Kept
   pub name : List ℕ
   pub is_design : IsDesignOf db image design
   pub is_name : IsName name
-  pub is : m ≡ module_of (fabric_with design.parts.lut_inputs db image) design.order name
+  pub are_taken : AreTaken names (fabric_of db image).pins
+  pub is : m ≡ module_with names (fabric_with design.parts.lut_inputs db image) design.order name
 
 -- where the first of two texts spells the module of a design, bytes are the lines of the run of the design's fabric over the events of
 -- the second
 abbrev pub RunsFabric : Bool → List (List ℕ) → List ℕ → Type 0
 RunsFabric registers texts bytes =
-    (db : Database) (image : Configuration) (m : Parts) → IsModuleOf db image m → IsSpelling (get_or texts 0 []) m
-    → (entries : List Entry) → IsRun (fabric_of db image) (fabric_events db image (get_or texts 1 [])) entries → bytes ≡ fabric_text registers entries
+    (names : Option (List PinName)) (db : Database) (image : Configuration) (m : Parts) → IsModuleOf names db image m → IsSpelling (get_or texts 0 []) m
+    → (entries : List Entry) → IsRun (fabric_of db image) (fabric_events (ports_with names (fabric_of db image).pins) (get_or texts 1 [])) entries
+    → bytes ≡ fabric_text registers entries
 
 -- whether the arguments of `vlogrun` ask for registers
 abbrev pub shows_registers : List (List ℕ) → Bool

@@ -11,6 +11,7 @@ mod joining;
 mod layouts;
 mod long;
 mod modules;
+mod naming;
 mod packing;
 mod refusing;
 mod replacing;

@@ -91,11 +91,13 @@ static HELPS: [Help; 11] = [
     },
     Help {
         help: ICEBOX_VLOG_HELP,
-        usage: "icebox_vlog [-n NAME] [--used-inputs] [--layout FILE] DB [IMAGE]",
+        usage: "icebox_vlog [-n NAME] [-p PCF -d PACKAGE] [--used-inputs]",
         heads: &[
             "  DB        the chip database",
             "  IMAGE     a bitstream (.bin) or a text (.asc);",
             "  -n NAME   the name of the module",
+            "  -p PCF    the pin file",
+            "  -d PACKAGE",
             "  --used-inputs",
             "  --layout FILE",
         ],

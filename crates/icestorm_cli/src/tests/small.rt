@@ -36,26 +36,25 @@ pub(super) const INPUT: Tile = (".io_tile 0 1\n", 18, &[(0, 0)]);
 /// An output pin that a buffer drives.
 pub(super) const OUTPUT: Tile = (".io_tile 0 2\n", 18, &[(0, 0), (3, 0), (4, 0), (6, 0)]);
 
+/// A cell that inverts its input.
+pub(super) const CELL: Tile = (
+    ".logic_tile 1 1\n",
+    54,
+    &[
+        (0, 37),
+        (0, 39),
+        (0, 40),
+        (0, 42),
+        (1, 36),
+        (1, 38),
+        (1, 41),
+        (1, 43),
+        (2, 0),
+    ],
+);
+
 /// A pin, an inverter and another pin.
-pub(super) static INVERTER: [Tile; 3] = [
-    INPUT,
-    OUTPUT,
-    (
-        ".logic_tile 1 1\n",
-        54,
-        &[
-            (0, 37),
-            (0, 39),
-            (0, 40),
-            (0, 42),
-            (1, 36),
-            (1, 38),
-            (1, 41),
-            (1, 43),
-            (2, 0),
-        ],
-    ),
-];
+pub(super) static INVERTER: [Tile; 3] = [INPUT, OUTPUT, CELL];
 
 /// Appends a tile.
 fn append_tile(text: &mut Vec<u8>, tile: &Tile) -> Result<(), AllocError> {

@@ -5,6 +5,11 @@ use super::small::{DATABASE, INVERTER, image};
 use super::{Ended, Named, PLAIN, Part, Setup, made, modules, outcome};
 use std::alloc::{AllocError, Global};
 
+/// The pins of a package, and a pin file for it.
+const PACKAGE: &str = ".pins small\nA1 0 1 0\n";
+
+const PINS: &[u8] = b"set_io button A1\n";
+
 /// What the file `out` holds before.
 const BEFORE: &[u8] = b"before";
 
@@ -24,6 +29,7 @@ struct Made {
     boot: Vec<u8>,
     rising: Vec<u8>,
     falling: Vec<u8>,
+    packaged: Vec<u8>,
 }
 
 /// So many times these bytes.
@@ -46,6 +52,13 @@ fn boot_of(alloc: Global, stream: &[u8]) -> Result<Vec<u8>, AllocError> {
     Ok(output)
 }
 
+/// The database with a package.
+fn packaged(alloc: Global) -> Result<Vec<u8>, AllocError> {
+    let mut packaged = DATABASE.as_bytes().to_vec(alloc)?;
+    packaged.extend_from_slice(PACKAGE.as_bytes())?;
+    Ok(packaged)
+}
+
 impl Made {
     fn new(alloc: Global) -> Result<Made, AllocError> {
         let image = image(alloc, &INVERTER)?;
@@ -57,11 +70,12 @@ impl Made {
             boot,
             rising: repeated(alloc, RISING, 16)?,
             falling: repeated(alloc, b"f e d c b a 9 8 7 6 5 4 3 2 1 0\n", 16)?,
+            packaged: packaged(alloc)?,
         })
     }
 
     /// The files by their names.
-    fn named(&self) -> [Named<'_>; 10] {
+    fn named(&self) -> [Named<'_>; 12] {
         [
             ("out", BEFORE),
             ("image", &self.image),
@@ -70,6 +84,8 @@ impl Made {
             ("rising", &self.rising),
             ("falling", &self.falling),
             ("A", DATABASE.as_bytes()),
+            ("packaged", &self.packaged),
+            ("pins", PINS),
             ("layout", LAYOUT),
             ("module", modules::INVERTER.as_bytes()),
             ("events", EVENTS),
@@ -103,7 +119,7 @@ type Job = (
     Part,
 );
 
-static JOBS: [Job; 21] = [
+static JOBS: [Job; 24] = [
     (
         &["icepack", "image", "out"],
         Way::InParts,
@@ -212,6 +228,30 @@ static JOBS: [Job; 21] = [
         Part::Middle,
     ),
     (
+        &["icebox_vlog", "-p", "pins", "-d", "small", "packaged"],
+        Way::InParts,
+        &["pins", "packaged"],
+        "image",
+        Part::Middle,
+    ),
+    (
+        &[
+            "icebox_vlog",
+            "-p",
+            "pins",
+            "-d",
+            "small",
+            "--layout",
+            "layout",
+            "packaged",
+            "image",
+        ],
+        Way::InParts,
+        &["layout", "pins", "packaged", "image"],
+        "",
+        Part::Small,
+    ),
+    (
         &["vlogrun", "module", "events"],
         Way::Whole,
         &["module", "events"],
@@ -220,6 +260,13 @@ static JOBS: [Job; 21] = [
     ),
     (
         &["vlogrun", "-s", "module"],
+        Way::Whole,
+        &["module"],
+        "events",
+        Part::Small,
+    ),
+    (
+        &["vlogrun", "--vcd", "module"],
         Way::Whole,
         &["module"],
         "events",
@@ -372,7 +419,7 @@ fn reads_fail_in_turn(
 
 /// Whether the answer of a job is made while it is written. Its writes end where its pieces do.
 fn is_made_while_written(job: &Job) -> bool {
-    job.0.contains(&"iceunpack") || job.0.contains(&"-u")
+    job.0.contains(&"iceunpack") || job.0.contains(&"-u") || job.0.contains(&"--vcd")
 }
 
 /// Whether that many writes may have taken so many bytes.

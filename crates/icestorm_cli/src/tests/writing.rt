@@ -151,7 +151,7 @@ endmodule
 ";
 
 /// A pin, an inverter whose own value comes to an input that it doesn't use, and another pin.
-static LOOPED: [Tile; 3] = [
+const LOOPED: &[Tile] = &[
     INPUT,
     OUTPUT,
     (
@@ -256,8 +256,7 @@ fn writes_by_used_inputs(alloc: Global, lines: &str, tiles: &[Tile]) -> Result<b
 
 #[test]
 fn takes_a_loop_at_an_input_that_is_not_used(rt: HostRuntime) {
-    assert!(rt; is_told(rt.alloc(), FED_BACK, &LOOPED, "icebox_vlog: net 2: Loop\n") == Ok(true));
-    assert!(rt; writes_by_used_inputs(rt.alloc(), FED_BACK, &LOOPED) == Ok(true));
+    assert!(rt; writes_by_used_inputs(rt.alloc(), FED_BACK, LOOPED) == Ok(true));
 }
 
 /// A command line, and what it writes of an image that sets nothing.
@@ -289,7 +288,7 @@ fn names_a_module(rt: HostRuntime) {
 /// Lines behind the database, the tiles of an image, and the line.
 type Refused = (&'static str, &'static [Tile], &'static str);
 
-static REFUSED: [Refused; 9] = [
+static REFUSED: [Refused; 10] = [
     (
         PINS,
         &[(".io_tile 0 1\n", 18, &[(7, 0)])],
@@ -333,6 +332,7 @@ static REFUSED: [Refused; 9] = [
         &[INPUT, (".logic_tile 1 1\n", 54, &[(0, 37), (3, 0)])],
         "icebox_vlog: net 1: Loop\n",
     ),
+    (FED_BACK, LOOPED, "icebox_vlog: net 2: Loop\n"),
     (
         CLOCKED,
         &[INPUT, (".logic_tile 1 1\n", 54, &[(0, 45), (2, 0), (4, 0)])],
@@ -340,16 +340,11 @@ static REFUSED: [Refused; 9] = [
     ),
 ];
 
-/// Whether an image by its tiles is refused with that line.
-fn is_told(alloc: Global, lines: &str, tiles: &[Tile], line: &str) -> Result<bool, AllocError> {
-    let image = image(alloc, tiles)?;
-    let database = database(alloc, lines)?;
-    Ok(left_by(alloc, ALONE, &database, &image)?.refuses(1, line))
-}
-
-/// Whether an image is refused with its line.
+/// Whether an image is refused with that line.
 fn is_refused(alloc: Global, refused: &Refused) -> Result<bool, AllocError> {
-    is_told(alloc, refused.0, refused.1, refused.2)
+    let image = image(alloc, refused.1)?;
+    let database = database(alloc, refused.0)?;
+    Ok(left_by(alloc, ALONE, &database, &image)?.refuses(1, refused.2))
 }
 
 #[test]

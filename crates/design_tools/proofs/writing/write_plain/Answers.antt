@@ -7,7 +7,7 @@ use Rattle.tool_parts.specs.Images.{image_limit}
 use Rattle.tool_parts.proofs.UnderLayouts.{file-sound, named-is, needs-are, needs-sound, one-sound}
 use Rattle.tool_parts.specs.Databases.{database_limit}
 use Rattle.design_tools.specs.Vlog.{vlog_answer, vlog_name}
-use Rattle.design_tools.proofs.writing.write_files.Goals as goal
+use Rattle.design_tools.proofs.writing.write_plain.Goals as goal
 
 pub perform_in_pieces-requires : goal.perform_in_pieces-requires
 perform_in_pieces-requires g c =

@@ -1,0 +1,35 @@
+use Rattle.std.proofs.Common.{◌≡◌, subst}
+use Rattle.std.proofs.lemmas.Result.{IfErr-weaker, IfOk-weaker}
+use Rattle.ice_image.specs.Either.{configuration_of}
+use Rattle.chipdb_reader.specs.Kept.{database_in}
+use Rattle.pin_file.specs.Packages.{package_of}
+use Rattle.tool_run.specs.Stops.{StopsWith}
+use Rattle.tool_run.specs.Tasks.{Done}
+use Rattle.design_tools.specs.Vlog.{written_named}
+use Rattle.design_tools.proofs.Written.{stops_named}
+use Rattle.design_tools.proofs.naming.named_text_of.Goals as goal
+
+pub returns-in-Ok-clause-bytes : goal.returns-in-Ok-clause-bytes
+returns-in-Ok-clause-bytes c =
+    let db = database_in c.args.db.now in
+    let image = configuration_of c.args.image.now in
+    IfOk-weaker c.named_design_text.result _ _
+    (λ bytes is package_name text pin_text has collects.
+    subst (λ inputs. written_named inputs c.args.name.now (package_of package_name text) pin_text db image ≡ Done bytes.items) c.in-Ok.ensures.inputs
+    (is package_name text pin_text db image has collects c.in-Ok.ensures.design))
+    c.named_design_text.ensures.bytes
+
+pub returns-in-Ok-clause-stops : goal.returns-in-Ok-clause-stops
+returns-in-Ok-clause-stops c =
+    let db = database_in c.args.db.now in
+    let image = configuration_of c.args.image.now in
+    IfErr-weaker c.named_design_text.result _ _
+    (λ stop stops package_name text pin_text has collects.
+    subst (λ inputs. StopsWith (written_named inputs c.args.name.now (package_of package_name text) pin_text db image) stop) c.in-Ok.ensures.inputs
+    (stops package_name text pin_text db image has collects c.in-Ok.ensures.design))
+    c.named_design_text.ensures.stops
+
+pub returns-in-Err-clause-stops : goal.returns-in-Err-clause-stops
+returns-in-Err-clause-stops c = λ package_name text pin_text has collects.
+    stops_named c.args.inputs c.args.name.now (package_of package_name text) pin_text (database_in c.args.db.now) (configuration_of c.args.image.now) _ _ _ _ _
+    c.in-Err.ensures.refused c.design_stop.ensures

@@ -1,0 +1,278 @@
+// `icebox_vlog` with a pin file: the module of an image, whose ports have the names of the file.
+ghost use Rattle.std.specs.Prelude.{◌≡◌, [], ℕ, Bool, List, IfOk, IfErr};
+ghost use Rattle.ice_image.specs.Configuration.{Configuration};
+ghost use Rattle.ice_image.specs.Either.{configuration_of};
+ghost use Rattle.chipdb_reader.specs.Database.{Database};
+ghost use Rattle.chipdb_reader.specs.Kept.{database_in};
+ghost use Rattle.vlog_module.specs.Names.{IsName};
+ghost use Rattle.fabric.specs.Design.{IsDesignOf};
+ghost use Rattle.vlog_forms.specs.Printed.{printed};
+ghost use Rattle.pin_file.specs.Feeding.{kept_in};
+ghost use Rattle.pin_file.specs.Packages.{package_of};
+ghost use Rattle.pin_file.specs.declared.fault.PinFault.TheVariants.{At};
+ghost use Rattle.named_ports.specs.Named.{AreAccepted, switched_places};
+ghost use Rattle.tool_run.specs.Collected.{Collects};
+ghost use Rattle.tool_run.specs.Lines.{refusal_text};
+ghost use Rattle.tool_run.specs.Needs.{text_of};
+ghost use Rattle.tool_run.specs.Runs.{Does, outside, scene};
+ghost use Rattle.tool_run.specs.Stops.{StopsWith};
+ghost use Rattle.tool_run.specs.Tasks.{Done};
+ghost use Rattle.design_tools.specs.Pins.{HasPins, StopsForPins, pin_cause_text, pin_fault_text};
+ghost use Rattle.design_tools.specs.Taken.{TakesNamed};
+ghost use Rattle.design_tools.specs.Vlog.{module_with_names, named_answer, named_task, pins_named, written_named};
+
+use crate::name::ModuleName;
+use crate::named_intake::NamedIntake;
+use crate::request::{PinRequest, Request};
+use chipdb_reader::ChipDb;
+use design_parts::design_stop;
+use fabric::{Design, design_with};
+use ice_image::AnyImage;
+use ice_io::{Files, Sink, Source};
+use named_ports::{name_ports, switched_places};
+use net_extract::LutInputs;
+use pin_file::{PackagePins, PinCause, PinFault, PinName, PinPlace, PinReader, pin_names};
+use std::alloc::{AllocError, Global};
+use tool_parts::{DB_LIMIT, DesignInput, IMAGE_LIMIT, LAYOUT_LIMIT, refusal, with_layout};
+use tool_run::{Collected, Job, Load, PieceTool, Refusal, Stop, decimal, perform_in_pieces, text};
+use vlog_emit::emit;
+use vlog_text::print;
+
+/// The most bytes of a pin file.
+const PINS_LIMIT: usize = 1_048_576;
+
+/// Writes the module of a database and an image, with a name, and with the names of a pin file for its ports. LUTs read these inputs.
+/// A layout file comes first where one is named, and then the pin file.
+#[derive(Clone, Copy, Debug, PartialEq, Eq)]
+struct Naming<'a> {
+    /// Whether a layout file comes first.
+    named: bool,
+    inputs: LutInputs,
+    name: ModuleName<'a>,
+    /// The package whose pins the pin file names.
+    package_name: &'a str,
+}
+
+impl<'a> PieceTool for Naming<'a> {
+    ghost use Rattle.design_tools.specs.Taken.{TakesNamed, fed_named};
+    ghost use Rattle.design_tools.specs.Vlog.{named_answer};
+
+    type Intake = NamedIntake;
+
+    type Made = Vec<u8>;
+
+    ghost answer_of = { λ tool texts. named_answer tool.inputs tool.named tool.name.text.now tool.package_name.now texts };
+
+    ghost takes = { λ tool texts intake bytes. TakesNamed tool.package_name.now tool.named texts bytes intake };
+
+    ghost fed = { fed_named };
+
+    fn begin(&self, alloc: Global) -> NamedIntake {
+        NamedIntake::begin(alloc, self.named, self.package_name)
+    }
+
+    fn feed(&self, intake: &mut NamedIntake, piece: &[u8]) {
+        intake.feed(piece);
+    }
+
+    fn close(&self, alloc: Global, intake: &mut NamedIntake) {
+        intake.close(alloc);
+    }
+
+    fn finish(&self, alloc: Global, intake: NamedIntake) -> Result<Vec<u8>, Stop<'_>> {
+        named_after(alloc, self.inputs, self.name.text.as_bytes(), intake)
+    }
+}
+
+// The module of the database and the image with the names of the pin file, after the last piece of all.
+fn named_after(
+    alloc: Global,
+    inputs: LutInputs,
+    name: &[u8],
+    intake: NamedIntake,
+) -> Result<Vec<u8>, Stop<'static>>
+    requires { IsName name.now }
+    ensures bytes { IfOk result (λ bytes. (package_name : List ℕ) (named : Bool) (texts : List (List ℕ)) → TakesNamed package_name named texts [] intake
+        → named_answer inputs named name.now package_name texts ≡ Done bytes.items) }
+    ensures stops { IfErr result (λ stop. (package_name : List ℕ) (named : Bool) (texts : List (List ℕ)) → TakesNamed package_name named texts [] intake
+        → StopsWith (named_answer inputs named name.now package_name texts) stop) }
+{
+    let NamedIntake {
+        file,
+        taking,
+        pins,
+        ..
+    } = intake;
+    match DesignInput::read(alloc, taking) {
+        Ok((db, image)) => named_text_of(alloc, &db, &image, inputs, name, &file, pins),
+        Err(stop) => Err(stop),
+    }
+}
+
+// The module of a database and an image with the names of a pin file.
+fn named_text_of(
+    alloc: Global,
+    db: &ChipDb,
+    image: &AnyImage,
+    inputs: LutInputs,
+    name: &[u8],
+    file: &Collected,
+    pins: Option<PinReader>,
+) -> Result<Vec<u8>, Stop<'static>>
+    requires { IsName name.now }
+    ensures bytes { IfOk result (λ bytes. (package_name text pin_text : List ℕ) → HasPins package_name text pins → Collects pin_text file.now
+        → written_named inputs name.now (package_of package_name text) pin_text (database_in db.now) (configuration_of image.now) ≡ Done bytes.items) }
+    ensures stops { IfErr result (λ stop. (package_name text pin_text : List ℕ) → HasPins package_name text pins → Collects pin_text file.now
+        → StopsWith (written_named inputs name.now (package_of package_name text) pin_text (database_in db.now) (configuration_of image.now)) stop) }
+{
+    match design_with(alloc, db, image, inputs) {
+        Ok(design) => named_design_text(alloc, &design, name, file, pins),
+        Err(fault) => Err(design_stop(&fault)),
+    }
+}
+
+// The module of a design with the names of a pin file.
+fn named_design_text(
+    alloc: Global,
+    design: &Design,
+    name: &[u8],
+    file: &Collected,
+    pins: Option<PinReader>,
+) -> Result<Vec<u8>, Stop<'static>>
+    requires { IsName name.now }
+    ensures bytes { IfOk result (λ bytes. (package_name text pin_text : List ℕ) (db : Database) (image : Configuration) → HasPins package_name text pins → Collects pin_text file.now
+        → IsDesignOf db image design.now → written_named design.now.parts.lut_inputs name.now (package_of package_name text) pin_text db image ≡ Done bytes.items) }
+    ensures stops { IfErr result (λ stop. (package_name text pin_text : List ℕ) (db : Database) (image : Configuration) → HasPins package_name text pins → Collects pin_text file.now
+        → IsDesignOf db image design.now → StopsWith (written_named design.now.parts.lut_inputs name.now (package_of package_name text) pin_text db image) stop) }
+{
+    let pins = package_pins(pins)?;
+    let text = file.text()?;
+    let places = switched_places(alloc, design)?;
+    text_by_pins(alloc, design, name, &pins, text, &places)
+}
+
+// The module of a design with the names of the text of a pin file, for the pins of a package. Some of the design's pins are at these places,
+// those that can be switched off.
+fn text_by_pins(
+    alloc: Global,
+    design: &Design,
+    name: &[u8],
+    pins: &PackagePins,
+    text: &[u8],
+    places: &[PinPlace],
+) -> Result<Vec<u8>, Stop<'static>>
+    requires name { IsName name.now }
+    requires places { places.now ≡ switched_places design.now.parts.pins.items }
+    ensures bytes { IfOk result (λ bytes. (db : Database) (image : Configuration) → IsDesignOf db image design.now
+        → written_named design.now.parts.lut_inputs name.now (kept_in pins.now) text.now db image ≡ Done bytes.items) }
+    ensures stops { IfErr result (λ stop. (db : Database) (image : Configuration) → IsDesignOf db image design.now
+        → StopsWith (written_named design.now.parts.lut_inputs name.now (kept_in pins.now) text.now db image) stop) }
+{
+    match pin_names(alloc, text, pins, places) {
+        Ok(named) => Ok(named_text(alloc, design, name, &named)?),
+        Err(fault) => Err(pin_stop(fault)),
+    }
+}
+
+// The pins that were read from a database.
+fn package_pins(pins: Option<PinReader>) -> Result<PackagePins, AllocError>
+    ensures { IfOk result (λ kept. (package_name text : List ℕ) → HasPins package_name text pins → kept_in kept ≡ package_of package_name text) }
+{
+    match pins {
+        Some(reader) => reader.finish(),
+        None => Err(AllocError),
+    }
+}
+
+// The text of the module of a design, whose ports have these names.
+fn named_text(
+    alloc: Global,
+    design: &Design,
+    name: &[u8],
+    named: &[PinName],
+) -> Result<Vec<u8>, AllocError>
+    requires name { IsName name.now }
+    requires accepted { AreAccepted design.now.parts.pins.items named.now }
+    ensures { IfOk result (λ text. (db : Database) (image : Configuration) → IsDesignOf db image design.now
+        → text.items ≡ printed (module_with_names named.now design.now.parts.lut_inputs name.now db image)) }
+{
+    let written = emit(alloc, design, name)?;
+    let module = name_ports(alloc, design, written, named)?;
+    print(alloc, &module)
+}
+
+// Why a line of a pin file is refused, behind a colon.
+fn pin_cause_text(cause: PinCause) -> &'static str
+    ensures { result.now ≡ pin_cause_text cause }
+{
+    match cause {
+        PinCause::Statement => ": Statement",
+        PinCause::Package => ": Package",
+        PinCause::Pin => ": Pin",
+        PinCause::Repeated => ": Repeated",
+        PinCause::Name => ": Name",
+    }
+}
+
+// The fault of a pin file.
+fn pin_refusal(line: u64, cause: PinCause) -> Refusal<'static>
+    ensures { refusal_text result ≡ pin_fault_text (At line cause) }
+{
+    refusal(decimal("pin file line ", line), text(pin_cause_text(cause)))
+}
+
+// What is told of a pin file that isn't taken.
+fn pin_stop(fault: PinFault) -> Stop<'static>
+    ensures { StopsForPins fault result }
+{
+    match fault {
+        PinFault::At { line, cause } => Stop::Refused(pin_refusal(line, cause)),
+        PinFault::Memory(_) => Stop::Memory,
+    }
+}
+
+/// Writes by the files of a request, with the names of a pin file.
+pub(crate) fn write_named<F: Files, I: Source, O: Sink, E: Sink>(
+    alloc: Global,
+    request: Request<'_>,
+    pins: PinRequest<'_>,
+    files: &mut F,
+    input: &mut I,
+    output: &mut O,
+    errors: &mut E,
+) -> u8
+    ensures { Does (outside F.contents F.steady F.load_faults F.store_faults I.left I.faults O.held O.faults E.held E.faults)
+        (named_task request.entry.inputs request.entry.name.text.now (pins_named pins.entry) (text_of request.entry.layout) request.entry.db.now (text_of request.entry.image)) result
+        (scene files.old input.old output.old errors.old) (scene files.new input.new output.new errors.new) }
+{
+    let loads = [
+        Load {
+            name: request.layout,
+            limit: LAYOUT_LIMIT,
+        },
+        Load {
+            name: Some(pins.file),
+            limit: PINS_LIMIT,
+        },
+        Load {
+            name: Some(request.db),
+            limit: DB_LIMIT,
+        },
+        Load {
+            name: request.image,
+            limit: IMAGE_LIMIT,
+        },
+    ];
+    let tool = Naming {
+        named: request.layout.is_some(),
+        inputs: request.inputs,
+        name: request.name,
+        package_name: pins.package_name,
+    };
+    let job = Job {
+        tool_name: "icebox_vlog",
+        loads: with_layout(request.layout, &loads),
+        target: None,
+    };
+    perform_in_pieces(alloc, &tool, &job, files, input, output, errors)
+}

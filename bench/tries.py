@@ -207,7 +207,7 @@ def places(files):
     that is taken there. TARGET is a file that is written."""
     text, stream, layout, database, module = (files[name] for name in ("lamp.asc", "lamp.bin", "silicon.layout", "chipdb-1k.txt", "lamp.v"))
     known, others, player, events = (files[name] for name in ("random.hex", "steps.hex", "player.asc", "lamp.events"))
-    boot, least_text, least_stream = (files[name] for name in ("4.boot", "dimmer.asc", "dimmer.bin"))
+    boot, least_text, least_stream, pins = (files[name] for name in ("4.boot", "dimmer.asc", "dimmer.bin", "lamp.pcf"))
     return [
         (["icepack", "FILE", "TARGET"], None, text),
         (["icepack", "-s"], "FILE", text),
@@ -236,9 +236,12 @@ def places(files):
         (["icebox_vlog", "FILE", text], None, database),
         (["icebox_vlog", "-n", "name", database, "FILE"], None, text),
         (["icebox_vlog", "--layout", "FILE", database, text], None, layout),
+        (["icebox_vlog", "-p", "FILE", "-d", "tq144", database, text], None, pins),
+        (["icebox_vlog", "-p", pins, "-d", "tq144", "FILE", text], None, database),
         (["vlogrun", "FILE", events], None, module),
         (["vlogrun", "-s", module, "FILE"], None, events),
         (["vlogrun", "-s", "FILE"], events, module),
+        (["vlogrun", "--vcd", "FILE"], events, module),
         (["vlogsweep", "FILE", events, events], None, module),
         (["vlogsweep", module, "FILE"], None, events),
         (["vlogsweep", module, events, "FILE", "FILE"], None, events),

@@ -1,6 +1,6 @@
 # Makes a manual page of the help of a tool, which stands on standard input. Every text is the help's own: its first line is the name, the
-# lines behind `Usage:` the synopsis, `Example:`, `Limits:` and `Exit status:` begin sections, and the rest is the description. Of indented
-# lists each entry is a paragraph; those of options and of names, which stand behind the usage, have sections of their own.
+# lines behind `Usage:` the synopsis, `Example:`, `Examples:`, `Limits:` and `Exit status:` begin sections, and the rest is the description.
+# Of indented lists each entry is a paragraph; those of options and of names, which stand behind the usage, have sections of their own.
 #
 # Usage: awk -v version=VERSION -v others=TOOLS -f man.awk     TOOLS are the tools that it refers to
 
@@ -65,12 +65,17 @@ function end_list(column, index_, line, is_head, section) {
   entries = 0
 }
 
+# example TEXT: adds a command line
+function example(text) {
+  add("EXAMPLES", ".nf\n.B " escaped(text) "\n.fi")
+}
+
 # end_paragraph: adds the gathered paragraph to the section that its first words name
 function end_paragraph(items, count, index_, rest) {
   if (paragraph == "")
     return
   if (sub(/^Example: /, "", paragraph))
-    add("EXAMPLES", ".nf\n.B " escaped(paragraph) "\n.fi")
+    example(paragraph)
   else if (sub(/^Limits: /, "", paragraph))
     add("LIMITS", escaped(toupper(substr(paragraph, 1, 1)) substr(paragraph, 2)))
   else if (sub(/^Exit status: /, "", paragraph)) {
@@ -124,6 +129,19 @@ is_usage && /^ / {
 }
 
 { is_usage = 0 }
+
+/^Examples: / { # each line is one
+  is_example = 1
+  example(substr($0, 11))
+  next
+}
+
+is_example && /^ / {
+  example(trimmed($0))
+  next
+}
+
+{ is_example = 0 }
 
 /^$/ {
   end_list()

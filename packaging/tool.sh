@@ -49,6 +49,13 @@ variable the folder is share/icestorm/chipdb where the tools are installed, or
 else /usr/share/fpga-icestorm/chipdb.
 END
   fi
+  if [ "$tool" = icebox_vlog ]; then
+    cat <<END
+
+Where it takes the database by itself, -p without -d is for the package that the
+stock tools take: tq144 of a 1k, ct256 of an 8k.
+END
+  fi
 }
 
 # find_names ARGUMENT...: counts the names, and keeps the last one and its place; tells which options have a pin file and a package

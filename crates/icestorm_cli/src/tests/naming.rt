@@ -73,7 +73,26 @@ static NAMED: [Named; 4] = [
 ];
 
 /// What is left with a database in the file `A`, a pin file in the file `B`, and an image on standard input.
-fn left_by(
+fn left_by<'a>(
+    alloc: Global,
+    words: &[&str],
+    database: &'a [u8],
+    pins: &'a [u8],
+    image: &'a [u8],
+) -> Result<Ended, AllocError> {
+    let setup = Setup {
+        first_name: "A",
+        first: database,
+        second_name: "B",
+        second: pins,
+        input: image,
+        ..PLAIN
+    };
+    outcome(alloc, setup, words)
+}
+
+/// The same for the lines behind the small database, and an image by its tiles.
+fn named_by(
     alloc: Global,
     words: &[&str],
     lines: &str,
@@ -83,15 +102,7 @@ fn left_by(
     let image = image(alloc, tiles)?;
     let mut database = DATABASE.as_bytes().to_vec(alloc)?;
     database.extend_from_slice(lines.as_bytes())?;
-    let setup = Setup {
-        first_name: "A",
-        first: &database,
-        second_name: "B",
-        second: pins.as_bytes(),
-        input: &image,
-        ..PLAIN
-    };
-    outcome(alloc, setup, words)
+    left_by(alloc, words, &database, pins.as_bytes(), &image)
 }
 
 /// The words with a pin file.
@@ -99,7 +110,7 @@ const WITH_PINS: &[&str] = &["icebox_vlog", "-p", "B", "-d", "small", "A"];
 
 /// Whether a pin file gives that module of an inverter.
 fn is_named(alloc: Global, named: &Named) -> Result<bool, AllocError> {
-    let ended = left_by(alloc, WITH_PINS, PACKAGES, named.0, &INVERTER)?;
+    let ended = named_by(alloc, WITH_PINS, PACKAGES, named.0, &INVERTER)?;
     Ok(ended.says(0, "") && ended.output.as_slice() == named.1.as_bytes())
 }
 
@@ -127,7 +138,7 @@ endmodule
 
 /// Whether a pin that can be switched off has both its names.
 fn names_both_ports(alloc: Global) -> Result<bool, AllocError> {
-    let ended = left_by(alloc, WITH_PINS, SWITCHED, "set_io bus A2\n", &SWITCHED_OFF)?;
+    let ended = named_by(alloc, WITH_PINS, SWITCHED, "set_io bus A2\n", &SWITCHED_OFF)?;
     Ok(ended.says(0, "") && ended.output.as_slice() == SWITCHED_NAMED.as_bytes())
 }
 
@@ -160,7 +171,7 @@ static REFUSED: [Refused; 16] = [
 
 /// Whether a pin file is refused with its fault.
 fn is_refused(alloc: Global, refused: &Refused) -> Result<bool, AllocError> {
-    let ended = left_by(alloc, WITH_PINS, PACKAGES, refused.0, &INVERTER)?;
+    let ended = named_by(alloc, WITH_PINS, PACKAGES, refused.0, &INVERTER)?;
     let line = match ended.errors.strip_prefix(b"icebox_vlog: pin file line ") {
         Some(line) => line.strip_suffix(b"\n") == Some(refused.1.as_bytes()),
         None => false,
@@ -191,7 +202,7 @@ static TOLD: [Refused; 4] = [
 fn tells(alloc: Global, told: &Refused) -> Result<bool, AllocError> {
     let words = &["icebox_vlog", "-d", told.0, "A", "-p", "B"];
     let pins = "set_io bus A2\nset_io bus_en B1\n";
-    Ok(left_by(alloc, words, SWITCHED, pins, &SWITCHED_OFF)?.refuses(1, told.1))
+    Ok(named_by(alloc, words, SWITCHED, pins, &SWITCHED_OFF)?.refuses(1, told.1))
 }
 
 #[test]
@@ -210,7 +221,7 @@ static HALVES: [&[&str]; 2] = [
 /// Whether words aren't taken.
 fn is_usage_error(alloc: Global, words: &[&str]) -> Result<bool, AllocError> {
     let line = "icebox_vlog: usage: icebox_vlog [-n NAME] [--layout FILE] DB [IMAGE]\n";
-    Ok(left_by(alloc, words, PACKAGES, "", &INVERTER)?.refuses(2, line))
+    Ok(named_by(alloc, words, PACKAGES, "", &INVERTER)?.refuses(2, line))
 }
 
 #[test]

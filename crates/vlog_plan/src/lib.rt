@@ -23,7 +23,4 @@ pub use plan::{
     Wire, Write, Written,
 };
 pub use slots::Slots;
-pub use steps::{
-    bit_at, bit_of, copy_bits, copy_words, is_edge_of, next_bit, operand_value, prepare_writes,
-    run_flips, run_reads, run_writes, set_bit, word_at, word_in, write_outputs,
-};
+pub use steps::{bit_at, bit_of, copy_bits, copy_words, is_edge_of, set_bit, word_at, word_in};

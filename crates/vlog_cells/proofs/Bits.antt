@@ -1,15 +1,51 @@
 -- Bits of words with a bit for each of sixty-four lanes.
-use Rattle.std.proofs.Common.{◌≡◌, ℕ, zero, suc, ◌+◌, ◌*◌, ◌%◌, ◌<◌, Bool, true, false, cond, eqb, [], ◌∷◌, bit_and, bit_xor, min, ap, arith, inl, inr, refl, sym, ◌^◌, ◌∙◌}
-use Rattle.std.specs.Int.{bit_at}
-use Rattle.std.proofs.lemmas.Nat.Bits.{bit_at-lt, bit_at-pow_other, bit_at-pow_same, bit_at-zero, bit_at_and, bit_at_ones, bit_at_xor}
-use Rattle.std.proofs.lemmas.Bool.{cases_eq, eq-eqb, ne_eqb}
+use Rattle.std.proofs.Common.{◌≡◌, ℕ, zero, suc, ◌+◌, ◌-◌, ◌/◌, ◌%◌, ◌<◌, ◌≤◌, Bool, true, false, cond, eqb, [], ◌∷◌, bit_and, bit_xor, min, ap, ap₂, arith, inl, inr, pow_mono, refl, sym, w64, ◌^◌, ◌∙◌}
+use Rattle.std.specs.Int.{bit_at, trailing_zeros}
+use Rattle.std.proofs.Math.Nat.{div-eq_of_lt}
+use Rattle.std.proofs.lemmas.Nat.{shr-shr}
+use Rattle.std.proofs.lemmas.Nat.Bits.{bit_at-lt, bit_at-pow_other, bit_at-pow_same, bit_at-trailing_zeros, bit_at-zero, bit_at_and, bit_at_ones, bit_at_xor}
+use Rattle.std.proofs.lemmas.Bool.{cases_eq, cases_lt, eq-eqb, ne_eqb}
 use Rattle.vlog_plan.specs.Values.{bit_of, number_of}
+
+-- no bit is both
+pub no-both : {bit : Bool} → bit ≡ true → bit ≡ false → ⊥
+no-both on off = cc
 
 pub bit-zero : (lane : ℕ) → bit_of 0 lane ≡ false
 bit-zero lane = ap (λ n. eqb n 1) (bit_at-zero lane)
 
 pub bit-ones : (lane : ℕ) → lane < 64 → bit_of 18446744073709551615 lane ≡ true
 bit-ones lane within = ap (λ n. eqb n 1) (bit_at_ones 64 lane within)
+
+-- a word has no bit above 63
+pub bit-high : (word k : ℕ) → word < 2 ^ 64 → 64 ≤ k → bit_of word k ≡ false
+bit-high word k small high =
+    let lt : word < 2 ^ k = omega (arith, small, pow_mono {i = 64} {j = k} high) in
+    ap (λ n. eqb (n % 2) 1) (div-eq_of_lt lt)
+
+-- a word that is moved down
+pub bit-moved : (word from k : ℕ) → from ≤ k → bit_of (word / 2 ^ from) (k - from) ≡ bit_of word k
+bit-moved word from k low =
+    let sum : from + (k - from) ≡ k = omega arith in
+    ap (λ n. eqb (n % 2) 1) (shr-shr word from (k - from)) ∙ ap (bit_of word) sum
+
+-- the lowest 1 of a word that is moved down
+pub first-moved : (word from left : ℕ) → word < 2 ^ 64 → left ≡ word / 2 ^ from → 0 < left → left < 2 ^ 64
+    → (from + trailing_zeros w64 left < 64) × ((k : ℕ) → from ≤ k → k < from + trailing_zeros w64 left → bit_of word k ≡ false)
+first-moved word from left small is some fits =
+    let lowest = bit_at-trailing_zeros w64 left some fits in
+    let end : ℕ = from + trailing_zeros w64 left in
+    let offset : end - from ≡ trailing_zeros w64 left = omega arith in
+    let on : bit_of word end ≡ true =
+    sym (bit-moved word from end (omega arith)) ∙ ap₂ (λ w i. bit_of w i) (sym is) offset ∙ ap (λ n. eqb n 1) lowest.1 in (
+      elim (cases_lt end 64) [
+        | inl less ↦ less
+        | inr past ↦ absurd (no-both on (bit-high word end small past))
+      ],
+      λ k low below.
+          sym (bit-moved word from k low) ∙ ap (λ w. bit_of w (k - from)) (sym is)
+          ∙ ap (λ n. eqb n 1) (lowest.2 (k - from) (omega (arith, low, below, offset))),
+    )
 
 -- a word with a 1 in one lane alone
 pub bit-only : (word lane other : ℕ) → word ≡ 2 ^ lane → bit_of word other ≡ eqb other lane

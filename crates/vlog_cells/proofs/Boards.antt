@@ -1,6 +1,6 @@
 -- What the cells of a lane have, and what a lane shows after a call.
-use Rattle.std.proofs.Common.{◌≡◌, ℕ, ◌+◌, ◌*◌, ◌<◌, ◌≤◌, Bool, true, false, List, [], ◌++◌, Some, ap, ap₂, arith, cond, get_or, inl, inr, length, refl, subst, sym, take, ◌∙◌}
-use Rattle.std.specs.Prelude.{map, not}
+use Rattle.std.proofs.Common.{◌≡◌, ℕ, ◌+◌, ◌<◌, ◌≤◌, Bool, true, false, List, ◌++◌, Some, ap, ap₂, arith, cond, get_or, inl, inr, length, refl, subst, sym, take, ◌∙◌}
+use Rattle.std.specs.Prelude.{not}
 use Rattle.std.proofs.lemmas.Bool.{cases_Bool}
 use Rattle.std.proofs.lemmas.List.{ext_get_or, get_or-take, get_or_append_left, length-take-le, take_at}
 use Rattle.vlog_module.specs.Parts.{Parts}
@@ -9,18 +9,17 @@ use Rattle.vlog_plan.specs.declared.layout.Layout.{Layout}
 use Rattle.vlog_plan.specs.Cells.{cells_of, tail_of}
 use Rattle.vlog_plan.specs.Entries.{Entry}
 use Rattle.vlog_plan.specs.Found.{places_in}
-use Rattle.vlog_plan.specs.Laying.{IsLaidOut, ShowsEntry, bit_count, word_count}
+use Rattle.vlog_plan.specs.Laying.{IsLaidOut, bit_count, word_count}
 use Rattle.vlog_plan.specs.ModuleSlots.{register_names}
 use Rattle.vlog_plan.specs.Named.{values_of}
 use Rattle.vlog_plan.specs.Plans.{Places}
 use Rattle.vlog_plan.specs.Run.{followed, input_names, is_same_bit, readable}
-use Rattle.vlog_plan.specs.Steps.{operand_value}
 use Rattle.vlog_plan.proofs.Reading.{registers-read}
 use Rattle.vlog_plan.proofs.Showing.{bits-count, shown-same, words-count}
 use Rattle.vlog_cells.specs.declared.board.Board.{Board}
 use Rattle.vlog_cells.specs.declared.circuit.Circuit.{Circuit}
 use Rattle.vlog_cells.specs.declared.value.Value.{Ghosts}
-use Rattle.vlog_cells.specs.Boards.{IsChangedIn, IsIdleIn, IsTrackedIn, Shows, StaysLaidOut, cells_in, memories_in, outputs_in, words_in}
+use Rattle.vlog_cells.specs.Boards.{IsChangedIn, IsIdleIn, Shows, StaysLaidOut, cells_in, memories_in, outputs_in, words_in}
 use Rattle.vlog_cells.specs.Circuits.{IsCircuit, shown_by}
 use Rattle.vlog_cells.specs.Groups.{IsGroup}
 use Rattle.vlog_cells.specs.Marks.{IsTracked}
@@ -135,7 +134,7 @@ module _ {V : Type 0} {g : Ghosts V} (m : Parts) (entry : Entry) (r : Board V g)
       let between_room : bit_count m ≤ length changed.between = omega (arith, cells-room, changed.size) in
       let settled = changed.settled r.layout.first_wire (bit_count m) (gates-rise m r.layout circuit laid made) cells-room shows.tracked in
       let next = followed-shown m r.layout circuit laid made entry event changed.group (words_in r lane) (words_in after lane) (memories_in r lane) (memories_in after lane) (outputs_in r lane) (outputs_in after lane)
-      cells changed.between (cells_in after lane) after.marks.items after.blocks.items shows-cells early (omega (arith, early, laid.input_count, at.ordered)) differs
+      cells changed.between (cells_in after lane) after.marks.items shows-cells early (omega (arith, early, laid.input_count, at.ordered)) differs
       (r.lanes.fit lane) (after.lanes.fit lane) words_size cells-room between_room grouped clocked settled changed.outputs in
       record {
         within = shows.within;
@@ -143,7 +142,7 @@ module _ {V : Type 0} {g : Ghosts V} (m : Parts) (entry : Entry) (r : Board V g)
         bit_count = ap (λ (c : Circuit). c.bits) same.circuit ∙ shows.bit_count;
         cells = ap (λ (c : Circuit). shown_by c.roots.items (cells_in after lane)) same.circuit ∙ next.cells_are;
         shown = next.shown;
-        tracked = subst (λ (c : Circuit). IsTracked c.gates.items (cells_in after lane) after.marks.items after.blocks.items) (sym same.circuit) settled.tracked;
+        tracked = subst (λ (c : Circuit). IsTracked c.gates.items (cells_in after lane) after.marks.items) (sym same.circuit) settled.tracked;
       }
 
   -- and one in a lane that may be active

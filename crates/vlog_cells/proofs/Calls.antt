@@ -1,5 +1,5 @@
 -- What a call leaves in a lane, half by half.
-use Rattle.std.proofs.Common.{◌≡◌, ℕ, ◌<◌, ◌≤◌, Bool, true, false, List, [], ap, ap₂, arith, cond, length, refl, subst, sym, ◌∙◌}
+use Rattle.std.proofs.Common.{◌≡◌, ℕ, Bool, true, false, List, [], ap, ap₂, arith, cond, length, refl, subst, sym, ◌∙◌}
 use Rattle.std.specs.Prelude.{map}
 use Rattle.vlog_plan.specs.declared.event.Event.{Event}
 use Rattle.vlog_plan.specs.declared.layout.Layout.{Layout}
@@ -37,7 +37,7 @@ settled-idle active lane a b same known off = record {
   memories = known.memories;
   outputs = known.outputs;
   tracked = λ first count rising room tracked.
-      subst (λ (k : Circuit). IsTracked k.gates.items (cells_in b lane) b.marks.items b.blocks.items) (sym same.circuit) (known.settled first count rising room tracked).tracked;
+      subst (λ (k : Circuit). IsTracked k.gates.items (cells_in b lane) b.marks.items) (sym same.circuit) (known.settled first count rising room tracked).tracked;
 }
 
 pub shown-idle : {V : Type 0} {g : Ghosts V} (active : Bool) (lane : ℕ) (a b : Board V g) → StaysLaidOut a b → IsShownIn active lane a b → active ≡ false → IsIdleIn lane a b
@@ -47,10 +47,9 @@ shown-idle active lane a b same known off = record {
   memories = known.memories;
   outputs = known.outputs ∙ ap (λ k. cond k (map (operand_value (cells_in a lane) []) a.circuit.outputs.items) (outputs_in a lane)) off;
   tracked = λ first count rising room tracked.
-      subst (λ (k : Circuit). IsTracked k.gates.items (cells_in b lane) b.marks.items b.blocks.items) (sym same.circuit)
-      (subst (λ k. IsTracked a.circuit.gates.items k b.marks.items b.blocks.items) (sym known.cells)
-      (subst (λ k. IsTracked a.circuit.gates.items (cells_in a lane) k b.blocks.items) (sym known.marks)
-      (subst (IsTracked a.circuit.gates.items (cells_in a lane) a.marks.items) (sym known.blocks) tracked)));
+      subst (λ (k : Circuit). IsTracked k.gates.items (cells_in b lane) b.marks.items) (sym same.circuit)
+      (subst (λ k. IsTracked a.circuit.gates.items k b.marks.items) (sym known.cells)
+      (subst (IsTracked a.circuit.gates.items (cells_in a lane)) (sym known.marks) tracked));
 }
 
 -- ---- lanes whose input changes
@@ -112,12 +111,11 @@ changed-in event lane settling showing a b c d same same_two clocked settled on 
           (cells_in a lane) (cells_in a lane) (cells_in b lane) (cells_in b lane) clocked.clocked refl (sym (shown.words ∙ settled.words)) refl (sym (shown.memories ∙ settled.memories)) refl refl;
       settled = λ first count rising room tracked.
           let rising_now = subst (λ (k : Circuit). AreRising first count k.gates.items) (sym same.circuit) rising in
-          subst (λ (k : Circuit). IsSettled true first count k.gates.items k.settles.items (cells_in b lane) (cells_in d lane) d.marks.items d.blocks.items) same.circuit
-          (subst (λ k. IsSettled true first count b.circuit.gates.items b.circuit.settles.items (cells_in b lane) k d.marks.items d.blocks.items) (sym shown.cells)
-          (subst (λ k. IsSettled true first count b.circuit.gates.items b.circuit.settles.items (cells_in b lane) (cells_in c lane) k d.blocks.items) (sym shown.marks)
-          (subst (λ k. IsSettled true first count b.circuit.gates.items b.circuit.settles.items (cells_in b lane) (cells_in c lane) c.marks.items k) (sym shown.blocks)
-          (subst (λ k. IsSettled k first count b.circuit.gates.items b.circuit.settles.items (cells_in b lane) (cells_in c lane) c.marks.items c.blocks.items) on
-          (settled.settled first count rising_now (omega (arith, room, size)) (clocked.tracked first count rising room tracked))))));
+          subst (λ (k : Circuit). IsSettled true first count k.gates.items k.settles.items (cells_in b lane) (cells_in d lane) d.marks.items) same.circuit
+          (subst (λ k. IsSettled true first count b.circuit.gates.items b.circuit.settles.items (cells_in b lane) k d.marks.items) (sym shown.cells)
+          (subst (IsSettled true first count b.circuit.gates.items b.circuit.settles.items (cells_in b lane) (cells_in c lane)) (sym shown.marks)
+          (subst (λ k. IsSettled k first count b.circuit.gates.items b.circuit.settles.items (cells_in b lane) (cells_in c lane) c.marks.items) on
+          (settled.settled first count rising_now (omega (arith, room, size)) (clocked.tracked first count rising room tracked)))));
       outputs = shown.outputs
           ∙ ap (λ k. cond k (map (operand_value (cells_in c lane) []) c.circuit.outputs.items) (outputs_in c lane)) on_two
           ∙ ap₂ (λ (list : List Bool) (k : Circuit). map (operand_value list []) k.outputs.items) (sym shown.cells) circuits;

@@ -1,6 +1,5 @@
 -- What a board has at the start.
-use Rattle.std.proofs.Common.{◌≡◌, ℕ, ◌+◌, ◌*◌, ◌<◌, ◌≤◌, Bool, List, [], ap, ap₂, arith, get_or, length, length-append, refl, subst, sym, ◌∙◌}
-use Rattle.std.specs.Prelude.{map}
+use Rattle.std.proofs.Common.{◌≡◌, ℕ, ◌+◌, ◌*◌, ◌<◌, ◌≤◌, Bool, List, ap, ap₂, arith, get_or, length, length-append, refl, subst, sym, ◌∙◌}
 use Rattle.vlog_module.specs.Parts.{Parts}
 use Rattle.vlog_plan.specs.declared.layout.Start.{Start}
 use Rattle.vlog_plan.specs.Cells.{cells_of, tail_of}
@@ -21,7 +20,7 @@ pub record IsFirst {V : Type 0} (at : V → ℕ → Bool) (m : Parts) (made : St
   pub bit_count : made.wires.circuit.bits ≡ bit_count m
   pub cells : shown_by made.wires.circuit.roots.items (lane_bits at lane made.wires.cells.items) ≡ cells_of (values_of (readable (start m)).bits) (list_of lane made.words.items)
   pub shown : ShowsEntry m (start m) (values_of (readable (start m)).bits) (list_of lane made.words.items) (list_of lane made.memories.items) (lane_bits at lane made.outputs.items)
-  pub tracked : IsTracked made.wires.circuit.gates.items (lane_bits at lane made.wires.cells.items) made.wires.marks.items made.wires.blocks.items
+  pub tracked : IsTracked made.wires.circuit.gates.items (lane_bits at lane made.wires.cells.items) made.wires.marks.items
 
 pub first-lane : {V : Type 0} (lanes : ℕ) (at : V → ℕ → Bool) (m : Parts) (first : Start) (begins : Begins m first) (bits : List Bool) (words : List ℕ) (memories : List (List ℕ)) (made : Started V)
     → AreStarted lanes at first.layout bits words memories made → bits ≡ first.bits.items → words ≡ first.words.items → memories ≡ first.memories.items → (lane : ℕ) → lane < lanes → IsFirst at m made lane
@@ -37,7 +36,7 @@ first-lane lanes at m first begins bits words memories made known bits_is words_
     let small : (place : ℕ) → get_or first.words.items place 0 < 65536 =
     λ place. subst (λ n. n < 65536) (ap (λ (list : List ℕ). get_or list place 0) words_is) (known.sixteen_bits place) in
     let room : bit_count m ≤ length (cells_of bits words) = omega (arith, bits_are, length-append bits (tail_of words)) in
-    let after = started-shown m first circuit begins circuit_is (lane_bits at lane made.outputs.items) (cells_of bits words) cells made.wires.marks.items made.wires.blocks.items small
+    let after = started-shown m first circuit begins circuit_is (lane_bits at lane made.outputs.items) (cells_of bits words) cells made.wires.marks.items small
     (ap₂ cells_of bits_is words_is) room settled (known.outputs lane within) in
     let words_at : list_of lane made.words.items ≡ first.words.items = known.words_are lane within ∙ words_is in
     let memories_at : list_of lane made.memories.items ≡ first.memories.items = known.memories_are lane within ∙ memories_is in

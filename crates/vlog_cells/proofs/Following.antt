@@ -1,5 +1,5 @@
 -- What cells show after an event, and at the start.
-use Rattle.std.proofs.Common.{◌≡◌, ℕ, ◌+◌, ◌*◌, ◌<◌, ◌≤◌, Bool, true, false, List, [], ap, ap₂, arith, fold, get_or, length, length-set, refl, set, subst, sym, ◌∙◌}
+use Rattle.std.proofs.Common.{◌≡◌, ℕ, ◌+◌, ◌<◌, ◌≤◌, Bool, true, false, List, [], ap, ap₂, arith, fold, get_or, length, length-set, refl, set, ◌∙◌}
 use Rattle.std.specs.Prelude.{map}
 use Rattle.vlog_module.specs.Parts.{Parts}
 use Rattle.vlog_plan.specs.declared.event.Event.{Event}
@@ -22,7 +22,7 @@ use Rattle.vlog_cells.specs.Circuits.{AreSources, IsCircuit, shown_by}
 use Rattle.vlog_cells.specs.Groups.{IsGroup}
 use Rattle.vlog_cells.specs.Passing.{IsClocked, IsSettled}
 use Rattle.vlog_cells.proofs.Operands.{Show, outputs-shown, reads-shown, writes-shown}
-use Rattle.vlog_cells.proofs.Passed.{clocked-sources, first-within, own, settled-shown, size}
+use Rattle.vlog_cells.proofs.Passed.{clocked-sources, first-within, settled-shown, size}
 use Rattle.vlog_cells.proofs.Sources.{behind-cells, length-flips}
 
 -- the cells and lists show the entry
@@ -41,16 +41,16 @@ module _ (m : Parts) (layout : Layout) (circuit : Circuit) (laid : IsLaidOut m l
     are = shows.cells_are;
   }
 
-  pub followed-shown : (entry : Entry) (event : Event) (group : Group) (words words_now : List ℕ) (memories memories_now : List (List ℕ)) (outputs outputs_now before between after marks blocks : List Bool)
+  pub followed-shown : (entry : Entry) (event : Event) (group : Group) (words words_now : List ℕ) (memories memories_now : List (List ℕ)) (outputs outputs_now before between after : List Bool) (marks : List ℕ)
       → ShowsCells m circuit entry before words memories outputs → event.pin < length (input_names m.ports) → event.pin < layout.first_wire
       → is_same_bit event.bit (get_or (values_of (readable entry).bits) event.pin false) ≡ false
       → AreWords words → AreWords words_now → length words_now ≡ length words → bit_count m ≤ length before → bit_count m ≤ length between
       → IsGroup event layout.first_wire (bit_count m) (word_count m) circuit.roots.items layout.plan group
       → IsClocked true (bit_count m) event group words words_now memories memories_now before between
-      → IsSettled true layout.first_wire (bit_count m) circuit.gates.items circuit.settles.items between after marks blocks
+      → IsSettled true layout.first_wire (bit_count m) circuit.gates.items circuit.settles.items between after marks
       → outputs_now ≡ map (operand_value after []) circuit.outputs.items
       → ShowsCells m circuit (followed m entry event) after words_now memories_now outputs_now
-  followed-shown entry event group words words_now memories memories_now outputs outputs_now before between after marks blocks shows within pinned differs small small_now same_words room room_between grouped clocked settled outputs_is =
+  followed-shown entry event group words words_now memories memories_now outputs outputs_now before between after marks shows within pinned differs small small_now same_words room room_between grouped clocked settled outputs_is =
       let plan : Plan = layout.plan in
       let roots : List ℕ = circuit.roots.items in
       let bits : List Bool = values_of (readable entry).bits in
@@ -69,7 +69,7 @@ module _ (m : Parts) (layout : Layout) (circuit : Circuit) (laid : IsLaidOut m l
       let sources : AreSources layout.first_wire changed words_now between =
       clocked-sources m layout circuit laid made event group bits words words_now memories memories_now before between pinned grouped show room count_now clocked in
       let last : Show (bit_count m) (word_count m) roots (settled_slots plan (module_wires m) words_now changed) words_now after =
-      settled-shown m layout circuit laid made changed words_now between after marks blocks changed_size count_now small_now room_between sources settled in
+      settled-shown m layout circuit laid made changed words_now between after marks changed_size count_now small_now room_between sources settled in
       let bits_are : settled_slots plan (module_wires m) words_now changed ≡ bits_after plan (module_wires m) event bits words memories =
       ap (λ w. settled_slots plan (module_wires m) w changed) words_are in
       let next = shown-changed m plan entry event bits words memories outputs laid.plan shows.shown within differs in
@@ -89,12 +89,12 @@ module _ (m : Parts) (layout : Layout) (circuit : Circuit) (laid : IsLaidOut m l
 
 -- at the start
 pub started-shown : (m : Parts) (first : Start) (circuit : Circuit) (begins : Begins m first) (made : IsCircuit first.layout.first_wire (bit_count m) (word_count m) first.layout.plan circuit)
-    (outputs before after marks blocks : List Bool)
+    (outputs before after : List Bool) (marks : List ℕ)
     → AreWords first.words.items → before ≡ cells_of first.bits.items first.words.items → bit_count m ≤ length before
-    → IsSettled true first.layout.first_wire (bit_count m) circuit.gates.items circuit.settles.items before after marks blocks
+    → IsSettled true first.layout.first_wire (bit_count m) circuit.gates.items circuit.settles.items before after marks
     → outputs ≡ map (operand_value after []) circuit.outputs.items
     → ShowsCells m circuit (start m) after first.words.items first.memories.items outputs
-started-shown m first circuit begins made outputs before after marks blocks small before_is room settled outputs_is =
+started-shown m first circuit begins made outputs before after marks small before_is room settled outputs_is =
     let layout : Layout = first.layout in
     let plan : Plan = layout.plan in
     let bits : List Bool = first.bits.items in
@@ -108,7 +108,7 @@ started-shown m first circuit begins made outputs before after marks blocks smal
       behind = λ place inside. ap (λ list. get_or list (length bits + place) false) before_is ∙ behind-cells bits words place;
     } in
     let last : Show (bit_count m) (word_count m) circuit.roots.items (settled_slots plan (module_wires m) words bits) words after =
-    settled-shown m layout circuit begins.laid_out made bits words before after marks blocks bits_size words_size small room sources settled in
+    settled-shown m layout circuit begins.laid_out made bits words before after marks bits_size words_size small room sources settled in
     let next = shown-start m first begins in
     record {
       cells_are = last.are ∙ ap (λ b. cells_of b words) next.bits_are;

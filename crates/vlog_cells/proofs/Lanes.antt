@@ -1,7 +1,6 @@
 -- The bits of a lane.
-use Rattle.std.proofs.Common.{◌≡◌, ℕ, zero, suc, ◌<◌, ◌≤◌, Bool, true, false, cond, List, [], ◌∷◌, ap, arith, fold, get_or, inl, inr, length, refl, set, sym, ◌∙◌}
+use Rattle.std.proofs.Common.{◌≡◌, ℕ, zero, suc, ◌<◌, ◌≤◌, Bool, true, false, cond, List, [], ◌∷◌, ap, arith, fold, get_or, length, refl, set, ◌∙◌}
 use Rattle.std.specs.Prelude.{map}
-use Rattle.std.proofs.lemmas.Bool.{cases_lt}
 use Rattle.std.proofs.lemmas.List.{get_or_past, length-map, map-set, set-get_or}
 use Rattle.vlog_plan.specs.Cells.{cell_at}
 use Rattle.vlog_plan.specs.Values.{number_of}

@@ -1,10 +1,10 @@
 -- The lists of the wires on which cells bear.
-use Rattle.std.proofs.Common.{◌≡◌, ℕ, ◌+◌, ◌<◌, ◌≤◌, Bool, true, false, eqb, List, [], ◌∷◌, ◌++◌, ap, arith, fold, get_or, inl, inr, length, refl, set, subst, sym, ◌∙◌}
+use Rattle.std.proofs.Common.{◌≡◌, ℕ, ◌+◌, ◌<◌, true, false, eqb, List, [], ◌∷◌, ◌++◌, ap, arith, fold, get_or, inl, inr, length, refl, set, sym, ◌∙◌}
 use Rattle.std.specs.Prelude.{◌||◌}
 use Rattle.std.proofs.lemmas.Bool.{cases_Bool, cases_eq, cases_lt, eq-eqb, eqb-true}
 use Rattle.std.proofs.lemmas.List.{get_or-set_other, get_or-set_same, length-set, set_past}
 use Rattle.vlog_plan.specs.declared.gates.Gate.{Gate}
-use Rattle.vlog_cells.specs.Marks.{gate_at, has, touches, with_gate, with_reader}
+use Rattle.vlog_cells.specs.Marks.{has, touches, with_gate, with_reader}
 
 push-kept : (numbers : List ℕ) (last number : ℕ) → has numbers number ≡ true → has (numbers ++ last ∷ []) number ≡ true
 push-kept [] last number is = absurd cc

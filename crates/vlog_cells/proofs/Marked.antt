@@ -1,102 +1,107 @@
 -- Marks on wires, and what writes and sweeps leave.
-use Rattle.std.proofs.Common.{◌≡◌, ℕ, zero, suc, ◌+◌, ◌*◌, ◌/◌, ◌<◌, ◌≤◌, Bool, true, false, eqb, List, [], ◌∷◌, Vec, Global, ap, ap₂, arith, fold, get_or, inl, inr, length, refl, set, subst, sym, ◌∙◌}
-use Rattle.std.specs.Prelude.{◌&&◌, ◌||◌, ◌⊎◌}
+use Rattle.std.proofs.Common.{◌≡◌, ◌≢◌, ℕ, zero, suc, ◌+◌, ◌*◌, ◌/◌, ◌%◌, ◌<◌, ◌≤◌, Bool, true, false, eqb, List, [], ◌∷◌, Vec, Global, ap, arith, get_or, inl, inr, length, replicate, set, subst, sym, take, ◌∙◌}
+use Rattle.std.specs.Prelude.{◌||◌, ◌⊎◌}
 use Rattle.std.proofs.lemmas.Bool.{cases_Bool, cases_eq, cases_lt, eqb-true}
-use Rattle.std.proofs.lemmas.List.{get_or-set_other, get_or-set_same, length-set}
+use Rattle.std.proofs.lemmas.List.{get_or-replicate, get_or-set_same, get_or_past}
 use Rattle.vlog_plan.specs.declared.gates.Gate.{Gate}
-use Rattle.vlog_plan.specs.Cells.{cell_at, gate_value}
-use Rattle.vlog_cells.specs.Marks.{AreRising, IsEven, IsRead, IsSwept, IsTracked, StaySources, gate_at, has, is_marked, lists_of, mark_block, mark_gate, touches}
+use Rattle.vlog_plan.specs.Cells.{gate_value}
+use Rattle.vlog_plan.specs.Values.{bit_of}
+use Rattle.vlog_cells.specs.Marks.{AreRising, IsEven, IsRead, IsSwept, IsTracked, gate_at, has, is_marked, lists_of, touches}
+use Rattle.vlog_cells.proofs.Bits.{bit-zero, no-both}
 use Rattle.vlog_cells.proofs.Order.{later-apart, reads-none, same-value, slot-within, stays-even}
 
--- ---- marks that are set
+-- ---- marks
 
-set-kept : (bits : List Bool) (at i : ℕ) → get_or bits i false ≡ true → get_or (set bits at true) i false ≡ true
-set-kept [] at i is = is
-set-kept (bit ∷ bits) zero zero is = refl
-set-kept (bit ∷ bits) zero (suc i) is = is
-set-kept (bit ∷ bits) (suc at) zero is = is
-set-kept (bit ∷ bits) (suc at) (suc i) is = set-kept bits at i is
-
-all-kept : (f : ℕ → ℕ) (places : List ℕ) (bits : List Bool) (i : ℕ) → get_or bits i false ≡ true → get_or (fold (λ b p. set b (f p) true) bits places) i false ≡ true
-all-kept f [] bits i is = is
-all-kept f (place ∷ places) bits i is = all-kept f places (set bits (f place) true) i (set-kept bits (f place) i is)
-
-all-set : (f : ℕ → ℕ) (places : List ℕ) (bits : List Bool) (i : ℕ) → f i < length bits → has places i ≡ true → get_or (fold (λ b p. set b (f p) true) bits places) (f i) false ≡ true
-all-set f [] bits i within is = absurd cc
-all-set f (place ∷ places) bits i within is =
-    elim (cases_Bool (eqb place i)) [
-      | inl same ↦
-          all-kept f places (set bits (f place) true) (f i)
-          (ap (λ p. get_or (set bits (f p) true) (f i) false) (eqb-true place i same) ∙ get_or-set_same bits (f i) true false within)
-      | inr apart ↦
-          all-set f places (set bits (f place) true) i (omega (arith, within, length-set bits (f place) true))
-          (ap (λ b. b || has places i) (sym apart) ∙ is)
+-- what is marked has room
+pub marked-within : (marks : List ℕ) (place : ℕ) → is_marked marks place ≡ true → place < 64 * length marks
+marked-within marks place is =
+    elim (cases_lt place (64 * length marks)) [
+      | inl within ↦ within
+      | inr past ↦
+          absurd (no-both is
+          (ap (λ w. bit_of w (place % 64)) (get_or_past marks (place / 64) 0 (omega (arith, past))) ∙ bit-zero (place % 64)))
     ]
 
-length-all : (f : ℕ → ℕ) (places : List ℕ) (bits : List Bool) → length (fold (λ b p. set b (f p) true) bits places) ≡ length bits
-length-all f [] bits = refl
-length-all f (place ∷ places) bits = length-all f places (set bits (f place) true) ∙ length-set bits (f place) true
+-- where each word is full, each place is marked
+pub marked-full : (count word : ℕ) → ((k : ℕ) → k < 64 → bit_of word k ≡ true) → (place : ℕ) → place < 64 * count → is_marked (replicate count word) place ≡ true
+marked-full count word full place within = ap (λ w. bit_of w (place % 64)) (get_or-replicate count (place / 64) word 0 (omega (arith, within))) ∙ full (place % 64) (omega arith)
 
-both : (a b : Bool) → a ≡ true → b ≡ true → (a && b) ≡ true
-both true b is other = other
-both false b is other = absurd cc
+-- ---- lists of places
 
-and-true : (a b : Bool) → (a && b) ≡ true → (a ≡ true) × (b ≡ true)
-and-true true b is = (refl, is)
-and-true false b is = absurd cc
+pub has-none : (p : ℕ) → has [] p ≡ true → ⊥
+has-none p is = cc
 
-and-false : (a : Bool) → (a && false) ≡ false
-and-false true = refl
-and-false false = refl
+has-next : (places : List ℕ) (i p : ℕ) → i < length places → has (take (suc i) places) p ≡ true → (p ≡ get_or places i 0) ⊎ (has (take i places) p ≡ true)
+has-next [] i p within is = absurd (omega (arith, within))
+has-next (place ∷ places) zero p within is =
+    elim (cases_Bool (eqb place p)) [
+      | inl same ↦ inl (sym (eqb-true place p same))
+      | inr apart ↦ absurd (no-both is (ap (λ b. b || false) apart))
+    ]
+has-next (place ∷ places) (suc i) p within is =
+    elim (cases_Bool (eqb place p)) [
+      | inl same ↦ inr (ap (λ b. b || has (take i places) p) same)
+      | inr apart ↦
+          elim (has-next places i p (omega (arith, within)) (ap (λ b. b || has (take (suc i) places) p) (sym apart) ∙ is)) [
+            | inl here ↦ inl here
+            | inr before ↦ inr (ap (λ b. b || has (take i places) p) apart ∙ before)
+          ]
+    ]
 
-no-both : (a : Bool) → a ≡ true → a ≡ false → ⊥
-no-both a on off = cc
+-- one more place
+pub has-more : (places : List ℕ) (i p : ℕ) → i < length places → has (take (i + 1) places) p ≡ true → (p ≡ get_or places i 0) ⊎ (has (take i places) p ≡ true)
+has-more places i p within is =
+    let next : suc i ≡ i + 1 = omega arith in
+    has-next places i p within (ap (λ n. has (take n places) p) next ∙ is)
 
 -- ---- a write
 
 -- a cell that gets a bit, and the wires on which it bears marked
-pub write-tracked : (gates : List Gate) (readers : List (Vec ℕ Global)) (cell : ℕ) (bit : Bool) (cells marks blocks : List Bool) → IsRead gates readers → IsTracked gates cells marks blocks
-    → (let places : List ℕ = get_or (lists_of readers) cell [] in IsTracked gates (set cells cell bit) (fold mark_gate marks places) (fold mark_block blocks places))
-write-tracked gates readers cell bit cells marks blocks read tracked =
-    let places : List ℕ = get_or (lists_of readers) cell [] in
-    let same_marks : length (fold mark_gate marks places) ≡ length marks = length-all (λ p. p) places marks in
-    let same_blocks : length (fold mark_block blocks places) ≡ length blocks = length-all (λ p. p / 64) places blocks in
-    record {
-      room = omega (arith, tracked.room, same_blocks);
-      marks_room = same_marks ∙ tracked.marks_room ∙ ap (λ n. 64 * n) (sym same_blocks);
-      even = λ place within off.
-          elim (cases_Bool (touches (gate_at gates place) cell)) [
-            | inl near ↦
-                let listed = read place cell within near in
-                absurd (no-both (is_marked (fold mark_gate marks places) (fold mark_block blocks places) place)
-                (both _ _ (all-set (λ p. p) places marks place (omega (arith, within, tracked.room, tracked.marks_room)) listed)
-                (all-set (λ p. p / 64) places blocks place (omega (arith, within, tracked.room)) listed)) off)
-            | inr far ↦
-                stays-even cells cell bit (gate_at gates place) far
-                (elim (cases_Bool (is_marked marks blocks place)) [
-                  | inl was ↦
-                      let parts = and-true (get_or marks place false) (get_or blocks (place / 64) false) was in
-                      absurd (no-both (is_marked (fold mark_gate marks places) (fold mark_block blocks places) place)
-                      (both _ _ (all-kept (λ p. p) places marks place parts.0) (all-kept (λ p. p / 64) places blocks (place / 64) parts.1)) off)
-                  | inr before ↦ tracked.even place within before
-                ])
-          ];
-    }
+pub write-tracked : (gates : List Gate) (readers : List (Vec ℕ Global)) (cell : ℕ) (bit : Bool) (cells : List Bool) (marks marks_now places : List ℕ)
+    → places ≡ get_or (lists_of readers) cell [] → length marks_now ≡ length marks
+    → ((place : ℕ) → place < 64 * length marks → has places place ≡ true → is_marked marks_now place ≡ true)
+    → ((place : ℕ) → is_marked marks place ≡ true → is_marked marks_now place ≡ true)
+    → IsRead gates readers → IsTracked gates cells marks → IsTracked gates (set cells cell bit) marks_now
+write-tracked gates readers cell bit cells marks marks_now places places_are size all_set kept read tracked = record {
+  room = omega (arith, tracked.room, size);
+  even = λ place within off.
+      elim (cases_Bool (touches (gate_at gates place) cell)) [
+        | inl near ↦
+            absurd (no-both
+            (all_set place (omega (arith, within, tracked.room)) (ap (λ list. has list place) places_are ∙ read place cell within near)) off)
+        | inr far ↦
+            stays-even cells cell bit (gate_at gates place) far
+            (elim (cases_Bool (is_marked marks place)) [
+              | inl was ↦ absurd (no-both (kept place was) off)
+              | inr before ↦ tracked.even place within before
+            ])
+      ];
+}
 
 -- ---- a sweep
 
--- a wire that isn't marked
-pub gate-passed : (active : Bool) (gates : List Gate) (place : ℕ) (cells marks blocks : List Bool) → is_marked marks blocks place ≡ false
-    → IsSwept active gates place cells marks blocks → IsSwept active gates (place + 1) cells marks blocks
-gate-passed active gates place cells marks blocks off swept = record {
+-- wires that aren't marked
+pub gates-passed : (active : Bool) (gates : List Gate) (from end : ℕ) (cells : List Bool) (marks : List ℕ) → ((place : ℕ) → from ≤ place → place < end → is_marked marks place ≡ false)
+    → IsSwept active gates from cells marks → IsSwept active gates end cells marks
+gates-passed active gates from end cells marks off swept = record {
   tracked = swept.tracked;
   done = λ on p below within.
-      elim (cases_lt p place) [
+      elim (cases_lt p from) [
         | inl before ↦ swept.done on p before within
-        | inr after ↦
-            let same : p ≡ place = omega arith in
-            swept.tracked.even p within (ap (is_marked marks blocks) same ∙ off)
+        | inr after ↦ swept.tracked.even p within (off p after below)
       ];
+}
+
+-- a place behind the last wire loses its mark
+pub past-swept : (active : Bool) (gates : List Gate) (place : ℕ) (cells : List Bool) (marks marks_now : List ℕ) → length gates ≤ place → length marks_now ≡ length marks
+    → ((other : ℕ) → other ≢ place → is_marked marks_now other ≡ is_marked marks other)
+    → IsSwept active gates place cells marks → IsSwept active gates (place + 1) cells marks_now
+past-swept active gates place cells marks marks_now past size others swept = record {
+  tracked = record {
+    room = omega (arith, swept.tracked.room, size);
+    even = λ p within off. swept.tracked.even p within (sym (others p (λ same. omega (arith, same, within, past))) ∙ off);
+  };
+  done = λ on p below within. swept.done on p (omega (arith, within, past)) within;
 }
 
 -- a wire that has got its value
@@ -108,90 +113,56 @@ own-even first count gates place cells rising room within =
     get_or-set_same cells gate.slot (gate_value cells gate) false (omega (arith, at.1, room))
     ∙ sym (same-value cells gate.slot (gate_value cells gate) gate (reads-none first count gates place place rising (omega arith) within))
 
--- it stays marked where it may not have it
-pub gate-swept : (active left bit : Bool) (first count : ℕ) (gates : List Gate) (place : ℕ) (cells marks blocks marks_now blocks_now : List Bool) → AreRising first count gates → count ≤ length cells → place < length gates
-    → (active ≡ true → bit ≡ gate_value cells (gate_at gates place)) → (left ≡ false → bit ≡ gate_value cells (gate_at gates place))
-    → IsSwept active gates place cells marks blocks
-    → IsTracked gates (set cells (gate_at gates place).slot bit) marks_now blocks_now
-    → IsSwept active gates (place + 1) (set cells (gate_at gates place).slot bit) (set marks_now place left) blocks_now
-gate-swept active left bit first count gates place cells marks blocks marks_now blocks_now rising room within on off swept tracked =
-    let gate : Gate = gate_at gates place in
-    let now : List Bool = set cells gate.slot bit in
-    let own : bit ≡ gate_value cells gate → IsEven now gate =
-    λ is. subst (λ b. IsEven (set cells gate.slot b) gate) (sym is) (own-even first count gates place cells rising room within) in
-    record {
-      tracked = record {
-        room = tracked.room;
-        marks_room = length-set marks_now place left ∙ tracked.marks_room;
-        even = λ p inside dark.
-            elim (cases_eq p place) [
-              | inl same ↦
-                  elim (cases_Bool left) [
-                    | inl stays ↦
-                        let mark_is : get_or (set marks_now place left) p false ≡ true =
-                        ap (λ q. get_or (set marks_now place left) q false) same
-                        ∙ get_or-set_same marks_now place left false (omega (arith, within, tracked.room, tracked.marks_room)) ∙ stays in
-                        let block_is : get_or blocks_now (p / 64) false ≡ false = sym (ap (λ m. m && get_or blocks_now (p / 64) false) mark_is) ∙ dark in
-                        tracked.even p inside (ap (λ b. get_or marks_now p false && b) block_is ∙ and-false (get_or marks_now p false))
-                    | inr cleared ↦ subst (λ q. IsEven now (gate_at gates q)) (sym same) (own (off cleared))
-                  ]
-              | inr apart ↦ tracked.even p inside (ap (λ b. b && get_or blocks_now (p / 64) false) (sym (get_or-set_other marks_now place p left false apart)) ∙ dark)
-            ];
-      };
-      done = λ act p below inside.
-          elim (cases_lt p place) [
-            | inl before ↦ stays-even cells gate.slot bit (gate_at gates p) (later-apart first count gates p place rising before within) (swept.done act p before inside)
-            | inr after ↦ let same : p ≡ place = omega arith in subst (λ q. IsEven now (gate_at gates q)) (sym same) (own (on act))
-          ];
-    }
+own-now : (first count : ℕ) (gates : List Gate) (place : ℕ) (bit : Bool) (cells : List Bool) → AreRising first count gates → count ≤ length cells → place < length gates
+    → bit ≡ gate_value cells (gate_at gates place) → IsEven (set cells (gate_at gates place).slot bit) (gate_at gates place)
+own-now first count gates place bit cells rising room within is =
+    subst (λ b. IsEven (set cells (gate_at gates place).slot b) (gate_at gates place)) (sym is) (own-even first count gates place cells rising room within)
 
--- a block that has been swept: it stays marked where one of its wires does
-pub block-swept : (active left : Bool) (gates : List Gate) (block : ℕ) (cells marks blocks : List Bool) (end : ℕ) → block < length blocks → (end ≡ 64 * block + 64) ⊎ (length gates ≤ end)
-    → (left ≡ false → (p : ℕ) → p / 64 ≡ block → get_or marks p false ≡ false)
-    → IsSwept active gates end cells marks blocks → IsSwept active gates (64 * block + 64) cells marks (set blocks block left)
-block-swept active left gates block cells marks blocks end within last none swept = record {
+-- the first ones have their values, and this one gets its own
+done-more : (first count : ℕ) (gates : List Gate) (place : ℕ) (bit : Bool) (cells : List Bool) → AreRising first count gates → count ≤ length cells → place < length gates
+    → bit ≡ gate_value cells (gate_at gates place) → ((p : ℕ) → p < place → p < length gates → IsEven cells (gate_at gates p))
+    → (p : ℕ) → p < place + 1 → p < length gates → IsEven (set cells (gate_at gates place).slot bit) (gate_at gates p)
+done-more first count gates place bit cells rising room within is done p below inside =
+    elim (cases_lt p place) [
+      | inl before ↦ stays-even cells (gate_at gates place).slot bit (gate_at gates p) (later-apart first count gates p place rising before within) (done p before inside)
+      | inr after ↦
+          let same : p ≡ place = omega arith in
+          subst (λ q. IsEven (set cells (gate_at gates place).slot bit) (gate_at gates q)) (sym same) (own-now first count gates place bit cells rising room within is)
+    ]
+
+-- it stays marked where it may not have it
+pub gate-swept : (active left bit : Bool) (first count : ℕ) (gates : List Gate) (place : ℕ) (cells : List Bool) (marks marks_now marks_last : List ℕ) → AreRising first count gates → count ≤ length cells → place < length gates
+    → (active ≡ true → bit ≡ gate_value cells (gate_at gates place)) → (left ≡ false → bit ≡ gate_value cells (gate_at gates place))
+    → length marks_last ≡ length marks_now → (place < 64 * length marks_now → is_marked marks_last place ≡ left) → ((other : ℕ) → other ≢ place → is_marked marks_last other ≡ is_marked marks_now other)
+    → IsSwept active gates place cells marks
+    → IsTracked gates (set cells (gate_at gates place).slot bit) marks_now
+    → IsSwept active gates (place + 1) (set cells (gate_at gates place).slot bit) marks_last
+gate-swept active left bit first count gates place cells marks marks_now marks_last rising room within on off size own_mark other_marks swept tracked = record {
   tracked = record {
-    room = omega (arith, swept.tracked.room, length-set blocks block left);
-    marks_room = swept.tracked.marks_room ∙ ap (λ n. 64 * n) (sym (length-set blocks block left));
-    even = λ p inside off.
-        elim (cases_Bool (get_or marks p false)) [
-          | inl marked ↦
-              let dark : get_or (set blocks block left) (p / 64) false ≡ false = sym (ap (λ m. m && get_or (set blocks block left) (p / 64) false) marked) ∙ off in
-              elim (cases_eq (p / 64) block) [
-                | inl here ↦
-                    let is : left ≡ false = sym (ap (λ q. get_or (set blocks block left) q false) here ∙ get_or-set_same blocks block left false within) ∙ dark in
-                    absurd (no-both (get_or marks p false) marked (none is p here))
-                | inr apart ↦
-                    swept.tracked.even p inside
-                    (ap (λ b. get_or marks p false && b) (sym (get_or-set_other blocks block (p / 64) left false apart) ∙ dark) ∙ and-false (get_or marks p false))
-              ]
-          | inr unmarked ↦ swept.tracked.even p inside (ap (λ m. m && get_or blocks (p / 64) false) unmarked)
+    room = omega (arith, tracked.room, size);
+    even = λ p inside dark.
+        elim (cases_eq p place) [
+          | inl same ↦
+              let cleared : left ≡ false = sym (own_mark (omega (arith, within, tracked.room))) ∙ sym (ap (is_marked marks_last) same) ∙ dark in
+              subst (λ q. IsEven (set cells (gate_at gates place).slot bit) (gate_at gates q)) (sym same) (own-now first count gates place bit cells rising room within (off cleared))
+          | inr apart ↦ tracked.even p inside (sym (other_marks p apart) ∙ dark)
         ];
   };
-  done = λ on p below inside. elim last [ inl is ↦ swept.done on p (omega (arith, below, is)) inside | inr past ↦ swept.done on p (omega (arith, inside, past)) inside ];
+  done = λ act. done-more first count gates place bit cells rising room within (on act) (swept.done act);
 }
 
--- a block that isn't marked
-pub block-passed : (active : Bool) (gates : List Gate) (block : ℕ) (cells marks blocks : List Bool) → get_or blocks block false ≡ false
-    → IsSwept active gates (64 * block) cells marks blocks → IsSwept active gates (64 * block + 64) cells marks blocks
-block-passed active gates block cells marks blocks off swept = record {
-  tracked = swept.tracked;
-  done = λ on p below inside.
-      elim (cases_lt p (64 * block)) [
-        | inl before ↦ swept.done on p before inside
-        | inr after ↦
-            let here : p / 64 ≡ block = omega arith in
-            swept.tracked.even p inside (ap (λ b. get_or marks p false && b) (ap (λ q. get_or blocks q false) here ∙ off) ∙ and-false (get_or marks p false))
-      ];
-}
+-- bits of a block from one on that aren't set
+pub block-off : (marks : List ℕ) (block from end : ℕ) → end ≤ 64 → ((k : ℕ) → from ≤ k → k < end → bit_of (get_or marks block 0) k ≡ false)
+    → (place : ℕ) → 64 * block + from ≤ place → place < 64 * block + end → is_marked marks place ≡ false
+block-off marks block from end few off place low high =
+    let quotient : place / 64 ≡ block = omega (arith, low, high, few) in
+    let at_least : from ≤ place % 64 = omega (arith, low, high, few) in
+    let below : place % 64 < end = omega (arith, low, high, few) in
+    ap (λ b. bit_of (get_or marks b 0) (place % 64)) quotient ∙ off (place % 64) at_least below
 
 -- where each wire is marked
-pub tracked-first : (gates : List Gate) (cells marks blocks : List Bool) → length gates ≤ 64 * length blocks → length marks ≡ 64 * length blocks
-    → ((place : ℕ) → place < length marks → get_or marks place false ≡ true) → ((block : ℕ) → block < length blocks → get_or blocks block false ≡ true) → IsTracked gates cells marks blocks
-tracked-first gates cells marks blocks room marks_room all_marks all_blocks = record {
+pub tracked-first : (gates : List Gate) (cells : List Bool) (marks : List ℕ) → length gates ≤ 64 * length marks → ((place : ℕ) → place < 64 * length marks → is_marked marks place ≡ true) → IsTracked gates cells marks
+tracked-first gates cells marks room all_marked = record {
   room = room;
-  marks_room = marks_room;
-  even = λ place within off.
-      absurd (no-both (is_marked marks blocks place)
-      (both (get_or marks place false) (get_or blocks (place / 64) false) (all_marks place (omega (arith, within, room, marks_room))) (all_blocks (place / 64) (omega (arith, within, room)))) off);
+  even = λ place within off. absurd (no-both (all_marked place (omega (arith, within, room))) off);
 }

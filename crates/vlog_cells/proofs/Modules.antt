@@ -1,8 +1,7 @@
 -- The wires of a module are in order, and the registers that they set at once stand before them.
-use Rattle.std.proofs.Common.{◌≡◌, ℕ, zero, suc, ◌+◌, ◌*◌, ◌<◌, ◌≤◌, Bool, true, false, cond, List, [], ◌∷◌, ◌++◌, Option, Some, None, ap, ap₂, arith, get_or, inl, inr, length, length-append, ltb, refl, subst, sym, ◌∙◌}
+use Rattle.std.proofs.Common.{◌≡◌, ℕ, zero, suc, ◌+◌, ◌*◌, ◌<◌, Bool, true, false, cond, List, [], ◌∷◌, ◌++◌, Option, Some, None, arith, get_or, length, length-append, ltb, refl, subst, sym}
 use Rattle.std.specs.Prelude.{◌&&◌, bytes_eq, map}
 use Rattle.std.specs.List.{cons_option, filter_map}
-use Rattle.std.proofs.lemmas.Bool.{cases_Bool, ltb-true}
 use Rattle.std.proofs.lemmas.List.{length_push}
 use Rattle.vlog_module.specs.declared.atoms.Atom.{Atom}
 use Rattle.vlog_module.specs.declared.atoms.Atom.TheVariants.{Bit, Whole, Part}
@@ -16,12 +15,11 @@ use Rattle.vlog_plan.specs.Cells.{gate_cells, gate_of, operand_cell, zero_cell}
 use Rattle.vlog_plan.specs.Laying.{bit_count, word_count}
 use Rattle.vlog_plan.specs.ModuleSlots.{module_wires, places_of, register_names, wire_names}
 use Rattle.vlog_plan.specs.Numbered.{numbered}
-use Rattle.vlog_plan.specs.Plans.{Places, of_two, operand_of, part_operand, rule_of, settle_of, settle_over, slot_operand, wires_of}
+use Rattle.vlog_plan.specs.Plans.{Places, of_two, operand_of, part_operand, rule_of, settle_of, slot_operand, wires_of}
 use Rattle.vlog_plan.specs.Run.{input_names}
 use Rattle.vlog_plan.specs.declared.plan.Operand.{Operand}
 use Rattle.vlog_plan.specs.declared.plan.Operand.TheVariants.{Constant, Slot, Part as PartOperand}
 use Rattle.vlog_plan.specs.declared.plan.Settle.{Settle}
-use Rattle.vlog_plan.specs.declared.plan.Wire.{Wire}
 use Rattle.vlog_cells.specs.Marks.{AreBefore}
 use Rattle.vlog_cells.proofs.Operands.{operand-inside}
 use Rattle.vlog_cells.proofs.Joining.{AreBelow, AreNumbered}

@@ -1,5 +1,5 @@
 -- Items over cells do what they do over bits and words, where the cells show these.
-use Rattle.std.proofs.Common.{◌≡◌, ℕ, ◌+◌, ◌*◌, ◌<◌, Bool, true, false, cond, List, [], ◌∷◌, ◌++◌, Option, Some, None, ◌-◌, ap, ap₂, arith, flat_map, inl, inr, fold, get_or, length, ltb, refl, set, sym, ◌∙◌}
+use Rattle.std.proofs.Common.{◌≡◌, ℕ, ◌+◌, ◌*◌, ◌<◌, Bool, true, false, cond, List, [], ◌∷◌, ◌++◌, Option, Some, None, ◌-◌, ap, ap₂, arith, flat_map, inl, inr, fold, length, ltb, refl, set, sym, ◌∙◌}
 use Rattle.std.specs.Prelude.{◌&&◌, map}
 use Rattle.std.proofs.lemmas.Bool.{cases_Bool, ltb-true}
 use Rattle.std.proofs.lemmas.List.{get_or-map}
@@ -13,7 +13,6 @@ use Rattle.vlog_plan.specs.declared.plan.Operand.TheVariants.{Constant, Slot, Pa
 use Rattle.vlog_plan.specs.declared.plan.Table.{Table}
 use Rattle.vlog_plan.specs.declared.plan.Flip.{Flip}
 use Rattle.vlog_plan.specs.declared.plan.MemoryPort.{MemoryPort}
-use Rattle.vlog_plan.specs.declared.plan.Field.{Field}
 use Rattle.vlog_plan.specs.declared.plan.Taken.{Taken}
 use Rattle.vlog_plan.specs.declared.plan.Taken.TheVariants.{Word, Narrow}
 use Rattle.vlog_plan.specs.declared.plan.Read.{Read}
@@ -24,7 +23,7 @@ use Rattle.vlog_plan.specs.declared.plan.Written.{Written}
 use Rattle.vlog_plan.proofs.Cells.{AreWords, operand-in}
 use Rattle.vlog_cells.specs.Circuits.{shown_by}
 use Rattle.vlog_cells.specs.Groups.{read_at, write_at}
-use Rattle.vlog_cells.specs.Resolved.{cell_of, resolved, resolved_field, resolved_flip, resolved_kept, resolved_port, resolved_read, resolved_table, resolved_taken, resolved_write}
+use Rattle.vlog_cells.specs.Resolved.{resolved, resolved_flip, resolved_kept, resolved_port, resolved_read, resolved_table, resolved_taken, resolved_write}
 use Rattle.vlog_cells.specs.Roots.{root}
 
 -- ---- where operands stand

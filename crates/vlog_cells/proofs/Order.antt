@@ -1,7 +1,7 @@
 -- Wires rise, and read only what comes before.
-use Rattle.std.proofs.Common.{◌≡◌, ℕ, zero, suc, ◌+◌, ◌<◌, ◌≤◌, Bool, true, false, eqb, List, [], ◌∷◌, ap, ap₂, arith, get_or, inl, inr, length, refl, set, subst, sym, ◌∙◌}
+use Rattle.std.proofs.Common.{◌≡◌, ℕ, zero, suc, ◌+◌, ◌<◌, ◌≤◌, Bool, true, false, eqb, List, [], ◌∷◌, ap, ap₂, arith, length, refl, set, sym, ◌∙◌}
 use Rattle.std.specs.Prelude.{◌||◌, map}
-use Rattle.std.proofs.lemmas.Bool.{cases_Bool, eqb-false, eqb-true, ne_eqb}
+use Rattle.std.proofs.lemmas.Bool.{eqb-false, ne_eqb}
 use Rattle.std.proofs.lemmas.List.{get_or-set_other}
 use Rattle.vlog_plan.specs.declared.gates.Gate.{Gate}
 use Rattle.vlog_plan.specs.Cells.{cell_at, gate_value}

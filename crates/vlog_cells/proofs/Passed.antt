@@ -1,15 +1,14 @@
 -- Cells show what bits and words become at an event.
-use Rattle.std.proofs.Common.{◌≡◌, ℕ, zero, suc, ◌+◌, ◌-◌, ◌*◌, ◌<◌, ◌≤◌, Bool, true, false, cond, List, [], ◌∷◌, ◌++◌, ap, ap₂, arith, drop, flat_map, fold, get_or, inl, inr, length, refl, replicate, set, subst, sym, take, ◌∙◌}
+use Rattle.std.proofs.Common.{◌≡◌, ℕ, zero, suc, ◌+◌, ◌-◌, ◌*◌, ◌<◌, ◌≤◌, Bool, true, false, cond, List, [], ◌∷◌, ◌++◌, ap, arith, drop, flat_map, fold, get_or, inl, inr, length, refl, replicate, set, subst, sym, take, ◌∙◌}
 use Rattle.std.specs.Prelude.{map}
 use Rattle.std.proofs.lemmas.Bool.{cases_eq, cases_lt}
-use Rattle.std.proofs.lemmas.List.{ext_get_or, get_or-drop, get_or-map, get_or-set_other, get_or-set_same, get_or-take, get_or_append_left, length-append, length-drop, length-map, length-replicate, length-set, length-take-le, set-append_left, take-append-drop}
+use Rattle.std.proofs.lemmas.List.{ext_get_or, get_or-drop, get_or-set_other, get_or-set_same, get_or-take, get_or_append_left, length-append, length-drop, length-map, length-replicate, length-set, length-take-le, set-append_left, take-append-drop}
 use Rattle.vlog_module.specs.Parts.{Parts}
 use Rattle.vlog_plan.specs.declared.event.Event.{Event}
 use Rattle.vlog_plan.specs.declared.gates.Gate.{Gate}
 use Rattle.vlog_plan.specs.declared.layout.Layout.{Layout}
 use Rattle.vlog_plan.specs.declared.plan.Operand.TheVariants.{Slot}
 use Rattle.vlog_plan.specs.declared.plan.Settle.{Settle}
-use Rattle.vlog_plan.specs.declared.plan.Wire.{Wire}
 use Rattle.vlog_plan.specs.Cells.{cell_at, cells_of, gate_of, parts_below, tail_of, zero_cell}
 use Rattle.vlog_plan.specs.Laying.{IsLaidOut, bit_count, word_count}
 use Rattle.vlog_plan.specs.ModuleSlots.{module_wires}
@@ -17,17 +16,17 @@ use Rattle.vlog_plan.specs.Steps.{flip_slot, settle_slot, settled_slots, wire_sl
 use Rattle.vlog_plan.proofs.Cells.{AreWords, length-parts}
 use Rattle.vlog_cells.specs.declared.circuit.Circuit.{Circuit}
 use Rattle.vlog_cells.specs.declared.groups.Group.{Group}
-use Rattle.vlog_cells.specs.Circuits.{AreSources, ArePartsAt, IsCircuit, kept_gate, shown_by}
+use Rattle.vlog_cells.specs.Circuits.{AreSources, IsCircuit, kept_gate, shown_by}
 use Rattle.vlog_cells.specs.Groups.{IsGroup, flip_at}
 use Rattle.vlog_cells.specs.Marks.{AreRising, IsEven, gate_at}
 use Rattle.vlog_cells.specs.Passing.{IsClocked, IsSettled}
-use Rattle.vlog_cells.specs.Resolved.{resolved_gate, resolved_settle}
+use Rattle.vlog_cells.specs.Resolved.{resolved_settle}
 use Rattle.vlog_cells.specs.Roots.{first_roots, held_by, root, root_step}
 use Rattle.vlog_cells.proofs.Joining.{AreBelow, AreNumbered, AreRoots, held-targets, numbered-end, roots-known, roots-own}
 use Rattle.vlog_cells.proofs.Modules.{module-numbered, module-settles}
 use Rattle.vlog_cells.proofs.Operands.{Show, operand-shown, shown-at}
 use Rattle.vlog_cells.proofs.Sources.{Agree, agree-set, behind-cells, flips-agree, flips-stay, length-flips, tail-end, tail-part}
-use Rattle.vlog_cells.proofs.Wired.{IsKept, kept-at, kept-rise, settled-is, shown-cell, wire-shown}
+use Rattle.vlog_cells.proofs.Wired.{kept-at, kept-rise, settled-is, shown-cell, wire-shown}
 
 numbered-parts : (from count total : ℕ) (gates : List Gate) (place : ℕ) → AreNumbered from count total gates → place < length gates
     → AreBelow total (gate_at gates place).ins × ((gate_at gates place).slot < count)
@@ -105,8 +104,8 @@ module _ (m : Parts) (layout : Layout) (circuit : Circuit) (laid : IsLaidOut m l
 
   -- ---- wires
 
-  module _ (bits : List Bool) (words : List ℕ) (before after marks blocks : List Bool) (bits_are : length bits ≡ count) (words_are : length words ≡ word_count m) (small : AreWords words)
-      (room : count ≤ length before) (sources : AreSources first bits words before) (settled : IsSettled true first count circuit.gates.items circuit.settles.items before after marks blocks) where
+  module _ (bits : List Bool) (words : List ℕ) (before after : List Bool) (marks : List ℕ) (bits_are : length bits ≡ count) (words_are : length words ≡ word_count m) (small : AreWords words)
+      (room : count ≤ length before) (sources : AreSources first bits words before) (settled : IsSettled true first count circuit.gates.items circuit.settles.items before after marks) where
     abbrev wired : List Bool
     wired = settled.wired
 

@@ -1,5 +1,5 @@
 -- An event changes no more than the plan has items.
-use Rattle.std.proofs.Common.{◌≡◌, ℕ, ◌≤◌, Bool, true, false, cond, List, [], ◌∷◌, ap, arith, flat_map, length, length-append, ltb}
+use Rattle.std.proofs.Common.{ℕ, ◌≤◌, Bool, true, false, cond, List, [], ◌∷◌, ap, arith, flat_map, length, length-append, ltb}
 use Rattle.std.specs.Prelude.{◌&&◌}
 use Rattle.vlog_plan.specs.Steps.{is_edge_of}
 use Rattle.vlog_plan.specs.declared.event.Event.{Event}

@@ -1,14 +1,13 @@
 -- What an event gives the cells that aren't wires'.
-use Rattle.std.proofs.Common.{◌≡◌, ℕ, ◌+◌, ◌-◌, ◌*◌, ◌<◌, ◌≤◌, Bool, true, false, cond, List, [], ◌∷◌, ◌++◌, ap, ap₂, arith, flat_map, fold, get_or, inl, inr, length, ltb, refl, set, subst, sym, ◌∙◌}
+use Rattle.std.proofs.Common.{◌≡◌, ℕ, ◌+◌, ◌-◌, ◌*◌, ◌<◌, ◌≤◌, Bool, true, false, cond, List, [], ◌∷◌, ◌++◌, ap, arith, flat_map, fold, get_or, inl, inr, length, ltb, refl, set, subst, sym, ◌∙◌}
 use Rattle.std.specs.Prelude.{◌&&◌}
-use Rattle.std.proofs.lemmas.Bool.{cases_Bool, cases_eq, cases_lt, ltb-false, ltb-true}
+use Rattle.std.proofs.lemmas.Bool.{cases_Bool, cases_eq, ltb-false, ltb-true}
 use Rattle.std.proofs.lemmas.List.{get_or-append-add, get_or-append_right, get_or-set_other, get_or-set_same, get_or_append_left, length-set}
 use Rattle.vlog_plan.specs.Cells.{cell_at, cells_of, part_at, parts_below, tail_of}
 use Rattle.vlog_plan.specs.Steps.{flip_slot, is_edge_of, operand_value, table_value}
 use Rattle.vlog_plan.specs.declared.event.Event.{Event}
 use Rattle.vlog_plan.specs.declared.plan.Flip.{Flip}
 use Rattle.vlog_plan.proofs.Cells.{length-parts, part-in}
-use Rattle.vlog_cells.specs.Circuits.{AreSources, ArePartsAt}
 use Rattle.vlog_cells.specs.Groups.{flip_at}
 use Rattle.vlog_cells.specs.Resolved.{resolved_flip}
 use Rattle.vlog_cells.proofs.Operands.{Show, flip-shown}

@@ -1,11 +1,11 @@
 -- What writes of values, and sweeps over wires, do in a lane.
-use Rattle.std.proofs.Common.{◌≡◌, ℕ, zero, suc, ◌+◌, ◌/◌, ◌<◌, ◌≤◌, Bool, true, false, cond, List, [], ◌∷◌, Vec, Global, ap, ap₂, arith, fold, get_or, length, refl, set, subst, sym, take, ◌∙◌}
-use Rattle.std.specs.Prelude.{◌&&◌, Option, Some, None}
+use Rattle.std.proofs.Common.{◌≡◌, ◌≢◌, ℕ, zero, suc, ◌+◌, ◌*◌, ◌<◌, ◌≤◌, Bool, true, false, cond, List, [], ◌∷◌, Vec, Global, ap, ap₂, arith, fold, get_or, length, refl, set, subst, sym, take, ◌∙◌}
+use Rattle.std.specs.Prelude.{◌&&◌}
 use Rattle.std.proofs.lemmas.List.{get_or-set_other, set-get_or}
 use Rattle.vlog_plan.specs.declared.gates.Gate.{Gate}
 use Rattle.vlog_plan.specs.Cells.{cell_at, gate_value}
 use Rattle.vlog_cells.specs.Lanes.{lane_bits}
-use Rattle.vlog_cells.specs.Marks.{AreRising, IsRead, IsSwept, IsTracked, StaySources, gate_at, lists_of, mark_block, mark_gate}
+use Rattle.vlog_cells.specs.Marks.{AreRising, IsRead, IsSwept, IsTracked, StaySources, gate_at, has, is_marked, lists_of}
 use Rattle.vlog_cells.proofs.Lanes.{lane-change, lane-set}
 use Rattle.vlog_cells.proofs.Marked.{gate-swept, write-tracked}
 use Rattle.vlog_cells.proofs.Order.{slot-within}
@@ -17,34 +17,36 @@ pub same-cells : {V : Type 0} (cells : List V) (cell : ℕ) (old value : V) → 
 same-cells cells cell old value is same = sym (ap (set cells cell) (sym same ∙ is) ∙ set-get_or cells cell old)
 
 -- one that gets another, and the wires on which it bears marked
-pub lane-tracked : {V : Type 0} (at : V → ℕ → Bool) (lane : ℕ) (gates : List Gate) (readers : List (Vec ℕ Global)) (cell : ℕ) (value : V) (cells cells_now : List V) (marks blocks marks_now blocks_now : List Bool) (listed : List ℕ)
-    → cells_now ≡ set cells cell value → listed ≡ get_or (lists_of readers) cell [] → marks_now ≡ fold mark_gate marks listed → blocks_now ≡ fold mark_block blocks listed
-    → IsRead gates readers → IsTracked gates (lane_bits at lane cells) marks blocks → IsTracked gates (lane_bits at lane cells_now) marks_now blocks_now
-lane-tracked at lane gates readers cell value cells cells_now marks blocks marks_now blocks_now listed cells_are listed_is marks_are blocks_are read tracked =
-    let all = write-tracked gates readers cell (at value lane) (lane_bits at lane cells) marks blocks read tracked in
-    subst (λ c. IsTracked gates c marks_now blocks_now) (sym (ap (lane_bits at lane) cells_are ∙ lane-set at lane cells cell value))
-    (subst (λ k. IsTracked gates (set (lane_bits at lane cells) cell (at value lane)) k blocks_now) (sym (marks_are ∙ ap (fold mark_gate marks) listed_is))
-    (subst (λ k. IsTracked gates (set (lane_bits at lane cells) cell (at value lane)) (fold mark_gate marks (get_or (lists_of readers) cell [])) k) (sym (blocks_are ∙ ap (fold mark_block blocks) listed_is)) all))
+pub lane-tracked : {V : Type 0} (at : V → ℕ → Bool) (lane : ℕ) (gates : List Gate) (readers : List (Vec ℕ Global)) (cell : ℕ) (value : V) (cells cells_now : List V) (marks marks_now places : List ℕ)
+    → cells_now ≡ set cells cell value → places ≡ get_or (lists_of readers) cell [] → length marks_now ≡ length marks
+    → ((place : ℕ) → place < 64 * length marks → has places place ≡ true → is_marked marks_now place ≡ true)
+    → ((place : ℕ) → is_marked marks place ≡ true → is_marked marks_now place ≡ true)
+    → IsRead gates readers → IsTracked gates (lane_bits at lane cells) marks → IsTracked gates (lane_bits at lane cells_now) marks_now
+lane-tracked at lane gates readers cell value cells cells_now marks marks_now places cells_are places_are size all_set kept read tracked =
+    subst (λ c. IsTracked gates c marks_now) (sym (ap (lane_bits at lane) cells_are ∙ lane-set at lane cells cell value))
+    (write-tracked gates readers cell (at value lane) (lane_bits at lane cells) marks marks_now places places_are size all_set kept read tracked)
 
 -- ---- a wire
 
-pub gate-step : {V : Type 0} (at : V → ℕ → Bool) (lane : ℕ) (active left : Bool) (value kept old : V) (first count : ℕ) (gates : List Gate) (place : ℕ) (cells cells_now : List V) (marks blocks marks_now blocks_now : List Bool)
+pub gate-step : {V : Type 0} (at : V → ℕ → Bool) (lane : ℕ) (active left : Bool) (value kept old : V) (first count : ℕ) (gates : List Gate) (place : ℕ) (cells cells_now : List V) (marks marks_now marks_last : List ℕ)
     → AreRising first count gates → count ≤ length (lane_bits at lane cells) → place < length gates
     → at value lane ≡ gate_value (lane_bits at lane cells) (gate_at gates place)
     → at kept lane ≡ cond active (at value lane) (at old lane)
     → (left ≡ false → kept ≡ value)
     → cells_now ≡ set cells (gate_at gates place).slot kept
-    → IsSwept active gates place (lane_bits at lane cells) marks blocks
-    → IsTracked gates (lane_bits at lane cells_now) marks_now blocks_now
-    → IsSwept active gates (place + 1) (lane_bits at lane cells_now) (set marks_now place left) blocks_now
-gate-step at lane active left value kept old first count gates place cells cells_now marks blocks marks_now blocks_now rising room within value_is kept_is stays cells_are swept tracked =
+    → length marks_last ≡ length marks_now → (place < 64 * length marks_now → is_marked marks_last place ≡ left) → ((other : ℕ) → other ≢ place → is_marked marks_last other ≡ is_marked marks_now other)
+    → IsSwept active gates place (lane_bits at lane cells) marks
+    → IsTracked gates (lane_bits at lane cells_now) marks_now
+    → IsSwept active gates (place + 1) (lane_bits at lane cells_now) marks_last
+gate-step at lane active left value kept old first count gates place cells cells_now marks marks_now marks_last rising room within value_is kept_is stays cells_are size own others swept tracked =
     let slot : ℕ = (gate_at gates place).slot in
     let now : lane_bits at lane cells_now ≡ set (lane_bits at lane cells) slot (at kept lane) = ap (lane_bits at lane) cells_are ∙ lane-set at lane cells slot kept in
-    subst (λ c. IsSwept active gates (place + 1) c (set marks_now place left) blocks_now) (sym now)
-    (gate-swept active left (at kept lane) first count gates place (lane_bits at lane cells) marks blocks marks_now blocks_now rising room within
+    subst (λ c. IsSwept active gates (place + 1) c marks_last) (sym now)
+    (gate-swept active left (at kept lane) first count gates place (lane_bits at lane cells) marks marks_now marks_last rising room within
     (λ on. kept_is ∙ ap (λ a. cond a (at value lane) (at old lane)) on ∙ value_is)
     (λ off. ap (λ v. at v lane) (stays off) ∙ value_is)
-    swept (subst (λ c. IsTracked gates c marks_now blocks_now) now tracked))
+    size own others
+    swept (subst (λ c. IsTracked gates c marks_now) now tracked))
 
 pub gate-idle : {V : Type 0} (at : V → ℕ → Bool) (lane : ℕ) (active : Bool) (value kept old : V) (slot : ℕ) (cells cells_now : List V)
     → at kept lane ≡ cond active (at value lane) (at old lane) → at old lane ≡ cell_at (lane_bits at lane cells) slot → cells_now ≡ set cells slot kept → active ≡ false

@@ -1,10 +1,9 @@
 -- What a lane has once registers of 16 bits have theirs, and once clocked items have acted.
-use Rattle.std.proofs.Common.{◌≡◌, ℕ, ◌<◌, Bool, true, false, cond, List, [], ap, fold, get_or, refl, set, subst, sym, ◌∙◌}
+use Rattle.std.proofs.Common.{◌≡◌, ℕ, Bool, true, false, cond, List, [], ap, fold, refl, subst, sym, ◌∙◌}
 use Rattle.std.specs.Prelude.{map}
 use Rattle.vlog_plan.specs.declared.event.Event.{Event}
 use Rattle.vlog_plan.specs.Steps.{put_written, read_slot, written_by}
 use Rattle.vlog_cells.specs.declared.groups.Group.{Group}
-use Rattle.vlog_cells.specs.Circuits.{ArePartsAt}
 use Rattle.vlog_cells.specs.Passing.{IsClocked, IsStored}
 
 -- the same of equal lists

@@ -1,19 +1,19 @@
 -- Wires that have their values show what the wires of the text have.
-use Rattle.std.proofs.Common.{◌≡◌, ℕ, zero, suc, ◌+◌, ◌-◌, ◌*◌, ◌<◌, ◌≤◌, Bool, true, false, cond, eqb, List, [], ◌∷◌, ◌++◌, Option, Some, None, ap, ap₂, arith, drop, flat_map, fold, get_or, inl, inr, length, refl, set, subst, sym, take, ◌∙◌}
+use Rattle.std.proofs.Common.{◌≡◌, ℕ, zero, suc, ◌+◌, ◌-◌, ◌<◌, ◌≤◌, Bool, true, false, cond, eqb, List, [], ◌∷◌, ◌++◌, ap, ap₂, arith, flat_map, fold, inl, inr, length, refl, set, subst, sym, ◌∙◌}
 use Rattle.std.specs.Prelude.{◌||◌, map}
 use Rattle.std.proofs.lemmas.Bool.{cases_Bool, cases_eq, cases_lt, eq-eqb, eqb-true}
-use Rattle.std.proofs.lemmas.List.{drop_at, ext_get_or, get_or-append-add, get_or-drop, get_or-map, get_or-set_other, get_or-set_same, get_or-take, get_or_append_left, get_or_at, get_or_past, length-append, length-drop, length-map, length-set, length-take-le, set-append_left, take-append-drop}
+use Rattle.std.proofs.lemmas.List.{ext_get_or, get_or-append-add, get_or-map, get_or-set_other, get_or-set_same, get_or_append_left, length-append, length-set}
 use Rattle.vlog_plan.specs.declared.gates.Gate.{Gate}
 use Rattle.vlog_plan.specs.declared.plan.Wire.{Wire}
-use Rattle.vlog_plan.specs.Cells.{cell_at, cells_of, gate_of, gate_value, parts_below, tail_of, zero_cell}
+use Rattle.vlog_plan.specs.Cells.{cell_at, cells_of, gate_of, gate_value, tail_of}
 use Rattle.vlog_plan.specs.Steps.{rule_value, wire_slot}
 use Rattle.vlog_plan.specs.Values.{bit_of, number_of}
-use Rattle.vlog_plan.proofs.Cells.{AreWords, gate-same, length-parts}
-use Rattle.vlog_cells.specs.Circuits.{AreSources, kept_gate, shown_by}
-use Rattle.vlog_cells.specs.Marks.{AreBefore, AreRising, IsEven, StaySources, gate_at, has, no_gate, touches, AreWithin}
+use Rattle.vlog_plan.proofs.Cells.{AreWords, gate-same}
+use Rattle.vlog_cells.specs.Circuits.{kept_gate, shown_by}
+use Rattle.vlog_cells.specs.Marks.{AreBefore, AreRising, IsEven, gate_at, has, no_gate, touches, AreWithin}
 use Rattle.vlog_cells.specs.Resolved.{resolved_gate}
-use Rattle.vlog_cells.specs.Roots.{copied, first_roots, root, root_step}
-use Rattle.vlog_cells.proofs.Joining.{AreBelow, AreNumbered, AreRoots, Follows, copied-is, numbered-end, roots-own}
+use Rattle.vlog_cells.specs.Roots.{root}
+use Rattle.vlog_cells.proofs.Joining.{AreBelow, AreNumbered, Follows, copied-is}
 use Rattle.vlog_cells.proofs.Joining.Follows.{keeps, copies}
 
 -- ---- the wires that don't copy

@@ -33,7 +33,7 @@ outputs_in {g = g} board lane = lane_bits g.at lane board.outputs.items
 
 -- the wires of a lane that aren't marked have their values
 abbrev pub IsTrackedIn : {V : Type 0} {g : Ghosts V} → Board V g → ℕ → Type 0
-IsTrackedIn board lane = IsTracked board.circuit.gates.items (cells_in board lane) board.marks.items board.blocks.items
+IsTrackedIn board lane = IsTracked board.circuit.gates.items (cells_in board lane) board.marks.items
 
 -- the board has the slots of the module, and a lane the values of the entry in their cells
 pub record Shows {V : Type 0} {g : Ghosts V} (board : Board V g) (lane : ℕ) (m : Parts) (entry : Entry) : Type 0 where
@@ -78,7 +78,7 @@ pub record IsSettledIn {V : Type 0} {g : Ghosts V} (active : Bool) (lane : ℕ) 
   pub outputs : outputs_in after lane ≡ outputs_in before lane
   pub idle : active ≡ false → cells_in after lane ≡ cells_in before lane
   pub settled : (first count : ℕ) → AreRising first count before.circuit.gates.items → count ≤ length (cells_in before lane) → IsTrackedIn before lane
-      → IsSettled active first count before.circuit.gates.items before.circuit.settles.items (cells_in before lane) (cells_in after lane) after.marks.items after.blocks.items
+      → IsSettled active first count before.circuit.gates.items before.circuit.settles.items (cells_in before lane) (cells_in after lane) after.marks.items
 
 -- outputs
 pub record IsShownIn {V : Type 0} {g : Ghosts V} (active : Bool) (lane : ℕ) (before after : Board V g) : Type 0 where
@@ -87,7 +87,6 @@ pub record IsShownIn {V : Type 0} {g : Ghosts V} (active : Bool) (lane : ℕ) (b
   pub words : words_in after lane ≡ words_in before lane
   pub memories : memories_in after lane ≡ memories_in before lane
   pub marks : after.marks.items ≡ before.marks.items
-  pub blocks : after.blocks.items ≡ before.blocks.items
 
 -- all of an event that changes its input
 pub record IsChangedIn {V : Type 0} {g : Ghosts V} (event : Event) (lane : ℕ) (before after : Board V g) : Type 0 where
@@ -98,5 +97,5 @@ pub record IsChangedIn {V : Type 0} {g : Ghosts V} (event : Event) (lane : ℕ) 
   pub size : length between ≡ length (cells_in before lane)
   pub clocked : IsClocked true before.circuit.bits event group (words_in before lane) (words_in after lane) (memories_in before lane) (memories_in after lane) (cells_in before lane) between
   pub settled : (first count : ℕ) → AreRising first count before.circuit.gates.items → count ≤ length (cells_in before lane) → IsTrackedIn before lane
-      → IsSettled true first count before.circuit.gates.items before.circuit.settles.items between (cells_in after lane) after.marks.items after.blocks.items
+      → IsSettled true first count before.circuit.gates.items before.circuit.settles.items between (cells_in after lane) after.marks.items
   pub outputs : outputs_in after lane ≡ map (operand_value (cells_in after lane) []) before.circuit.outputs.items

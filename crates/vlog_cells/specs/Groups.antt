@@ -1,5 +1,5 @@
 -- What an event runs: the clocked items whose edge it is, over cells.
-use Rattle.std.specs.Prelude.{◌≡◌, ℕ, Bool, ◌&&◌, List, [], ◌∷◌, flat_map, nat_lt, if◌then◌else◌}
+use Rattle.std.specs.Prelude.{◌≡◌, ℕ, ◌&&◌, List, [], ◌∷◌, flat_map, nat_lt, if◌then◌else◌}
 use Rattle.vlog_plan.specs.declared.event.Event.{Event}
 use Rattle.vlog_plan.specs.declared.plan.Flip.{Flip}
 use Rattle.vlog_plan.specs.declared.plan.Read.{Read}

@@ -1,7 +1,8 @@
 -- Marks on wires, and when wires have their values.
-use Rattle.std.specs.Prelude.{◌≡◌, ℕ, ◌+◌, ◌*◌, ◌/◌, ◌<◌, ◌≤◌, Bool, true, false, ◌&&◌, ◌||◌, ◌==◌, List, [], ◌∷◌, ◌++◌, Vec, fold, get_or, length, map, slice_set, if◌then◌else◌}
+use Rattle.std.specs.Prelude.{◌≡◌, ℕ, ◌+◌, ◌*◌, ◌/◌, ◌%◌, ◌<◌, ◌≤◌, Bool, true, false, ◌||◌, ◌==◌, List, [], ◌∷◌, ◌++◌, Vec, fold, get_or, length, map, slice_set}
 use Rattle.std.specs.Global.{Global}
 use Rattle.vlog_plan.specs.Cells.{cell_at, gate_value}
+use Rattle.vlog_plan.specs.Values.{bit_of}
 use Rattle.vlog_plan.specs.declared.gates.Gate.{Gate}
 
 -- ---- wires
@@ -46,27 +47,19 @@ with_reader place lists cell = slice_set lists cell (get_or lists cell [] ++ pla
 abbrev pub with_gate : ℕ → List (List ℕ) → Gate → List (List ℕ)
 with_gate place lists gate = with_reader place (fold (with_reader place) lists gate.ins) gate.slot
 
--- ---- marks
+-- ---- marks: a word has those of 64 wires, that of the first in its lowest bit
 
-abbrev pub mark_gate : List Bool → ℕ → List Bool
-mark_gate marks place = slice_set marks place true
-
-abbrev pub mark_block : List Bool → ℕ → List Bool
-mark_block blocks place = slice_set blocks (place / 64) true
-
--- a wire is marked where both it and its block are
-abbrev pub is_marked : List Bool → List Bool → ℕ → Bool
-is_marked marks blocks place = get_or marks place false && get_or blocks (place / 64) false
+abbrev pub is_marked : List ℕ → ℕ → Bool
+is_marked marks place = bit_of (get_or marks (place / 64) 0) (place % 64)
 
 -- each wire that isn't marked has its value
-pub record IsTracked (gates : List Gate) (cells marks blocks : List Bool) : Type 0 where
-  pub room : length gates ≤ 64 * length blocks
-  pub marks_room : length marks ≡ 64 * length blocks
-  pub even : (place : ℕ) → place < length gates → is_marked marks blocks place ≡ false → IsEven cells (gate_at gates place)
+pub record IsTracked (gates : List Gate) (cells : List Bool) (marks : List ℕ) : Type 0 where
+  pub room : length gates ≤ 64 * length marks
+  pub even : (place : ℕ) → place < length gates → is_marked marks place ≡ false → IsEven cells (gate_at gates place)
 
 -- and in an active lane so do the first ones, marked or not
-pub record IsSwept (active : Bool) (gates : List Gate) (end : ℕ) (cells marks blocks : List Bool) : Type 0 where
-  pub tracked : IsTracked gates cells marks blocks
+pub record IsSwept (active : Bool) (gates : List Gate) (end : ℕ) (cells : List Bool) (marks : List ℕ) : Type 0 where
+  pub tracked : IsTracked gates cells marks
   pub done : active ≡ true → (place : ℕ) → place < end → place < length gates → IsEven cells (gate_at gates place)
 
 -- ---- the order of wires: there are so many names, and the cells behind theirs aren't wires'

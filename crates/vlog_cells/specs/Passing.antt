@@ -26,7 +26,7 @@ pub record IsClocked (active : Bool) (bits : ℕ) (event : Event) (group : Group
   pub are : after ≡ (if active then slice_set (fold (flip_slot event before []) stored group.flips.items) event.pin event.bit else stored)
 
 -- the wires have their values in an active lane, and registers that wires set at once the bits that these give them
-pub record IsSettled (active : Bool) (first count : ℕ) (gates : List Gate) (settles : List Settle) (before after marks blocks : List Bool) : Type 0 where
+pub record IsSettled (active : Bool) (first count : ℕ) (gates : List Gate) (settles : List Settle) (before after : List Bool) (marks : List ℕ) : Type 0 where
   -- the cells once those of wires have theirs
   pub wired : List Bool
   pub size : length wired ≡ length before
@@ -34,4 +34,4 @@ pub record IsSettled (active : Bool) (first count : ℕ) (gates : List Gate) (se
   pub even : active ≡ true → (place : ℕ) → place < length gates → IsEven wired (gate_at gates place)
   pub idle : active ≡ false → wired ≡ before
   pub are : after ≡ (if active then fold (settle_slot wired) wired settles else wired)
-  pub tracked : IsTracked gates after marks blocks
+  pub tracked : IsTracked gates after marks

@@ -1,5 +1,5 @@
 -- What there is of a circuit at the start.
-use Rattle.std.specs.Prelude.{◌≡◌, ◌<◌, ◌+◌, ◌*◌, ◌≤◌, ℕ, Bool, List, [], get_or, length, map, true}
+use Rattle.std.specs.Prelude.{◌≡◌, ◌<◌, ◌+◌, ◌*◌, ◌/◌, ◌≤◌, ℕ, Bool, List, [], get_or, length, map, true}
 use Rattle.vlog_cells.specs.Circuits.{IsCircuit}
 use Rattle.vlog_cells.specs.Lanes.{AreLanes, lane_bits, list_of}
 use Rattle.vlog_cells.specs.Marks.{AreRising}
@@ -16,11 +16,11 @@ pub record IsStarted {V : Type 0} (lanes : ℕ) (at : V → ℕ → Bool) (layou
   pub rising : length wires.circuit.rising.items ≡ layout.input_count
   pub falling : length wires.circuit.falling.items ≡ layout.input_count
   pub cells_room : length wires.cells.items ≡ length bits + 16 * length words + 2
-  pub marks_room : length wires.marks.items ≡ 64 * length wires.blocks.items
+  pub marks_room : length wires.marks.items ≡ length wires.circuit.gates.items / 64 + 1
   pub flips_room : length layout.plan.flips.items ≤ length wires.changes.items
   pub settles_room : length layout.plan.settles.items ≤ length wires.changes.items
   pub settled : (lane count : ℕ) → lane < lanes → AreRising layout.first_wire count wires.circuit.gates.items → count ≤ length bits
-      → IsSettled true layout.first_wire count wires.circuit.gates.items wires.circuit.settles.items (cells_of bits words) (lane_bits at lane wires.cells.items) wires.marks.items wires.blocks.items
+      → IsSettled true layout.first_wire count wires.circuit.gates.items wires.circuit.settles.items (cells_of bits words) (lane_bits at lane wires.cells.items) wires.marks.items
 
 -- and each lane has outputs, these words and these memories, and there is room for writes
 pub record AreStarted {V : Type 0} (lanes : ℕ) (at : V → ℕ → Bool) (layout : Layout) (bits : List Bool) (words : List ℕ) (memories : List (List ℕ)) (made : Started V) : Type 0 where

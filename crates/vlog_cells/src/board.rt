@@ -1,5 +1,5 @@
 // A module that runs in so many lanes.
-ghost use Rattle.std.specs.Prelude.{◌≡◌, ◌<◌, ◌≤◌, ◌+◌, ◌*◌, ℕ, IfOk, false, get_or, is_some, length, map, not, true, vec_len, if◌then◌else◌};
+ghost use Rattle.std.specs.Prelude.{◌≡◌, ◌<◌, ◌≤◌, ◌+◌, ◌*◌, ◌/◌, ℕ, IfOk, false, get_or, is_some, length, map, not, true, vec_len, if◌then◌else◌};
 ghost use Rattle.std.specs.Option.{option_map};
 ghost use Rattle.vlog_cells.specs.Circuits.{IsCircuit};
 ghost use Rattle.vlog_cells.specs.Lanes.{AreLanes};
@@ -12,6 +12,7 @@ use crate::parts::show_cells;
 use crate::reading::{cell_at, part};
 use crate::settling::settle;
 use crate::start::{Started, Wires, started_of};
+use crate::trigger::Trigger;
 use crate::value::Value;
 use std::alloc::{AllocError, Global};
 use vlog_module::Module;
@@ -26,9 +27,8 @@ pub struct Board<V: Value> {
     circuit: Circuit,
     /// The bits of names, then those of words, 0 and 1. A wire that copies has no bits of its own.
     cells: Vec<V>,
-    /// Wires that may not have their values, and blocks of 64 of them.
-    marks: Vec<bool>,
-    blocks: Vec<bool>,
+    /// Marks on wires that may not have their values, 64 in a word.
+    marks: Vec<u64>,
     /// The registers of 16 bits of each lane.
     words: Vec<Vec<u16>>,
     memories: Vec<Vec<Memory>>,
@@ -43,7 +43,7 @@ pub struct Board<V: Value> {
     ghost rising_room: { vec_len circuit.rising ≡ layout.input_count },
     ghost falling_room: { vec_len circuit.falling ≡ layout.input_count },
     ghost cells_room: { vec_len cells ≡ circuit.bits + 16 * vec_len next_words + 2 },
-    ghost marks_room: { vec_len marks ≡ 64 * vec_len blocks },
+    ghost marks_room: { vec_len marks ≡ vec_len circuit.gates / 64 + 1 },
     ghost lanes: { AreLanes V.LANES (vec_len next_words) words.items },
     ghost memory_lanes: { vec_len memories ≡ V.LANES },
     ghost writes_room: { vec_len written ≡ vec_len layout.plan.writes },
@@ -86,7 +86,6 @@ impl<V: Value> Board<V> {
             circuit,
             cells,
             marks,
-            blocks,
             changes,
         } = wires;
         Ok(Board {
@@ -94,7 +93,6 @@ impl<V: Value> Board<V> {
             circuit,
             cells,
             marks,
-            blocks,
             words,
             memories,
             outputs,
@@ -145,15 +143,17 @@ impl<V: Value> Board<V> {
             return;
         }
         let circuit = &self.circuit;
-        clock(
-            circuit.group(event),
-            &circuit.readers,
-            circuit.bits,
+        let trigger = Trigger {
             event,
             active,
+            group: circuit.group(event),
+            readers: &circuit.readers,
+            bits: circuit.bits,
+        };
+        clock(
+            &trigger,
             &mut self.cells,
             &mut self.marks,
-            &mut self.blocks,
             &mut self.words,
             &mut self.next_words,
             &mut self.memories,
@@ -172,7 +172,6 @@ impl<V: Value> Board<V> {
             active,
             &mut self.cells,
             &mut self.marks,
-            &mut self.blocks,
             &mut self.changes,
         );
     }

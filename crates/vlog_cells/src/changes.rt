@@ -163,15 +163,14 @@ pub(crate) fn write_lanes<V: Value>(
     readers: &[Vec<usize>],
     change: Change<V>,
     cells: &mut [V],
-    marks: &mut [bool],
-    blocks: &mut [bool],
+    marks: &mut [u64],
 )
     ensures cells { (lane : ℕ) → lane < V.LANES → lane_bits V.at lane cells.new ≡ change_slot V.at lane (lane_bits V.at lane cells.old) change }
-    ensures tracked { (lane : ℕ) (gates : List gate_of) → IsRead gates readers.now → IsTracked gates (lane_bits V.at lane cells.old) marks.old blocks.old
-        → IsTracked gates (lane_bits V.at lane cells.new) marks.new blocks.new }
+    ensures tracked { (lane : ℕ) (gates : List gate_of) → IsRead gates readers.now → IsTracked gates (lane_bits V.at lane cells.old) marks.old
+        → IsTracked gates (lane_bits V.at lane cells.new) marks.new }
 {
     let value = V::select(change.lanes, change.value, cell_at(cells, change.cell));
-    write(readers, change.cell, value, cells, marks, blocks);
+    write(readers, change.cell, value, cells, marks);
 }
 
 /// Changes cells.
@@ -179,14 +178,13 @@ pub(crate) fn commit<V: Value>(
     readers: &[Vec<usize>],
     changes: &[Change<V>],
     cells: &mut [V],
-    marks: &mut [bool],
-    blocks: &mut [bool],
+    marks: &mut [u64],
 )
     ensures cells { (lane : ℕ) → lane < V.LANES → lane_bits V.at lane cells.new ≡ fold (change_slot V.at lane) (lane_bits V.at lane cells.old) changes.now }
-    ensures tracked { (lane : ℕ) (gates : List gate_of) → IsRead gates readers.now → IsTracked gates (lane_bits V.at lane cells.old) marks.old blocks.old
-        → IsTracked gates (lane_bits V.at lane cells.new) marks.new blocks.new }
+    ensures tracked { (lane : ℕ) (gates : List gate_of) → IsRead gates readers.now → IsTracked gates (lane_bits V.at lane cells.old) marks.old
+        → IsTracked gates (lane_bits V.at lane cells.new) marks.new }
 {
     for change in changes {
-        write_lanes(readers, *change, cells, marks, blocks);
+        write_lanes(readers, *change, cells, marks);
     }
 }

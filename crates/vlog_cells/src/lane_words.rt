@@ -1,5 +1,5 @@
 // Words with a bit for each of sixty-four lanes.
-ghost use Rattle.std.specs.Prelude.{◌≡◌, ◌<◌, ◌≤◌, ◌+◌, ℕ, [], ◌∷◌, if◌then◌else◌};
+ghost use Rattle.std.specs.Prelude.{◌≡◌, ◌<◌, ◌≤◌, ◌+◌, ◌==◌, ℕ, [], ◌∷◌, if◌then◌else◌};
 ghost use Rattle.vlog_plan.specs.Values.{bit_of, number_of};
 
 /// The bit of a lane; lanes count from 0.
@@ -18,10 +18,26 @@ pub(crate) fn one_of(choice: u64, one: u64, other: u64) -> u64
 }
 
 /// A word with the same bit in each lane.
-fn every(bit: bool) -> u64
+pub(crate) fn every(bit: bool) -> u64
     ensures { (lane : ℕ) → lane < 64 → bit_of result lane ≡ bit }
 {
     if bit { u64::MAX } else { 0 }
+}
+
+/// A word with a 1 in one lane alone.
+pub(crate) fn only(lane: u32) -> u64
+    requires { lane < 64 }
+    ensures { (other : ℕ) → bit_of result other ≡ (other == lane) }
+{
+    1 << lane
+}
+
+/// A word with this bit in one lane, and its own in the others.
+pub(crate) fn with_bit(word: u64, lane: u32, bit: bool) -> u64
+    requires { lane < 64 }
+    ensures { (other : ℕ) → other < 64 → bit_of result other ≡ (if other == lane then bit else bit_of word other) }
+{
+    one_of(only(lane), every(bit), word)
 }
 
 /// Bit `k` of a table.

@@ -23,6 +23,7 @@ mod settling;
 mod start;
 mod storing;
 mod sweep;
+mod trigger;
 mod value;
 
 pub use board::Board;

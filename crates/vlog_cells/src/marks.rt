@@ -1,22 +1,48 @@
-// Marks on wires whose cells may not have their values: a wire is marked where both it and its block of 64 wires are.
-ghost use Rattle.std.specs.Prelude.{◌≡◌, ◌<◌, ◌≤◌, ◌*◌, ℕ, [], IfOk, List, false, fold, get_or, length, slice_set, true};
+// Marks on wires whose cells may not have their values. A word has the marks of 64 wires, that of the first in its lowest bit.
+ghost use Rattle.std.specs.Prelude.{◌≡◌, ◌≢◌, ◌<◌, ◌≤◌, ◌+◌, ◌*◌, ◌/◌, ℕ, [], IfOk, List, get_or, length, slice_set, true, false};
 ghost use Rattle.vlog_cells.specs.Lanes.{lane_bits};
-ghost use Rattle.vlog_cells.specs.Marks.{IsRead, IsTracked, lists_of, mark_block, mark_gate};
+ghost use Rattle.vlog_cells.specs.Marks.{IsRead, IsTracked, has, is_marked, lists_of};
+ghost use Rattle.vlog_plan.specs.Values.{bit_of};
 ghost use Rattle.vlog_plan.specs.declared.gates.Gate.{Gate as gate_of};
 
+use crate::lane_words::with_bit;
 use crate::reading::{cell_at, set_cell};
 use crate::value::Value;
 use std::alloc::{AllocError, Global};
-use vlog_plan::set_bit;
+
+/// Sets the mark of a wire, where there is one, or takes it away.
+pub(crate) fn set_mark(marks: &mut [u64], place: usize, mark: bool)
+    ensures own { place < 64 * length marks.old → is_marked marks.new place ≡ mark }
+    ensures others { (other : ℕ) → other ≢ place → is_marked marks.new other ≡ is_marked marks.old other }
+{
+    let block = place / 64;
+    if block < marks.len() {
+        marks[block] = with_bit(marks[block], (place % 64) as u32, mark);
+    }
+}
+
+/// The first bit of a word from one on that is 1, and 64 where there is none; bit 0 is the lowest.
+pub(crate) fn next_one(word: u64, from: u32) -> u32
+    requires { from ≤ 64 }
+    ensures past { from ≤ result }
+    ensures last { result ≤ 64 }
+    ensures none { (k : ℕ) → from ≤ k → k < result → bit_of word k ≡ false }
+{
+    let left = if from < 64 { word >> from } else { 0 };
+    if left == 0 {
+        64
+    } else {
+        from + left.trailing_zeros()
+    }
+}
 
 /// Marks wires.
-fn mark_all(places: &[usize], marks: &mut [bool], blocks: &mut [bool])
-    ensures marks { marks.new ≡ fold mark_gate marks.old places.now }
-    ensures blocks { blocks.new ≡ fold mark_block blocks.old places.now }
+fn mark_all(places: &[usize], marks: &mut [u64])
+    ensures set { (place : ℕ) → place < 64 * length marks.old → has places.now place ≡ true → is_marked marks.new place ≡ true }
+    ensures kept { (place : ℕ) → is_marked marks.old place ≡ true → is_marked marks.new place ≡ true }
 {
     for place in places {
-        set_bit(marks, *place, true);
-        set_bit(blocks, *place / 64, true);
+        set_mark(marks, *place, true);
     }
 }
 
@@ -37,31 +63,23 @@ pub(crate) fn write<V: Value>(
     cell: usize,
     value: V,
     cells: &mut [V],
-    marks: &mut [bool],
-    blocks: &mut [bool],
+    marks: &mut [u64],
 )
     ensures cells { cells.new ≡ slice_set cells.old cell value }
-    ensures tracked { (lane : ℕ) (gates : List gate_of) → IsRead gates readers.now → IsTracked gates (lane_bits V.at lane cells.old) marks.old blocks.old
-        → IsTracked gates (lane_bits V.at lane cells.new) marks.new blocks.new }
+    ensures tracked { (lane : ℕ) (gates : List gate_of) → IsRead gates readers.now → IsTracked gates (lane_bits V.at lane cells.old) marks.old
+        → IsTracked gates (lane_bits V.at lane cells.new) marks.new }
 {
     if cell_at(cells, cell).differs(value) {
         set_cell(cells, cell, value);
-        mark_all(readers_at(readers, cell), marks, blocks);
+        mark_all(readers_at(readers, cell), marks);
     }
 }
 
-/// Marks on so many wires, all of them set: those of wires, then those of blocks.
-pub(crate) fn marks_of(alloc: Global, count: usize) -> Result<(Vec<bool>, Vec<bool>), AllocError>
-    ensures room { IfOk result (λ made. count ≤ 64 * length made.1.items) }
-    ensures marks_room { IfOk result (λ made. length made.0.items ≡ 64 * length made.1.items) }
-    ensures marks { IfOk result (λ made. (place : ℕ) → place < length made.0.items → get_or made.0.items place false ≡ true) }
-    ensures blocks { IfOk result (λ made. (block : ℕ) → block < length made.1.items → get_or made.1.items block false ≡ true) }
+/// Marks on so many wires, all of them set.
+pub(crate) fn marks_of(alloc: Global, count: usize) -> Result<Vec<u64>, AllocError>
+    ensures room { IfOk result (λ marks. length marks.items ≡ count / 64 + 1) }
+    ensures marks { IfOk result (λ marks. (place : ℕ) → place < 64 * length marks.items → is_marked marks.items place ≡ true) }
 {
-    let mut marks = Vec::new(alloc);
-    let mut blocks = Vec::new(alloc);
-    for _ in 0..count / 64 + 1 {
-        marks.extend_from_slice(&[true; 64])?;
-        blocks.push(true)?;
-    }
-    Ok((marks, blocks))
+    let marks = vec![in alloc; u64::MAX; count / 64 + 1]?;
+    Ok(marks)
 }

@@ -59,15 +59,14 @@ fn write_word<V: Value>(
     word: u16,
     lane: u32,
     cells: &mut [V],
-    marks: &mut [bool],
-    blocks: &mut [bool],
+    marks: &mut [u64],
 )
     requires room { from + 16 < 2 ^ 64 }
     requires within { lane < V.LANES }
     ensures own { lane_bits V.at lane cells.new ≡ with_word (lane_bits V.at lane cells.old) from word 16 }
     ensures others { (other : ℕ) → other < V.LANES → other ≢ lane → lane_bits V.at other cells.new ≡ lane_bits V.at other cells.old }
-    ensures tracked { (other : ℕ) (gates : List gate_of) → IsRead gates readers.now → IsTracked gates (lane_bits V.at other cells.old) marks.old blocks.old
-        → IsTracked gates (lane_bits V.at other cells.new) marks.new blocks.new }
+    ensures tracked { (other : ℕ) (gates : List gate_of) → IsRead gates readers.now → IsTracked gates (lane_bits V.at other cells.old) marks.old
+        → IsTracked gates (lane_bits V.at other cells.new) marks.new }
 {
     for k in 0..16_u32 {
         let change = Change {
@@ -75,7 +74,7 @@ fn write_word<V: Value>(
             lanes: V::only(lane),
             value: V::every(bit_of(word, k)),
         };
-        write_lanes(readers, change, cells, marks, blocks);
+        write_lanes(readers, change, cells, marks);
     }
 }
 
@@ -87,8 +86,7 @@ fn exchange_word<V: Value>(
     word: u16,
     lane: u32,
     cells: &mut [V],
-    marks: &mut [bool],
-    blocks: &mut [bool],
+    marks: &mut [u64],
 )
     requires room { from + 16 < length cells.old }
     requires within { lane < V.LANES }
@@ -96,11 +94,11 @@ fn exchange_word<V: Value>(
         → (k : ℕ) → k < 16 → get_or (lane_bits V.at lane cells.new) (from + k) false ≡ bit_of word k }
     ensures same { (cell : ℕ) → (cell < from + 16 → cell < from) → get_or (lane_bits V.at lane cells.new) cell false ≡ get_or (lane_bits V.at lane cells.old) cell false }
     ensures others { (other : ℕ) → other < V.LANES → other ≢ lane → lane_bits V.at other cells.new ≡ lane_bits V.at other cells.old }
-    ensures tracked { (other : ℕ) (gates : List gate_of) → IsRead gates readers.now → IsTracked gates (lane_bits V.at other cells.old) marks.old blocks.old
-        → IsTracked gates (lane_bits V.at other cells.new) marks.new blocks.new }
+    ensures tracked { (other : ℕ) (gates : List gate_of) → IsRead gates readers.now → IsTracked gates (lane_bits V.at other cells.old) marks.old
+        → IsTracked gates (lane_bits V.at other cells.new) marks.new }
 {
     if before != word {
-        write_word(readers, from, word, lane, cells, marks, blocks);
+        write_word(readers, from, word, lane, cells, marks);
     }
 }
 
@@ -112,8 +110,7 @@ pub(crate) fn write_words<V: Value>(
     words: &[u16],
     lane: u32,
     cells: &mut [V],
-    marks: &mut [bool],
-    blocks: &mut [bool],
+    marks: &mut [u64],
 )
     requires count { length before.now ≡ length words.now }
     requires room { from + 16 * length words.now + 2 ≤ length cells.old }
@@ -121,8 +118,8 @@ pub(crate) fn write_words<V: Value>(
     ensures parts { ArePartsAt from before.now (lane_bits V.at lane cells.old) → ArePartsAt from words.now (lane_bits V.at lane cells.new) }
     ensures same { (cell : ℕ) → (cell < from + 16 * length words.now → cell < from) → get_or (lane_bits V.at lane cells.new) cell false ≡ get_or (lane_bits V.at lane cells.old) cell false }
     ensures others { (other : ℕ) → other < V.LANES → other ≢ lane → lane_bits V.at other cells.new ≡ lane_bits V.at other cells.old }
-    ensures tracked { (other : ℕ) (gates : List gate_of) → IsRead gates readers.now → IsTracked gates (lane_bits V.at other cells.old) marks.old blocks.old
-        → IsTracked gates (lane_bits V.at other cells.new) marks.new blocks.new }
+    ensures tracked { (other : ℕ) (gates : List gate_of) → IsRead gates readers.now → IsTracked gates (lane_bits V.at other cells.old) marks.old
+        → IsTracked gates (lane_bits V.at other cells.new) marks.new }
 {
     for place in 0..words.len() {
         exchange_word(
@@ -133,7 +130,6 @@ pub(crate) fn write_words<V: Value>(
             lane,
             cells,
             marks,
-            blocks,
         );
     }
 }

@@ -1,5 +1,5 @@
 // The wires get their values, then the registers that wires set at once.
-ghost use Rattle.std.specs.Prelude.{◌≡◌, ◌<◌, ◌≤◌, ◌*◌, ℕ, false, length};
+ghost use Rattle.std.specs.Prelude.{◌≡◌, ◌<◌, ◌≤◌, ◌+◌, ◌/◌, ℕ, false, length};
 ghost use Rattle.vlog_cells.specs.Lanes.{lane_bits};
 ghost use Rattle.vlog_cells.specs.Marks.{AreRising, IsRead, IsTracked};
 ghost use Rattle.vlog_cells.specs.Passing.{IsSettled};
@@ -15,25 +15,17 @@ pub(crate) fn settle<V: Value>(
     circuit: &Circuit,
     active: V,
     cells: &mut [V],
-    marks: &mut [bool],
-    blocks: &mut [bool],
+    marks: &mut [u64],
     changes: &mut [Change<V>],
 )
-    requires marks { length marks.old ≡ 64 * length blocks.old }
+    requires marks { length marks.old ≡ length circuit.now.gates.items / 64 + 1 }
     requires changes { length circuit.now.settles.items ≤ length changes.old }
     ensures idle { (lane : ℕ) → lane < V.LANES → V.at active lane ≡ false → lane_bits V.at lane cells.new ≡ lane_bits V.at lane cells.old }
     ensures settled { (lane first count : ℕ) → lane < V.LANES → AreRising first count circuit.now.gates.items → IsRead circuit.now.gates.items circuit.now.readers.items → count ≤ length cells.old
-        → IsTracked circuit.now.gates.items (lane_bits V.at lane cells.old) marks.old blocks.old
-        → IsSettled (V.at active lane) first count circuit.now.gates.items circuit.now.settles.items (lane_bits V.at lane cells.old) (lane_bits V.at lane cells.new) marks.new blocks.new }
+        → IsTracked circuit.now.gates.items (lane_bits V.at lane cells.old) marks.old
+        → IsSettled (V.at active lane) first count circuit.now.gates.items circuit.now.settles.items (lane_bits V.at lane cells.old) (lane_bits V.at lane cells.new) marks.new }
 {
-    run_gates(
-        &circuit.gates,
-        &circuit.readers,
-        active,
-        cells,
-        marks,
-        blocks,
-    );
+    run_gates(&circuit.gates, &circuit.readers, active, cells, marks);
     let count = note_settles(&circuit.settles, active, cells, changes);
-    commit(&circuit.readers, &changes[..count], cells, marks, blocks);
+    commit(&circuit.readers, &changes[..count], cells, marks);
 }

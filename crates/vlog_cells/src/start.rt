@@ -1,7 +1,7 @@
 // What stands in cells at the start, the same in all lanes, and room for what an event changes.
-ghost use Rattle.std.specs.Prelude.{◌≡◌, ◌<◌, ◌≤◌, ◌+◌, ◌*◌, ℕ, IfOk, false, get_or, length, map, replicate, true};
+ghost use Rattle.std.specs.Prelude.{◌≡◌, ◌<◌, ◌≤◌, ◌+◌, ◌*◌, ◌/◌, ℕ, IfOk, false, get_or, length, map, replicate, true};
 ghost use Rattle.vlog_cells.specs.Lanes.{lane_bits};
-ghost use Rattle.vlog_cells.specs.Marks.{AreRising, IsRead};
+ghost use Rattle.vlog_cells.specs.Marks.{AreRising, IsRead, is_marked};
 ghost use Rattle.vlog_cells.specs.Passing.{IsSettled};
 ghost use Rattle.vlog_plan.specs.Cells.{cells_of};
 
@@ -21,8 +21,7 @@ use vlog_plan::{Layout, Memory, Written};
 pub(crate) struct Wires<V: Value> {
     pub(crate) circuit: Circuit,
     pub(crate) cells: Vec<V>,
-    pub(crate) marks: Vec<bool>,
-    pub(crate) blocks: Vec<bool>,
+    pub(crate) marks: Vec<u64>,
     pub(crate) changes: Vec<Change<V>>,
 }
 
@@ -110,19 +109,16 @@ fn changes_room<V: Value>(
 fn settle_first<V: Value>(
     circuit: &Circuit,
     cells: &mut [V],
-    marks: &mut [bool],
-    blocks: &mut [bool],
+    marks: &mut [u64],
     changes: &mut [Change<V>],
 )
-    requires room { length circuit.now.gates.items ≤ 64 * length blocks.old }
-    requires marks_room { length marks.old ≡ 64 * length blocks.old }
-    requires marks { (place : ℕ) → place < length marks.old → get_or marks.old place false ≡ true }
-    requires blocks { (block : ℕ) → block < length blocks.old → get_or blocks.old block false ≡ true }
+    requires room { length marks.old ≡ length circuit.now.gates.items / 64 + 1 }
+    requires marks { (place : ℕ) → place < 64 * length marks.old → is_marked marks.old place ≡ true }
     requires changes { length circuit.now.settles.items ≤ length changes.old }
     ensures { (lane first count : ℕ) → lane < V.LANES → AreRising first count circuit.now.gates.items → IsRead circuit.now.gates.items circuit.now.readers.items → count ≤ length cells.old
-        → IsSettled true first count circuit.now.gates.items circuit.now.settles.items (lane_bits V.at lane cells.old) (lane_bits V.at lane cells.new) marks.new blocks.new }
+        → IsSettled true first count circuit.now.gates.items circuit.now.settles.items (lane_bits V.at lane cells.old) (lane_bits V.at lane cells.new) marks.new }
 {
-    settle(circuit, V::every(true), cells, marks, blocks, changes);
+    settle(circuit, V::every(true), cells, marks, changes);
 }
 
 /// The circuit of a layout with these bits and words, where there is room for the cells of one lane. Its wires have their values.
@@ -139,15 +135,13 @@ pub(crate) fn wires_of<V: Value>(
 {
     let circuit = circuit_of(alloc, layout, bits.len(), words.len())?;
     let mut cells = first_cells(alloc, bits, words, room)?;
-    let made = marks_of(alloc, circuit.gates.len())?;
-    let (mut marks, mut blocks) = made;
+    let mut marks = marks_of(alloc, circuit.gates.len())?;
     let mut changes = changes_room(alloc, layout.plan.flips.len(), layout.plan.settles.len())?;
-    settle_first(&circuit, &mut cells, &mut marks, &mut blocks, &mut changes);
+    settle_first(&circuit, &mut cells, &mut marks, &mut changes);
     Ok(Wires {
         circuit,
         cells,
         marks,
-        blocks,
         changes,
     })
 }

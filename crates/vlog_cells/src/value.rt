@@ -2,7 +2,7 @@
 ghost use Rattle.std.specs.Prelude.{◌≡◌, ◌<◌, ◌==◌, ℕ, Bool, [], ◌∷◌, false, if◌then◌else◌};
 ghost use Rattle.vlog_plan.specs.Values.{bit_of, number_of};
 
-use crate::lane_words::{lane_bit, of_table, one_of};
+use crate::lane_words::{every, lane_bit, of_table, one_of, only};
 use vlog_plan::bit_of;
 
 /// A bit for each of some lanes; lanes count from 0.
@@ -87,11 +87,11 @@ impl Value for u64 {
     const LANES: u32 = 64;
 
     fn every(bit: bool) -> u64 {
-        if bit { u64::MAX } else { 0 }
+        every(bit)
     }
 
     fn only(lane: u32) -> u64 {
-        1 << lane
+        only(lane)
     }
 
     fn select(choice: u64, one: u64, other: u64) -> u64 {

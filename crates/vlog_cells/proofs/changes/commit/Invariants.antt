@@ -8,6 +8,6 @@ use Rattle.vlog_cells.proofs.changes.commit.Given as goal
 abbrev pub invariant-loop-change : goal.invariant-loop-change
 invariant-loop-change g l = record {
   cells : (lane : ℕ) → lane < g.V.Value.LANES → lane_bits g.V.Value.at lane l.cells ≡ fold (change_slot g.V.Value.at lane) (lane_bits g.V.Value.at lane l.initial.cells) (take l.change-index l.changes);
-  tracked : (lane : ℕ) (gates : List Gate) → IsRead gates l.readers → IsTracked gates (lane_bits g.V.Value.at lane l.initial.cells) l.initial.marks l.initial.blocks
-      → IsTracked gates (lane_bits g.V.Value.at lane l.cells) l.marks l.blocks;
+  tracked : (lane : ℕ) (gates : List Gate) → IsRead gates l.readers → IsTracked gates (lane_bits g.V.Value.at lane l.initial.cells) l.initial.marks
+      → IsTracked gates (lane_bits g.V.Value.at lane l.cells) l.marks;
 }

@@ -1,4 +1,4 @@
-use Rattle.std.proofs.Common.{[], Bool, false, ap, cond, sym, ◌∙◌}
+use Rattle.std.proofs.Common.{[], false, ap, cond, sym, ◌∙◌}
 use Rattle.vlog_plan.specs.Steps.{is_edge_of, operand_value, table_value}
 use Rattle.vlog_cells.specs.Lanes.{lane_bits}
 use Rattle.vlog_cells.proofs.Steps.{flip-acts, flip-off, flip-rests}

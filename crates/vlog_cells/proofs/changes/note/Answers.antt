@@ -1,4 +1,4 @@
-use Rattle.std.proofs.Common.{◌≡◌, ap, fold, sym, take, ◌∙◌}
+use Rattle.std.proofs.Common.{ap, fold, sym, take, ◌∙◌}
 use Rattle.vlog_cells.specs.Changes.{change_slot, changed_by}
 use Rattle.vlog_cells.proofs.Steps.{fold-noted}
 use Rattle.vlog_cells.proofs.changes.note.Goals as goal

@@ -1,8 +1,8 @@
-use Rattle.std.proofs.Common.{ℕ, Bool, List, [], false, ap, arith, fold, get_or, refl, sym, take, ◌∙◌}
+use Rattle.std.proofs.Common.{false, ap, arith, fold, sym, take, ◌∙◌}
 use Rattle.std.proofs.lemmas.List.Sums.{fold_more}
 use Rattle.vlog_plan.specs.Steps.{settle_slot}
 use Rattle.vlog_plan.specs.declared.plan.Settle.{Settle}
-use Rattle.vlog_cells.specs.Changes.{change_slot, changed_by, step_in}
+use Rattle.vlog_cells.specs.Changes.{changed_by, step_in}
 use Rattle.vlog_cells.specs.Lanes.{lane_bits}
 use Rattle.vlog_cells.proofs.changes.note_settles.Goals as goal
 

@@ -1,4 +1,4 @@
-use Rattle.std.proofs.Common.{◌≡◌, ◌<◌, ◌≤◌, ℕ, Bool, List, [], fold, take}
+use Rattle.std.proofs.Common.{◌≡◌, ◌<◌, ◌≤◌, ℕ, Bool, List, fold, take}
 use Rattle.vlog_plan.specs.Steps.{settle_slot}
 use Rattle.vlog_cells.specs.Changes.{change_slot, step_in}
 use Rattle.vlog_cells.specs.Lanes.{lane_bits}

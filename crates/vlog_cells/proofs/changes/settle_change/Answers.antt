@@ -1,4 +1,4 @@
-use Rattle.std.proofs.Common.{Bool, true, false, ap, cond, get_or, refl, sym, ◌∙◌}
+use Rattle.std.proofs.Common.{true, false, ap, cond, get_or, refl, ◌∙◌}
 use Rattle.vlog_cells.specs.Lanes.{lane_bits}
 use Rattle.vlog_cells.proofs.Steps.{flip-acts, flip-rests}
 use Rattle.vlog_cells.proofs.changes.settle_change.Goals as goal

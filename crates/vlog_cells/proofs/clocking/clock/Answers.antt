@@ -1,4 +1,4 @@
-use Rattle.std.proofs.Common.{◌≡◌, List, Bool, [], ap, ap₂, arith, cond, fold, set, ◌∙◌}
+use Rattle.std.proofs.Common.{List, Bool, [], ap, ap₂, cond, fold, set, ◌∙◌}
 use Rattle.vlog_plan.specs.Steps.{flip_slot}
 use Rattle.vlog_cells.specs.Changes.{step_in}
 use Rattle.vlog_cells.specs.Lanes.{lane_bits}
@@ -9,11 +9,11 @@ use Rattle.vlog_cells.proofs.clocking.clock.Goals as goal
 pub returns-clause-clocked : goal.returns-clause-clocked
 returns-clause-clocked g c lane within =
     let at = g.V.Value.at in
-    let active = at c.args.active lane in
-    let event = c.args.event in
+    let active = at c.args.trigger.now.active lane in
+    let event = c.args.trigger.now.event in
     let before : List Bool = lane_bits at lane c.args.cells.now in
     let stored : List Bool = lane_bits at lane c.store_all.new.cells in
-    let flips = c.args.group.now.flips.items in
+    let flips = c.args.trigger.now.group.now.flips.items in
     record {
       stored = stored;
       known = c.store_all.ensures.stored lane within;

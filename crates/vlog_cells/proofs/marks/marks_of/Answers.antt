@@ -1,12 +1,13 @@
-use Rattle.std.proofs.Common.{◌≡◌, ◌+◌, ◌*◌, ℕ, true, [], ◌∷◌, ◌++◌, ap, arith, replicate, ◌∙◌}
-use Rattle.std.proofs.lemmas.List.{replicate-append-replicate, replicate_more}
+use Rattle.std.proofs.Common.{◌+◌, ◌/◌, ℕ, List, ap, arith, length, ◌∙◌}
+use Rattle.std.proofs.lemmas.List.{length-replicate}
+use Rattle.vlog_cells.specs.Marks.{is_marked}
+use Rattle.vlog_cells.proofs.Bits.{bit-ones}
+use Rattle.vlog_cells.proofs.Marked.{marked-full}
 use Rattle.vlog_cells.proofs.marks.marks_of.Goals as goal
 
-pub loop-preserved : goal.loop-preserved
-loop-preserved c =
-    let more : 64 * c.loop.counter + 64 ≡ 64 * (c.loop.counter + 1) = omega arith in
-    record {
-      marks = c.in_ok-extend_from_slice.ensures.items ∙ ap (λ marks. marks ++ replicate 64 true) c.loop.invariant.marks
-          ∙ replicate-append-replicate (64 * c.loop.counter) 64 true ∙ ap (λ count. replicate count true) more;
-      blocks = c.in_ok-push.ensures.items ∙ ap (λ blocks. blocks ++ true ∷ []) c.loop.invariant.blocks ∙ replicate_more c.loop.counter true;
-    }
+pub returns-clause-marks : goal.returns-clause-marks
+returns-clause-marks c place within =
+    let count : ℕ = c.args.count / 64 + 1 in
+    let word : ℕ = 18446744073709551615 in
+    let items = c.in_ok-marks.ensures.items_if_clones_equal (λ y same. same) in
+    ap (λ marks. is_marked marks place) items ∙ marked-full count word bit-ones place (omega (arith, within, ap (λ (list : List ℕ). length list) items, length-replicate count word))

@@ -1,4 +1,4 @@
-use Rattle.std.proofs.Common.{◌≡◌, ◌<◌, ℕ, [], Bool, List, false, arith, ap, ap₂, cond, get_or, length, sym, ◌∙◌}
+use Rattle.std.proofs.Common.{◌≡◌, ◌<◌, [], Bool, List, false, arith, ap, ap₂, cond, length, sym, ◌∙◌}
 use Rattle.std.specs.Prelude.{map}
 use Rattle.std.proofs.lemmas.List.{get_or-map, length-map}
 use Rattle.vlog_plan.specs.declared.plan.Operand.{Operand}

@@ -1,4 +1,4 @@
-use Rattle.std.proofs.Common.{◌≡◌, ◌<◌, ◌+◌, ◌++◌, ◌∷◌, ℕ, [], Bool, List, ap, ap₂, arith, get_or, length, sym, take, take_all, ◌∙◌}
+use Rattle.std.proofs.Common.{◌<◌, ◌+◌, ◌++◌, ◌∷◌, ℕ, [], Bool, List, ap, ap₂, arith, length, sym, take, take_all, ◌∙◌}
 use Rattle.std.proofs.lemmas.List.{map_more, take_more_set}
 use Rattle.vlog_plan.specs.Cells.{cell_at}
 use Rattle.vlog_cells.specs.Circuits.{shown_by}

@@ -1,4 +1,4 @@
-use Rattle.std.proofs.Common.{◌≡◌, ◌+◌, ◌<◌, suc, List, Bool, true, false, ap, ap₂, arith, cond, refl, set, ◌∙◌}
+use Rattle.std.proofs.Common.{◌≡◌, ◌+◌, suc, List, Bool, ap, ap₂, arith, cond, refl, set, ◌∙◌}
 use Rattle.std.proofs.lemmas.Bool.{eq-eqb, ne_eqb}
 use Rattle.vlog_cells.specs.Changes.{with_word}
 use Rattle.vlog_cells.specs.Lanes.{lane_bits}

@@ -1,4 +1,4 @@
-use Rattle.std.proofs.Common.{◌≡◌, ◌+◌, ◌-◌, ◌*◌, ◌/◌, ◌%◌, ◌<◌, ℕ, List, Bool, false, ap, ap₂, arith, get_or, inl, inr, length, refl, sym, ◌∙◌}
+use Rattle.std.proofs.Common.{◌≡◌, ◌+◌, ◌-◌, ◌*◌, ◌/◌, ◌%◌, ◌<◌, ℕ, List, false, ap, ap₂, arith, get_or, inl, inr, refl, sym, ◌∙◌}
 use Rattle.std.proofs.lemmas.Bool.{cases_lt}
 use Rattle.vlog_plan.specs.Cells.{part_at}
 use Rattle.vlog_plan.specs.Values.{bit_of}

@@ -13,6 +13,6 @@ invariant-loop-place g l = record {
       × (16 * l.place < part + 1 → get_or (lane_bits g.V.Value.at l.lane l.cells) (l.from + part) false ≡ part_at l.before part);
   same : (cell : ℕ) → (cell < l.from + 16 * length l.words → cell < l.from) → get_or (lane_bits g.V.Value.at l.lane l.cells) cell false ≡ get_or (lane_bits g.V.Value.at l.lane l.initial.cells) cell false;
   others : (other : ℕ) → other < g.V.Value.LANES → other ≢ l.lane → lane_bits g.V.Value.at other l.cells ≡ lane_bits g.V.Value.at other l.initial.cells;
-  tracked : (other : ℕ) (gates : List Gate) → IsRead gates l.readers → IsTracked gates (lane_bits g.V.Value.at other l.initial.cells) l.initial.marks l.initial.blocks
-      → IsTracked gates (lane_bits g.V.Value.at other l.cells) l.marks l.blocks;
+  tracked : (other : ℕ) (gates : List Gate) → IsRead gates l.readers → IsTracked gates (lane_bits g.V.Value.at other l.initial.cells) l.initial.marks
+      → IsTracked gates (lane_bits g.V.Value.at other l.cells) l.marks;
 }

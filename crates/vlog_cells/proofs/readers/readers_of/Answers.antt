@@ -1,6 +1,5 @@
-use Rattle.std.proofs.Common.{◌≡◌, ◌<◌, ℕ, true, List, [], ap, arith, get_or, inl, inr, length, replicate, subst, sym, ◌∙◌}
+use Rattle.std.proofs.Common.{◌≡◌, ℕ, true, List, [], ap, arith, get_or, inl, inr, length, subst, sym, ◌∙◌}
 use Rattle.std.proofs.lemmas.Bool.{cases_lt}
-use Rattle.std.proofs.lemmas.List.{length-replicate}
 use Rattle.vlog_cells.specs.Marks.{gate_at, has, lists_of, touches, with_gate}
 use Rattle.vlog_cells.proofs.Listed.{gate-here, gate-kept, length-gate}
 use Rattle.vlog_cells.proofs.readers.readers_of.Goals as goal

@@ -1,6 +1,5 @@
-use Rattle.std.proofs.Common.{◌≡◌, [], Bool, drop, sym, ap, ◌∙◌, arith}
+use Rattle.std.proofs.Common.{◌≡◌, [], drop, sym, ap, ◌∙◌, arith}
 use Rattle.std.specs.Prelude.{map}
-use Rattle.vlog_plan.specs.declared.plan.Operand.{Operand}
 use Rattle.vlog_plan.specs.Steps.{operand_value}
 use Rattle.vlog_plan.specs.Values.{number_of}
 use Rattle.vlog_plan.proofs.Numbers.{number-none, number-next, number-fits, number-small, byte_lt}

@@ -1,4 +1,4 @@
-use Rattle.std.proofs.Common.{◌≡◌, List, Bool, false, ap, arith, cond, fold, length, subst, sym, ◌∙◌}
+use Rattle.std.proofs.Common.{List, Bool, ap, cond, fold, length, subst, sym, ◌∙◌}
 use Rattle.vlog_plan.specs.Steps.{settle_slot}
 use Rattle.vlog_cells.specs.Changes.{step_in}
 use Rattle.vlog_cells.specs.Lanes.{lane_bits}
@@ -15,10 +15,10 @@ returns-clause-settled g c lane first count within rising read room tracked =
     let wired : List Bool = lane_bits at lane c.run_gates.new.cells in
     let gates_are = sym c.deref.ensures.value in
     let listed = subst (IsRead c.deref.result.now) (sym c.deref-2.ensures.value) (subst (λ k. IsRead k c.args.circuit.now.readers.items) gates_are read) in
-    let swept : IsSwept active gates (length gates) wired c.run_gates.new.marks c.run_gates.new.blocks =
-    subst (λ k. IsSwept active k (length k) wired c.run_gates.new.marks c.run_gates.new.blocks) c.deref.ensures.value
+    let swept : IsSwept active gates (length gates) wired c.run_gates.new.marks =
+    subst (λ k. IsSwept active k (length k) wired c.run_gates.new.marks) c.deref.ensures.value
     (c.run_gates.ensures.swept lane first count within (subst (AreRising first count) gates_are rising) listed room
-    (subst (λ k. IsTracked k before c.args.marks.now c.args.blocks.now) gates_are tracked)) in
+    (subst (λ k. IsTracked k before c.args.marks.now) gates_are tracked)) in
     record {
       wired = wired;
       size = lane-length at lane c.run_gates.new.cells ∙ c.run_gates.auto.cells ∙ sym (lane-length at lane c.args.cells.now);

@@ -1,4 +1,4 @@
-use Rattle.std.proofs.Common.{◌≡◌, ℕ, List, [], ap, ap₂, arith, length, replicate, ◌∙◌}
+use Rattle.std.proofs.Common.{◌≡◌, List, [], ap, ap₂, arith, length, replicate, ◌∙◌}
 use Rattle.std.specs.Prelude.{map}
 use Rattle.std.proofs.lemmas.List.{length-map}
 use Rattle.vlog_plan.specs.declared.plan.Operand.{Operand}

@@ -1,4 +1,4 @@
-use Rattle.std.proofs.Common.{◌≡◌, ◌≤◌, ◌+◌, ◌*◌, Bool, true, List, ap, arith, length, subst, sym, ◌∙◌}
+use Rattle.std.proofs.Common.{ℕ, Bool, true, List, ap, arith, length, subst, sym, ◌∙◌}
 use Rattle.std.proofs.lemmas.List.{with_items_is}
 use Rattle.std.specs.Vec.{with_items}
 use Rattle.vlog_cells.specs.Lanes.{lane_bits}
@@ -12,22 +12,19 @@ returns-clause-started g c =
     let first = c.args.layout.now.first_wire in
     let circuit = c.in_ok-circuit.circuit in
     let known = c.in_ok-circuit.ensures.circuit in
-    let made = c.in_ok-made.made in
+    let marks = c.in_ok-marks.marks in
     let cells = c.in_ok-cells.cells in
     let changes = c.in_ok-changes.changes in
     let before : List Bool = cells_of c.args.bits.now c.args.words.now in
     let new_cells = with_items_is cells c.settle_first.new.cells (omega (arith, c.settle_first.auto.cells, cells.ok.0, ap length c.deref_mut.ensures.value)) in
-    let new_marks = with_items_is made.0 c.settle_first.new.marks (omega (arith, c.settle_first.auto.marks, made.0.ok.0, ap (λ (list : List Bool). length list) c.deref_mut-2.ensures.value)) in
-    let new_blocks = with_items_is made.1 c.settle_first.new.blocks (omega (arith, c.settle_first.auto.blocks, made.1.ok.0, ap (λ (list : List Bool). length list) c.deref_mut-3.ensures.value)) in
-    let changes_count = ap length c.deref_mut-4.ensures.value in
+    let new_marks = with_items_is marks c.settle_first.new.marks (omega (arith, c.settle_first.auto.marks, marks.ok.0, ap (λ (list : List ℕ). length list) c.deref_mut-2.ensures.value)) in
+    let changes_count = ap length c.deref_mut-3.ensures.value in
     let new_changes = with_items_is changes c.settle_first.new.changes (omega (arith, c.settle_first.auto.changes, changes.ok.0, changes_count)) in
     let cells_count = ap length new_cells in
-    let marks_count = ap (λ (list : List Bool). length list) new_marks in
-    let blocks_count = ap (λ (list : List Bool). length list) new_blocks in
+    let marks_count = ap (λ (list : List ℕ). length list) new_marks in
     let room_count = ap length new_changes in
     let last_cells = with_items cells c.settle_first.new.cells in
-    let last_marks = with_items made.0 c.settle_first.new.marks in
-    let last_blocks = with_items made.1 c.settle_first.new.blocks in
+    let last_marks = with_items marks c.settle_first.new.marks in
     record {
       circuit = known;
       rising = c.in_ok-circuit.ensures.rising;
@@ -36,21 +33,19 @@ returns-clause-started g c =
       marks_room = omega (
         arith,
         marks_count,
-        blocks_count,
         c.settle_first.auto.marks,
-        c.settle_first.auto.blocks,
-        ap (λ (list : List Bool). length list) c.deref_mut-2.ensures.value,
-        ap (λ (list : List Bool). length list) c.deref_mut-3.ensures.value,
-        c.in_ok-made.ensures.marks_room,
+        ap (λ (list : List ℕ). length list) c.deref_mut-2.ensures.value,
+        c.in_ok-marks.ensures.room,
+        circuit.gates.ok.0,
+        c.len-2.ensures,
       );
       flips_room = omega (arith, room_count, c.settle_first.auto.changes, changes_count, c.in_ok-changes.ensures.flips, c.len-2.ensures, c.args.layout.now.plan.flips.ok.0);
       settles_room = omega (arith, room_count, c.settle_first.auto.changes, changes_count, c.in_ok-changes.ensures.settles, c.len-3.ensures, c.args.layout.now.plan.settles.ok.0);
       settled = λ lane count inside rising within.
           let start_is = ap (lane_bits at lane) c.deref_mut.ensures.value ∙ c.in_ok-cells.ensures.lanes lane inside in
           let now_is = ap (lane_bits at lane) new_cells in
-          subst (λ b. IsSettled true first count circuit.gates.items circuit.settles.items b (lane_bits at lane last_cells.items) last_marks.items last_blocks.items) start_is
-          (subst (λ k. IsSettled true first count circuit.gates.items circuit.settles.items (lane_bits at lane c.deref_mut.result.now) k last_marks.items last_blocks.items) (sym now_is)
-          (subst (λ marks. IsSettled true first count circuit.gates.items circuit.settles.items (lane_bits at lane c.deref_mut.result.now) (lane_bits at lane c.settle_first.new.cells) marks last_blocks.items) (sym new_marks)
-          (subst (IsSettled true first count circuit.gates.items circuit.settles.items (lane_bits at lane c.deref_mut.result.now) (lane_bits at lane c.settle_first.new.cells) c.settle_first.new.marks) (sym new_blocks)
-          (c.settle_first.ensures lane first count inside rising known.read (omega (arith, within, ap length c.deref_mut.ensures.value, c.in_ok-cells.ensures.count))))));
+          subst (λ b. IsSettled true first count circuit.gates.items circuit.settles.items b (lane_bits at lane last_cells.items) last_marks.items) start_is
+          (subst (λ k. IsSettled true first count circuit.gates.items circuit.settles.items (lane_bits at lane c.deref_mut.result.now) k last_marks.items) (sym now_is)
+          (subst (IsSettled true first count circuit.gates.items circuit.settles.items (lane_bits at lane c.deref_mut.result.now) (lane_bits at lane c.settle_first.new.cells)) (sym new_marks)
+          (c.settle_first.ensures lane first count inside rising known.read (omega (arith, within, ap length c.deref_mut.ensures.value, c.in_ok-cells.ensures.count)))));
     }

@@ -1,4 +1,4 @@
-use Rattle.std.proofs.Common.{◌≡◌, true, ap, arith, subst, sym, ◌∙◌}
+use Rattle.std.proofs.Common.{◌≡◌, arith, subst, sym, ◌∙◌}
 use Rattle.vlog_cells.specs.Circuits.{ArePartsAt}
 use Rattle.vlog_cells.specs.Lanes.{lane_bits}
 use Rattle.vlog_cells.proofs.Lanes.{lane-length}
@@ -13,7 +13,7 @@ returns-clause-stored g c =
       words_are = copied ∙ c.run_memories.ensures.words;
       memories_are = c.run_memories.ensures.memories;
       size = lane-length at lane c.write_words.new.cells ∙ c.write_words.auto.cells ∙ sym (lane-length at lane c.args.cells.now);
-      parts = λ were. subst (λ words. ArePartsAt c.args.bits words (lane_bits at lane c.write_words.new.cells)) (sym copied) (c.write_words.ensures.parts were);
+      parts = λ were. subst (λ words. ArePartsAt c.args.trigger.now.bits words (lane_bits at lane c.write_words.new.cells)) (sym copied) (c.write_words.ensures.parts were);
       same = λ cell out. c.write_words.ensures.same cell (λ less. out (omega (arith, less)));
       idle = λ off. absurd cc;
     }

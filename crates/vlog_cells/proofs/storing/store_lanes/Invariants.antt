@@ -7,7 +7,7 @@ use Rattle.vlog_cells.proofs.storing.store_lanes.Given as goal
 
 abbrev pub invariant-loop-lane : goal.invariant-loop-lane
 invariant-loop-lane g l = record {
-  done : (other : ℕ) → other < l.lane → IsStored (g.V.Value.at l.active other) l.bits l.event l.group (list_of other l.initial.words) (list_of other l.words) (list_of other l.initial.memories) (list_of other l.memories)
+  done : (other : ℕ) → other < l.lane → IsStored (g.V.Value.at l.trigger.active other) l.trigger.bits l.trigger.event l.trigger.group.now (list_of other l.initial.words) (list_of other l.words) (list_of other l.initial.memories) (list_of other l.memories)
       (lane_bits g.V.Value.at other l.initial.cells) (lane_bits g.V.Value.at other l.cells);
   rest_words : (other : ℕ) → l.lane ≤ other → list_of other l.words ≡ list_of other l.initial.words;
   rest_memories : (other : ℕ) → l.lane ≤ other → list_of other l.memories ≡ list_of other l.initial.memories;
@@ -17,6 +17,6 @@ invariant-loop-lane g l = record {
   cells_room : length l.cells ≡ length l.initial.cells;
   words_room : length l.next_words ≡ length l.initial.next_words;
   writes_room : length l.written ≡ length l.initial.written;
-  tracked : (other : ℕ) (gates : List Gate) → IsRead gates l.readers → IsTracked gates (lane_bits g.V.Value.at other l.initial.cells) l.initial.marks l.initial.blocks
-      → IsTracked gates (lane_bits g.V.Value.at other l.cells) l.marks l.blocks;
+  tracked : (other : ℕ) (gates : List Gate) → IsRead gates l.trigger.readers.now → IsTracked gates (lane_bits g.V.Value.at other l.initial.cells) l.initial.marks
+      → IsTracked gates (lane_bits g.V.Value.at other l.cells) l.marks;
 }

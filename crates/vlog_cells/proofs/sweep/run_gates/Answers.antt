@@ -1,4 +1,4 @@
-use Rattle.std.proofs.Common.{◌≡◌, ◌+◌, ◌*◌, arith, length, refl, subst, ◌∙◌}
+use Rattle.std.proofs.Common.{◌≡◌, ◌+◌, ◌*◌, arith, refl, subst, ◌∙◌}
 use Rattle.vlog_cells.specs.Lanes.{lane_bits}
 use Rattle.vlog_cells.specs.Marks.{IsSwept}
 use Rattle.vlog_cells.proofs.sweep.run_gates.Goals as goal
@@ -14,7 +14,7 @@ pub loop-block-preserved : goal.loop-block-preserved
 loop-block-preserved g c = record {
   swept = λ lane first count within rising read room tracked.
       let next : 64 * c.loop-block.block + 64 ≡ 64 * (c.loop-block.block + 1) = omega arith in
-      subst (λ end. IsSwept (g.V.Value.at c.args.active lane) c.args.gates.now end (lane_bits g.V.Value.at lane c.run_block.new.cells) c.run_block.new.marks c.run_block.new.blocks) next
+      subst (λ end. IsSwept (g.V.Value.at c.args.active lane) c.args.gates.now end (lane_bits g.V.Value.at lane c.run_block.new.cells) c.run_block.new.marks) next
       (c.run_block.ensures.swept lane first count within rising read (omega (arith, room)) (c.loop-block.invariant.swept lane first count within rising read room tracked));
   same = λ lane first count rising cell source. c.run_block.ensures.same lane first count rising cell source ∙ c.loop-block.invariant.same lane first count rising cell source;
   idle = λ lane within off. c.run_block.ensures.idle lane within off ∙ c.loop-block.invariant.idle lane within off;

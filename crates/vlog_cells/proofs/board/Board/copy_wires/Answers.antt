@@ -1,4 +1,4 @@
-use Rattle.std.proofs.Common.{◌≡◌, ◌≤◌, ◌∙◌, Bool, List, ℕ, ap, ap₂, arith, drop, length, refl, sym, take}
+use Rattle.std.proofs.Common.{◌≡◌, ◌∙◌, Bool, List, ℕ, ap, ap₂, arith, drop, length, refl, sym, take}
 use Rattle.std.proofs.lemmas.List.{drop-map, length-map, take-map}
 use Rattle.vlog_plan.specs.Cells.{cell_at}
 use Rattle.vlog_plan.specs.ModuleSlots.{wire_names}

@@ -1,11 +1,9 @@
-use Rattle.std.proofs.Common.{◌≡◌, Bool, true, false, ap, get_or, refl, sym, ◌∙◌}
+use Rattle.std.proofs.Common.{◌≡◌, true, false, ap, get_or, refl, ◌∙◌}
 use Rattle.vlog_plan.specs.declared.layout.Layout.{Layout}
 use Rattle.vlog_cells.specs.Lanes.{lane_bits}
+use Rattle.vlog_cells.proofs.Bits.{no-both}
 use Rattle.vlog_cells.proofs.Boards.{event-shows}
 use Rattle.vlog_cells.proofs.board.Board.event.Goals as goal
-
-no-both : {a : Bool} → a ≡ true → a ≡ false → ⊥
-no-both on off = cc
 
 pub returns-then-is_none-clause-shows : goal.returns-then-is_none-clause-shows
 returns-then-is_none-clause-shows g c lane m entry shows =

@@ -1,4 +1,4 @@
-use Rattle.std.proofs.Common.{◌*◌, ℕ, Bool, List, ap, arith, length, subst, sym, ◌∙◌}
+use Rattle.std.proofs.Common.{◌+◌, ◌/◌, ℕ, Bool, List, ap, arith, length, subst, sym, ◌∙◌}
 use Rattle.vlog_cells.specs.Circuits.{IsCircuit}
 use Rattle.vlog_cells.specs.Lanes.{AreLanes}
 use Rattle.vlog_cells.proofs.First.{cells-room, few-room, first-lane}
@@ -50,7 +50,7 @@ invariant_of-result-clause-cells_room g c =
 pub invariant_of-result-clause-marks_room : goal.invariant_of-result-clause-marks_room
 invariant_of-result-clause-marks_room g c =
     let wires = c.in_ok-started.started.wires in
-    wires.marks.ok.0 ∙ c.in_ok-started.ensures.wires.marks_room ∙ ap (λ n. 64 * n) (sym wires.blocks.ok.0)
+    wires.marks.ok.0 ∙ c.in_ok-started.ensures.wires.marks_room ∙ ap (λ n. n / 64 + 1) (sym wires.circuit.gates.ok.0)
 
 pub invariant_of-result-clause-lanes : goal.invariant_of-result-clause-lanes
 invariant_of-result-clause-lanes g c =

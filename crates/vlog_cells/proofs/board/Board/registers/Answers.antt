@@ -3,7 +3,6 @@ use Rattle.vlog_plan.specs.Named.{values_of}
 use Rattle.vlog_plan.specs.Run.{readable}
 use Rattle.vlog_plan.proofs.Reading.{registers-read}
 use Rattle.vlog_plan.proofs.Showing.{bits-count}
-use Rattle.vlog_cells.specs.Lanes.{lane_bits}
 use Rattle.vlog_cells.proofs.Boards.{cells-room, first-cells}
 use Rattle.vlog_cells.proofs.Lanes.{lane-length}
 use Rattle.vlog_cells.proofs.Slots.{lane-part}

@@ -1,4 +1,4 @@
-use Rattle.std.proofs.Common.{◌≡◌, Bool, List, ap, arith, length, refl, subst, sym, ◌∙◌}
+use Rattle.std.proofs.Common.{ℕ, List, ap, arith, length, refl, subst, sym, ◌∙◌}
 use Rattle.std.proofs.lemmas.List.{with_items_is}
 use Rattle.std.specs.Vec.{with_items}
 use Rattle.vlog_cells.specs.Lanes.{lane_bits}
@@ -18,24 +18,20 @@ returns-clause-settled g c lane within =
     let gates = r.circuit.gates.items in
     let settles = r.circuit.settles.items in
     let new_cells = with_items_is r.cells c.settle.new.cells (omega (arith, c.settle.auto.cells, r.cells.ok.0, ap length c.deref_mut.ensures.value)) in
-    let new_marks = with_items_is r.marks c.settle.new.marks (omega (arith, c.settle.auto.marks, r.marks.ok.0, ap (λ (list : List Bool). length list) c.deref_mut-2.ensures.value)) in
-    let new_blocks = with_items_is r.blocks c.settle.new.blocks (omega (arith, c.settle.auto.blocks, r.blocks.ok.0, ap (λ (list : List Bool). length list) c.deref_mut-3.ensures.value)) in
+    let new_marks = with_items_is r.marks c.settle.new.marks (omega (arith, c.settle.auto.marks, r.marks.ok.0, ap (λ (list : List ℕ). length list) c.deref_mut-2.ensures.value)) in
     let before_is = ap (lane_bits at lane) c.deref_mut.ensures.value in
     let last_cells = with_items r.cells c.settle.new.cells in
     let last_marks = with_items r.marks c.settle.new.marks in
-    let last_blocks = with_items r.blocks c.settle.new.blocks in
     record {
       words = refl;
       memories = refl;
       outputs = refl;
       idle = λ off. ap (lane_bits at lane) new_cells ∙ c.settle.ensures.idle lane within off ∙ before_is;
       settled = λ first count rising room tracked.
-          subst (λ k. IsSettled active first count gates settles k (lane_bits at lane last_cells.items) last_marks.items last_blocks.items) before_is
-          (subst (λ k. IsSettled active first count gates settles (lane_bits at lane c.deref_mut.result.now) k last_marks.items last_blocks.items) (sym (ap (lane_bits at lane) new_cells))
-          (subst (λ k. IsSettled active first count gates settles (lane_bits at lane c.deref_mut.result.now) (lane_bits at lane c.settle.new.cells) k last_blocks.items) (sym new_marks)
-          (subst (IsSettled active first count gates settles (lane_bits at lane c.deref_mut.result.now) (lane_bits at lane c.settle.new.cells) c.settle.new.marks) (sym new_blocks)
+          subst (λ k. IsSettled active first count gates settles k (lane_bits at lane last_cells.items) last_marks.items) before_is
+          (subst (λ k. IsSettled active first count gates settles (lane_bits at lane c.deref_mut.result.now) k last_marks.items) (sym (ap (lane_bits at lane) new_cells))
+          (subst (IsSettled active first count gates settles (lane_bits at lane c.deref_mut.result.now) (lane_bits at lane c.settle.new.cells)) (sym new_marks)
           (c.settle.ensures.settled lane first count within rising r.circuit_is.read (omega (arith, room, lane-length at lane r.cells.items, ap length c.deref_mut.ensures.value))
-          (subst (λ k. IsTracked gates k c.deref_mut-2.result.now c.deref_mut-3.result.now) (sym before_is)
-          (subst (λ k. IsTracked gates (lane_bits at lane r.cells.items) k c.deref_mut-3.result.now) (sym c.deref_mut-2.ensures.value)
-          (subst (IsTracked gates (lane_bits at lane r.cells.items) r.marks.items) (sym c.deref_mut-3.ensures.value) tracked)))))));
+          (subst (λ k. IsTracked gates k c.deref_mut-2.result.now) (sym before_is)
+          (subst (IsTracked gates (lane_bits at lane r.cells.items)) (sym c.deref_mut-2.ensures.value) tracked)))));
     }

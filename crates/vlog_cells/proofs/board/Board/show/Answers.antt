@@ -1,4 +1,4 @@
-use Rattle.std.proofs.Common.{◌≡◌, Bool, List, [], ap, arith, cond, length, refl, sym, ◌∙◌}
+use Rattle.std.proofs.Common.{List, [], ap, arith, cond, length, refl, ◌∙◌}
 use Rattle.std.specs.Prelude.{map}
 use Rattle.std.proofs.lemmas.List.{length-map, with_items_is}
 use Rattle.vlog_plan.specs.declared.plan.Operand.{Operand}
@@ -40,5 +40,4 @@ returns-clause-shown g c lane within =
       words = refl;
       memories = refl;
       marks = refl;
-      blocks = refl;
     }

@@ -1,4 +1,4 @@
-use Rattle.std.proofs.Common.{ℕ, List, Some, None, ap, sym, ◌∙◌}
+use Rattle.std.proofs.Common.{ℕ, Some, None, ap, sym, ◌∙◌}
 use Rattle.std.specs.Option.{option_map}
 use Rattle.vlog_plan.specs.Steps.{word_in}
 use Rattle.vlog_plan.proofs.Reading.{memory-read, memory-declared}

@@ -1,5 +1,5 @@
 -- The new names of a module's ports are those that the pin file gives, and its entries match those of the fabric.
-use Rattle.std.proofs.Common.{◌≡◌, ℕ, zero, suc, ◌<◌, Bool, true, false, List, [], ◌∷◌, ◌++◌, length, map, refl, sym, ap, ap₂, ◌∙◌, subst, arith, inl, inr, length-append}
+use Rattle.std.proofs.Common.{◌≡◌, ℕ, zero, suc, Bool, true, false, List, [], ◌∷◌, ◌++◌, length, map, refl, sym, ap, ap₂, ◌∙◌, subst, arith, inl, inr, length-append}
 use Rattle.std.specs.Prelude.{All, Contains, Option, Some, None, filter, flat_map, bytes_eq, codes, not, unwrap_or, if◌then◌else◌}
 use Rattle.std.specs.List.{AllZip}
 use Rattle.std.proofs.lemmas.Bool.{cases_Bool}
@@ -11,7 +11,6 @@ use Rattle.bit_plane.specs.BitList.{word_of}
 use Rattle.vlog_module.specs.declared.modules.Port.{Port}
 use Rattle.vlog_module.specs.Maps.{value_in}
 use Rattle.vlog_plan.specs.Entries.{Entry as ModuleEntry}
-use Rattle.net_extract.specs.declared.register.Register.{Register}
 use Rattle.net_extract.specs.declared.pin.Pin.{Pin}
 use Rattle.net_extract.specs.Pins.{is_tri_state}
 use Rattle.net_extract.specs.Fabric.{Fabric, inputs_of}
@@ -21,14 +20,14 @@ use Rattle.net_extract.proofs.Apart.{AreApart}
 use Rattle.net_extract.proofs.Within.{All-flat_map, All-single}
 use Rattle.fabric_module.specs.Names.{port_name, enable_name, output_name, register_name, read_name, memory_name}
 use Rattle.fabric_module.specs.Written.{port_of, pin_ports}
-use Rattle.fabric_module.specs.Matching.{HasValues, HasWires, Matches, MatchesAs}
+use Rattle.fabric_module.specs.Matching.{HasValues, HasWires, Matches}
 use Rattle.fabric_module.proofs.Lists.{map-map}
 use Rattle.pin_file.specs.declared.pin_name.PinName.{PinName}
 use Rattle.port_names.specs.Renamed.{new_name, renamed_port, renamed_values, entry_renamed}
 use Rattle.port_names.specs.Law.{SameState}
 use Rattle.named_ports.specs.Named.{given_name, port_by, enable_by, named_port, named_pin_ports, named_ports, named_output, renaming_by, pin_renaming, port_renaming}
 use Rattle.named_ports.specs.Matching.{MatchesNamed}
-use Rattle.named_ports.proofs.Lists.{PartsDiffer, Differ, value_in-only, value_in-later}
+use Rattle.named_ports.proofs.Lists.{PartsDiffer, value_in-only, value_in-later}
 use Rattle.named_ports.proofs.Fresh.{PortsDiffer, enable_port, old-pin}
 
 -- ---- the new name of a pin's port

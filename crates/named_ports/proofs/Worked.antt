@@ -1,6 +1,6 @@
 -- The definitions at three pins, worked out by hand.
 use Rattle.std.proofs.Common.{◌≡◌, ℕ, false, List, [], ◌∷◌, refl}
-use Rattle.std.specs.Prelude.{Bool, true, codes, Some, None}
+use Rattle.std.specs.Prelude.{Bool, true, codes, None}
 use Rattle.std.specs.Fmt.{digits}
 use Rattle.net_extract.specs.declared.pin.Pin.{Pin}
 use Rattle.net_extract.specs.declared.pin.PinKind.{PinKind}

@@ -5,7 +5,6 @@ use Rattle.chipdb_reader.specs.Database.{Database}
 use Rattle.vlog_module.specs.Names.{IsName}
 use Rattle.vlog_module.specs.Parts.{Parts}
 use Rattle.net_extract.specs.declared.lut_inputs.LutInputs.{LutInputs}
-use Rattle.net_extract.specs.declared.pin.Pin.{Pin}
 use Rattle.net_extract.specs.Fabric.{fabric_with, fabric_of}
 use Rattle.fabric.specs.Kept.{Kept}
 use Rattle.fabric.specs.Design.{IsDesign, IsDesignOf}

@@ -1,6 +1,6 @@
 -- The parts of a design and what its drivers name are there.
 use Rattle.std.proofs.Common.{◌≡◌, ℕ, ◌<◌, ◌≤◌, true, List, [], ◌∷◌, ◌++◌, length, map, get_or, refl, sym, ap, ◌∙◌, subst, arith, inl, inr}
-use Rattle.std.specs.Prelude.{All, Contains, Option, Some, None, filter, option_to_list}
+use Rattle.std.specs.Prelude.{All, Contains, Option, Some, None, option_to_list}
 use Rattle.std.proofs.lemmas.Bool.{cases_Bool}
 use Rattle.std.proofs.lemmas.List.Elements.{All-from_get_or, All-nil, All-cons, All-head, All-tail, All-contains, All-contains_itself, All-weaker}
 use Rattle.shared_lemmas.proofs.Lists.{All-both}
@@ -26,7 +26,6 @@ use Rattle.fabric_wiring.specs.declared.drive.Rule.{Rule as KeptRule}
 use Rattle.fabric_wiring.specs.declared.drive.Rule.TheVariants.{PinBit, Constant, Input, TableEntry, MajorityOf, RegisterBit, ReadBit, Copied}
 use Rattle.fabric_wiring.specs.declared.drive.Drive.{Drive as KeptDrive}
 use Rattle.fabric_wiring.specs.Drives.{drive_of, rule_of}
-use Rattle.fabric_wiring.specs.declared.output_pins.Output.{Output as KeptOutput}
 use Rattle.fabric_wiring.specs.Outputs.{output_of}
 use Rattle.fabric_wiring.specs.DriverLists.{driver_in}
 use Rattle.fabric_wiring.specs.Ends.{end_in}

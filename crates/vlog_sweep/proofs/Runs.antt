@@ -1,6 +1,6 @@
 -- Runs that go on.
-use Rattle.std.proofs.Common.{◌≡◌, ℕ, zero, suc, ◌+◌, ◌<◌, ◌≤◌, Bool, true, false, cond, eqb, List, [], ◌∷◌, ◌++◌, ap, arith, append-nil, flat_map, fold, get_or, length, refl, sym, take, ◌∙◌}
-use Rattle.std.specs.Prelude.{None, Option, Some, bytes_eq, map, slice_get}
+use Rattle.std.proofs.Common.{◌≡◌, ℕ, zero, suc, ◌+◌, ◌<◌, ◌≤◌, Bool, true, false, cond, List, [], ◌∷◌, ◌++◌, ap, arith, append-nil, flat_map, fold, get_or, length, refl, sym, take, ◌∙◌}
+use Rattle.std.specs.Prelude.{None, Some, bytes_eq, slice_get}
 use Rattle.std.specs.Option.{option_map}
 use Rattle.std.proofs.lemmas.Bool.{eq-eqb, eqb-true}
 use Rattle.std.proofs.lemmas.List.{length-map, take_more}

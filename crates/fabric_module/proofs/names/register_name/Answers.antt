@@ -1,4 +1,4 @@
-use Rattle.std.proofs.Common.{ap, ap₂, ◌∙◌, ◌++◌, subst, arith}
+use Rattle.std.proofs.Common.{ap₂, ◌∙◌, ◌++◌, subst, arith}
 use Rattle.fabric_module.specs.Names.{three_numbers}
 use Rattle.fabric_module.proofs.Apart.{IsSmall}
 use Rattle.fabric_module.proofs.NameBytes.{register-bytes}

@@ -1,7 +1,8 @@
 use Rattle.std.proofs.Common.{ℕ, Bool, ap, arith, sym, ◌∙◌}
 use Rattle.vlog_sweep.specs.Strands.{has_bit, is_on, next_of}
 use Rattle.vlog_sweep.specs.declared.strand.Strand.{Strand}
-use Rattle.vlog_sweep.proofs.Bits.{byte-lt, number-next, number-none, number-room}
+use Rattle.vlog_plan.proofs.Numbers.{byte_lt, number-next, number-none}
+use Rattle.vlog_sweep.proofs.Bits.{number-room}
 use Rattle.vlog_sweep.proofs.calls.call_on.Goals as goal
 
 abbrev on : ℕ → Strand → Bool
@@ -21,14 +22,14 @@ overflow_mul-active c = omega (arith, c.loop-lane.invariant.active, number-room 
 
 pub overflow_add-active : goal.overflow_add-active
 overflow_add-active c =
-    omega (arith, c.loop-lane.invariant.active, byte-lt c.is_on.result, c.from.ensures, number-room (on c.args.pin) c.args.strands.now c.loop-lane.lane (omega arith) c.requires)
+    omega (arith, c.loop-lane.invariant.active, byte_lt c.is_on.result, c.from.ensures, number-room (on c.args.pin) c.args.strands.now c.loop-lane.lane (omega arith) c.requires)
 
 pub overflow_mul-bits : goal.overflow_mul-bits
 overflow_mul-bits c = omega (arith, c.loop-lane.invariant.bits, number-room bit c.args.strands.now c.loop-lane.lane (omega arith) c.requires)
 
 pub overflow_add-bits : goal.overflow_add-bits
 overflow_add-bits c =
-    omega (arith, c.loop-lane.invariant.bits, byte-lt c.has_bit.result, c.from-in-loop-lane.ensures, number-room bit c.args.strands.now c.loop-lane.lane (omega arith) c.requires)
+    omega (arith, c.loop-lane.invariant.bits, byte_lt c.has_bit.result, c.from-in-loop-lane.ensures, number-room bit c.args.strands.now c.loop-lane.lane (omega arith) c.requires)
 
 pub loop-lane-preserved : goal.loop-lane-preserved
 loop-lane-preserved c =

@@ -24,28 +24,28 @@ Usage: vlogrun [-s | --vcd] MODULE [EVENTS]
   --vcd     writes the waves of the run, for a wave viewer, in place of lines
 
 Each line of EVENTS is the name of an input, one space, and 0 or 1: that input
-gets that bit. At the start all inputs are 0. Where the bit is the old one nothing
-changes. Else all registers whose clock it is, and whose edge, take their new
-values at once, from the values before; then wires and outputs follow.
+gets that bit. At the start all inputs are 0. Where the bit is the old one
+nothing changes. Else all registers whose clock it is, and whose edge, take
+their new values at once, from the values before; then wires and outputs follow.
 
 vlogrun writes a line at the start and one after each event: the bits of the
-outputs, in the order of the ports. With -s a space follows, the registers of one
-bit, and for each register of 16 bits a space and four hexadecimal digits, in the
-order of their declarations.
+outputs, in the order of the ports. With -s a space follows, the registers of
+one bit, and for each register of 16 bits a space and four hexadecimal digits,
+in the order of their declarations.
 
 With --vcd vlogrun writes a value change dump, which GTKWave and other viewers
-show: at time 0 the values of all ports, registers and wires at the start, and at
-time k those that event k changed. -s and --vcd aren't taken together.
+show: at time 0 the values of all ports, registers and wires at the start, and
+at time k those that event k changed. -s and --vcd aren't taken together.
 
 Examples: vlogrun counter.v counter.events
           vlogrun --vcd counter.v counter.events >counter.vcd
 
 Limits: a module has at most 67108864 bytes, a list of events 1048576.
 
-Exit status: 0 done; 1 the module is refused, with the offset of its first fault,
-or the list of events, with its first faulty line; 2 the command line isn't
-taken; 3 reading failed; 4 writing failed; 5 out of memory; 6 an input is longer
-than its limit.
+Exit status: 0 done; 1 the module is refused, with the offset of its first
+fault, or the list of events, with its first faulty line; 2 the command line
+isn't taken; 3 reading failed; 4 writing failed; 5 out of memory; 6 an input is
+longer than its limit.
 ";
 
 /// What the arguments ask for: what is told of the run, the module, and the events.

@@ -10,9 +10,9 @@ class Refused(Exception):
     """A program didn't do what it was asked for."""
 
 
-def output_of(words, work):
-    """What a program writes."""
-    run = subprocess.run([str(word) for word in words], cwd=work, capture_output=True)
+def output_of(words, work, source=None):
+    """What a program writes, which reads a file or nothing as standard input."""
+    run = subprocess.run([str(word) for word in words], cwd=work, capture_output=True, stdin=source or subprocess.DEVNULL)
     if run.returncode != 0:
         raise Refused(run.stderr.decode(errors="replace").strip().splitlines()[-1] if run.stderr.strip() else "%s: status %d" % (words[0], run.returncode))
     return run.stdout.decode()
@@ -66,7 +66,7 @@ def synthesize(work):
     output_of(["yosys", "-q", "-p", "read_verilog top.v; synth_ice40 -top top -json top.json"], work)
 
 
-def placed(work, device, seed):
+def placed(work, device, seed, pins=("--pcf", "top.pcf")):
     """Places and routes what was synthesized, and writes the text top.asc."""
-    output_of(["nextpnr-ice40", "-q", "--" + OPTIONS[device], "--package", PACKAGES[device], "--seed", seed, "--json", "top.json",
-               "--pcf", "top.pcf", "--asc", "top.asc"], work)
+    output_of(["nextpnr-ice40", "-q", "--" + OPTIONS[device], "--package", PACKAGES[device], "--seed", seed, "--json", "top.json", *pins,
+               "--asc", "top.asc"], work)

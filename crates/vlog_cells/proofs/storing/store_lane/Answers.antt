@@ -1,4 +1,4 @@
-use Rattle.std.proofs.Common.{◌<◌, ℕ, true, false, List, Vec, Global, ap, arith, get_or, length, refl, subst, sym, ◌∙◌}
+use Rattle.std.proofs.Common.{◌<◌, ℕ, List, Vec, Global, ap, arith, get_or, length, refl, subst, sym, ◌∙◌}
 use Rattle.std.proofs.lemmas.List.{with_items_is}
 use Rattle.std.specs.Vec.{with_items}
 use Rattle.vlog_cells.specs.Lanes.{lane_bits, list_of}

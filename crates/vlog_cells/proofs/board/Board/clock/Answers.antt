@@ -1,4 +1,4 @@
-use Rattle.std.proofs.Common.{true, List, ℕ, ap, arith, length, refl, subst, sym, ◌∙◌}
+use Rattle.std.proofs.Common.{List, ℕ, ap, arith, length, refl, subst, sym, ◌∙◌}
 use Rattle.std.proofs.lemmas.List.{with_items_is}
 use Rattle.std.specs.Vec.{with_items}
 use Rattle.vlog_cells.specs.Lanes.{AreLanes, lane_bits, list_of}

@@ -1,4 +1,4 @@
-use Rattle.std.proofs.Common.{◌≡◌, true, false, ap, get_or, refl, ◌∙◌}
+use Rattle.std.proofs.Common.{◌≡◌, false, ap, get_or, refl, ◌∙◌}
 use Rattle.vlog_plan.specs.declared.layout.Layout.{Layout}
 use Rattle.vlog_cells.specs.Lanes.{lane_bits}
 use Rattle.vlog_cells.proofs.Bits.{no-both}

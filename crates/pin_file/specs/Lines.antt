@@ -1,4 +1,4 @@
--- What a line of a pin file says, in nextpnr's form of it, but without options.
+-- What a line of a pin file says: in nextpnr's form, but with no word behind PIN.
 use Rattle.std.specs.Prelude.{ℕ, Bool, true, false, ◌||◌, List, [], ◌∷◌, map, get_or, codes, bytes_eq, ◌==◌, if◌then◌else◌}
 use Rattle.std.specs.List.{before_first}
 use Rattle.text_lines.specs.Words.{words_of}

@@ -31,7 +31,8 @@ bit-moved word from k low =
 
 -- the lowest 1 of a word that is moved down
 pub first-moved : (word from left : ℕ) → word < 2 ^ 64 → left ≡ word / 2 ^ from → 0 < left → left < 2 ^ 64
-    → (from + trailing_zeros w64 left < 64) × ((k : ℕ) → from ≤ k → k < from + trailing_zeros w64 left → bit_of word k ≡ false)
+    → (from + trailing_zeros w64 left < 64) × (bit_of word (from + trailing_zeros w64 left) ≡ true)
+    × ((k : ℕ) → from ≤ k → k < from + trailing_zeros w64 left → bit_of word k ≡ false)
 first-moved word from left small is some fits =
     let lowest = bit_at-trailing_zeros w64 left some fits in
     let end : ℕ = from + trailing_zeros w64 left in
@@ -42,6 +43,7 @@ first-moved word from left small is some fits =
         | inl less ↦ less
         | inr past ↦ absurd (no-both on (bit-high word end small past))
       ],
+      on,
       λ k low below.
           sym (bit-moved word from k low) ∙ ap (λ w. bit_of w (k - from)) (sym is)
           ∙ ap (λ n. eqb n 1) (lowest.2 (k - from) (omega (arith, low, below, offset))),

@@ -1,26 +1,16 @@
 -- Marks on wires, and what writes and sweeps leave.
-use Rattle.std.proofs.Common.{◌≡◌, ◌≢◌, ℕ, zero, suc, ◌+◌, ◌*◌, ◌/◌, ◌%◌, ◌<◌, ◌≤◌, Bool, true, false, eqb, List, [], ◌∷◌, Vec, Global, ap, arith, get_or, inl, inr, length, replicate, set, subst, sym, take, ◌∙◌}
-use Rattle.std.specs.Prelude.{◌||◌, ◌⊎◌}
-use Rattle.std.proofs.lemmas.Bool.{cases_Bool, cases_eq, cases_lt, eqb-true}
-use Rattle.std.proofs.lemmas.List.{get_or-replicate, get_or-set_same, get_or_past}
+use Rattle.std.proofs.Common.{◌≡◌, ◌≢◌, ℕ, zero, suc, ◌+◌, ◌*◌, ◌/◌, ◌%◌, ◌<◌, ◌≤◌, Bool, true, false, eqb, List, [], ◌∷◌, Vec, Global, ap, arith, get_or, inl, inr, length, refl, replicate, set, subst, sym, take, ◌∙◌}
+use Rattle.std.specs.Prelude.{◌||◌}
+use Rattle.std.proofs.lemmas.Bool.{cases_Bool, cases_eq, cases_lt, eq-eqb, ne_eqb}
+use Rattle.std.proofs.lemmas.List.{get_or-replicate, get_or-set_same}
 use Rattle.vlog_plan.specs.declared.gates.Gate.{Gate}
 use Rattle.vlog_plan.specs.Cells.{gate_value}
 use Rattle.vlog_plan.specs.Values.{bit_of}
 use Rattle.vlog_cells.specs.Marks.{AreRising, IsEven, IsRead, IsSwept, IsTracked, gate_at, has, is_marked, lists_of, touches}
-use Rattle.vlog_cells.proofs.Bits.{bit-zero, no-both}
+use Rattle.vlog_cells.proofs.Bits.{no-both}
 use Rattle.vlog_cells.proofs.Order.{later-apart, reads-none, same-value, slot-within, stays-even}
 
 -- ---- marks
-
--- what is marked has room
-pub marked-within : (marks : List ℕ) (place : ℕ) → is_marked marks place ≡ true → place < 64 * length marks
-marked-within marks place is =
-    elim (cases_lt place (64 * length marks)) [
-      | inl within ↦ within
-      | inr past ↦
-          absurd (no-both is
-          (ap (λ w. bit_of w (place % 64)) (get_or_past marks (place / 64) 0 (omega (arith, past))) ∙ bit-zero (place % 64)))
-    ]
 
 -- where each word is full, each place is marked
 pub marked-full : (count word : ℕ) → ((k : ℕ) → k < 64 → bit_of word k ≡ true) → (place : ℕ) → place < 64 * count → is_marked (replicate count word) place ≡ true
@@ -28,55 +18,62 @@ marked-full count word full place within = ap (λ w. bit_of w (place % 64)) (get
 
 -- ---- lists of places
 
-pub has-none : (p : ℕ) → has [] p ≡ true → ⊥
-has-none p is = cc
-
-has-next : (places : List ℕ) (i p : ℕ) → i < length places → has (take (suc i) places) p ≡ true → (p ≡ get_or places i 0) ⊎ (has (take i places) p ≡ true)
-has-next [] i p within is = absurd (omega (arith, within))
-has-next (place ∷ places) zero p within is =
-    elim (cases_Bool (eqb place p)) [
-      | inl same ↦ inl (sym (eqb-true place p same))
-      | inr apart ↦ absurd (no-both is (ap (λ b. b || false) apart))
-    ]
-has-next (place ∷ places) (suc i) p within is =
-    elim (cases_Bool (eqb place p)) [
-      | inl same ↦ inr (ap (λ b. b || has (take i places) p) same)
-      | inr apart ↦
-          elim (has-next places i p (omega (arith, within)) (ap (λ b. b || has (take (suc i) places) p) (sym apart) ∙ is)) [
-            | inl here ↦ inl here
-            | inr before ↦ inr (ap (λ b. b || has (take i places) p) apart ∙ before)
-          ]
-    ]
+has-next : (places : List ℕ) (i p : ℕ) → i < length places → has (take (suc i) places) p ≡ (has (take i places) p || eqb (get_or places i 0) p)
+has-next [] i p within = absurd (omega (arith, within))
+has-next (place ∷ places) zero p within = elim (eqb place p) as (λ b. (b || false) ≡ b) [ true ↦ refl | false ↦ refl ]
+has-next (place ∷ places) (suc i) p within =
+    ap (λ b. eqb place p || b) (has-next places i p (omega (arith, within)))
+    ∙ (elim (eqb place p) as (λ b. (b || (has (take i places) p || eqb (get_or places i 0) p)) ≡ ((b || has (take i places) p) || eqb (get_or places i 0) p)) [ true ↦ refl | false ↦ refl ])
 
 -- one more place
-pub has-more : (places : List ℕ) (i p : ℕ) → i < length places → has (take (i + 1) places) p ≡ true → (p ≡ get_or places i 0) ⊎ (has (take i places) p ≡ true)
-has-more places i p within is =
-    let next : suc i ≡ i + 1 = omega arith in
-    has-next places i p within (ap (λ n. has (take n places) p) next ∙ is)
+pub has-more : (places : List ℕ) (i p : ℕ) → i < length places → has (take (i + 1) places) p ≡ (has (take i places) p || eqb (get_or places i 0) p)
+has-more places i p within =
+    let next : i + 1 ≡ suc i = omega arith in
+    ap (λ n. has (take n places) p) next ∙ has-next places i p within
+
+-- its mark is set
+pub marks-more : (old : Bool) (places : List ℕ) (i p : ℕ) (marks marks_now : List ℕ) → i < length places → is_marked marks p ≡ (has (take i places) p || old)
+    → (get_or places i 0 ≡ p → is_marked marks_now p ≡ true) → (p ≢ get_or places i 0 → is_marked marks_now p ≡ is_marked marks p)
+    → is_marked marks_now p ≡ (has (take (i + 1) places) p || old)
+marks-more old places i p marks marks_now within known own others =
+    elim (cases_eq p (get_or places i 0)) [
+      | inl same ↦
+          own (sym same)
+          ∙ sym (ap (λ b. b || old) (has-more places i p within ∙ ap (λ b. has (take i places) p || b) (eq-eqb (get_or places i 0) p (sym same)) ∙ or-on (has (take i places) p)))
+      | inr apart ↦
+          others apart ∙ known
+          ∙ sym (ap (λ b. b || old) (has-more places i p within ∙ ap (λ b. has (take i places) p || b) (ne_eqb (get_or places i 0) p (λ same. apart (sym same))) ∙ or-off (has (take i places) p)))
+    ]
+  where
+    or-on : (b : Bool) → (b || true) ≡ true
+    or-on true = refl
+    or-on false = refl
+
+    or-off : (b : Bool) → (b || false) ≡ b
+    or-off true = refl
+    or-off false = refl
 
 -- ---- a write
 
 -- a cell that gets a bit, and the wires on which it bears marked
 pub write-tracked : (gates : List Gate) (readers : List (Vec ℕ Global)) (cell : ℕ) (bit : Bool) (cells : List Bool) (marks marks_now places : List ℕ)
     → places ≡ get_or (lists_of readers) cell [] → length marks_now ≡ length marks
-    → ((place : ℕ) → place < 64 * length marks → has places place ≡ true → is_marked marks_now place ≡ true)
-    → ((place : ℕ) → is_marked marks place ≡ true → is_marked marks_now place ≡ true)
+    → ((place : ℕ) → place < 64 * length marks → is_marked marks_now place ≡ (has places place || is_marked marks place))
     → IsRead gates readers → IsTracked gates cells marks → IsTracked gates (set cells cell bit) marks_now
-write-tracked gates readers cell bit cells marks marks_now places places_are size all_set kept read tracked = record {
+write-tracked gates readers cell bit cells marks marks_now places places_are size known read tracked = record {
   room = omega (arith, tracked.room, size);
   even = λ place within off.
+      let now = known place (omega (arith, within, tracked.room)) in
       elim (cases_Bool (touches (gate_at gates place) cell)) [
         | inl near ↦
-            absurd (no-both
-            (all_set place (omega (arith, within, tracked.room)) (ap (λ list. has list place) places_are ∙ read place cell within near)) off)
-        | inr far ↦
-            stays-even cells cell bit (gate_at gates place) far
-            (elim (cases_Bool (is_marked marks place)) [
-              | inl was ↦ absurd (no-both (kept place was) off)
-              | inr before ↦ tracked.even place within before
-            ])
+            absurd (no-both (now ∙ ap (λ b. b || is_marked marks place) (ap (λ list. has list place) places_are ∙ read place cell within near)) off)
+        | inr far ↦ stays-even cells cell bit (gate_at gates place) far (tracked.even place within (off-both (has places place) (is_marked marks place) (sym now ∙ off)))
       ];
 }
+  where
+    off-both : (a b : Bool) → (a || b) ≡ false → b ≡ false
+    off-both false b off = off
+    off-both true b off = absurd cc
 
 -- ---- a sweep
 

@@ -1,6 +1,6 @@
 -- What writes of values, and sweeps over wires, do in a lane.
 use Rattle.std.proofs.Common.{◌≡◌, ◌≢◌, ℕ, zero, suc, ◌+◌, ◌*◌, ◌<◌, ◌≤◌, Bool, true, false, cond, List, [], ◌∷◌, Vec, Global, ap, ap₂, arith, fold, get_or, length, refl, set, subst, sym, take, ◌∙◌}
-use Rattle.std.specs.Prelude.{◌&&◌}
+use Rattle.std.specs.Prelude.{◌&&◌, ◌||◌}
 use Rattle.std.proofs.lemmas.List.{get_or-set_other, set-get_or}
 use Rattle.vlog_plan.specs.declared.gates.Gate.{Gate}
 use Rattle.vlog_plan.specs.Cells.{cell_at, gate_value}
@@ -19,12 +19,11 @@ same-cells cells cell old value is same = sym (ap (set cells cell) (sym same ∙
 -- one that gets another, and the wires on which it bears marked
 pub lane-tracked : {V : Type 0} (at : V → ℕ → Bool) (lane : ℕ) (gates : List Gate) (readers : List (Vec ℕ Global)) (cell : ℕ) (value : V) (cells cells_now : List V) (marks marks_now places : List ℕ)
     → cells_now ≡ set cells cell value → places ≡ get_or (lists_of readers) cell [] → length marks_now ≡ length marks
-    → ((place : ℕ) → place < 64 * length marks → has places place ≡ true → is_marked marks_now place ≡ true)
-    → ((place : ℕ) → is_marked marks place ≡ true → is_marked marks_now place ≡ true)
+    → ((place : ℕ) → place < 64 * length marks → is_marked marks_now place ≡ (has places place || is_marked marks place))
     → IsRead gates readers → IsTracked gates (lane_bits at lane cells) marks → IsTracked gates (lane_bits at lane cells_now) marks_now
-lane-tracked at lane gates readers cell value cells cells_now marks marks_now places cells_are places_are size all_set kept read tracked =
+lane-tracked at lane gates readers cell value cells cells_now marks marks_now places cells_are places_are size known read tracked =
     subst (λ c. IsTracked gates c marks_now) (sym (ap (lane_bits at lane) cells_are ∙ lane-set at lane cells cell value))
-    (write-tracked gates readers cell (at value lane) (lane_bits at lane cells) marks marks_now places places_are size all_set kept read tracked)
+    (write-tracked gates readers cell (at value lane) (lane_bits at lane cells) marks marks_now places places_are size known read tracked)
 
 -- ---- a wire
 

@@ -1,5 +1,5 @@
 // Marks on wires whose cells may not have their values. A word has the marks of 64 wires, that of the first in its lowest bit.
-ghost use Rattle.std.specs.Prelude.{◌≡◌, ◌≢◌, ◌<◌, ◌≤◌, ◌+◌, ◌*◌, ◌/◌, ℕ, [], IfOk, List, get_or, length, slice_set, true, false};
+ghost use Rattle.std.specs.Prelude.{◌≡◌, ◌≢◌, ◌<◌, ◌≤◌, ◌+◌, ◌*◌, ◌/◌, ◌||◌, ℕ, [], IfOk, List, get_or, length, slice_set, true, false};
 ghost use Rattle.vlog_cells.specs.Lanes.{lane_bits};
 ghost use Rattle.vlog_cells.specs.Marks.{IsRead, IsTracked, has, is_marked, lists_of};
 ghost use Rattle.vlog_plan.specs.Values.{bit_of};
@@ -26,6 +26,7 @@ pub(crate) fn next_one(word: u64, from: u32) -> u32
     requires { from ≤ 64 }
     ensures past { from ≤ result }
     ensures last { result ≤ 64 }
+    ensures found { result < 64 → bit_of word result ≡ true }
     ensures none { (k : ℕ) → from ≤ k → k < result → bit_of word k ≡ false }
 {
     let left = if from < 64 { word >> from } else { 0 };
@@ -38,8 +39,7 @@ pub(crate) fn next_one(word: u64, from: u32) -> u32
 
 /// Marks wires.
 fn mark_all(places: &[usize], marks: &mut [u64])
-    ensures set { (place : ℕ) → place < 64 * length marks.old → has places.now place ≡ true → is_marked marks.new place ≡ true }
-    ensures kept { (place : ℕ) → is_marked marks.old place ≡ true → is_marked marks.new place ≡ true }
+    ensures { (place : ℕ) → place < 64 * length marks.old → is_marked marks.new place ≡ (has places.now place || is_marked marks.old place) }
 {
     for place in places {
         set_mark(marks, *place, true);

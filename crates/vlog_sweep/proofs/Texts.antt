@@ -8,7 +8,7 @@ use Rattle.vlog_module.specs.Parts.{Parts}
 use Rattle.vlog_plan.specs.declared.event.Event.{Event}
 use Rattle.vlog_plan.specs.Run.{module_run, run_from, start}
 use Rattle.vlog_cycle.specs.Text.{entry_line, run_text}
-use Rattle.vlog_sweep.specs.Strands.{Stands, begun_text, had, left_of, line_put, next_entry, part, rest, stepped, written}
+use Rattle.vlog_sweep.specs.Strands.{Stands, begun_text, had, left_of, line_put, next_entry, part, stepped, written}
 use Rattle.vlog_sweep.specs.Sweep.{list_text}
 use Rattle.vlog_sweep.specs.declared.strand.Strand.{Strand}
 use Rattle.vlog_sweep.proofs.Runs.{lines-more}

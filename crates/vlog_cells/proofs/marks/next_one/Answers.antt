@@ -21,10 +21,18 @@ returns-else-left-eq0-clause-last c =
       | else-from-lt64 w ↦ absurd (omega (arith, w.left-is, c.if-left-eq0.false))
     ]
 
+pub returns-else-left-eq0-clause-found : goal.returns-else-left-eq0-clause-found
+returns-else-left-eq0-clause-found c inside =
+    elim c.if-from-lt64.branch [
+      | then-from-lt64 w ↦
+          (first-moved c.args.word c.args.from c.if-from-lt64.left (omega arith) w.left-is (omega (arith, c.if-left-eq0.false)) (omega (arith, w.left-is))).1
+      | else-from-lt64 w ↦ absurd (omega (arith, w.left-is, c.if-left-eq0.false))
+    ]
+
 pub returns-else-left-eq0-clause-none : goal.returns-else-left-eq0-clause-none
 returns-else-left-eq0-clause-none c =
     elim c.if-from-lt64.branch [
       | then-from-lt64 w ↦
-          (first-moved c.args.word c.args.from c.if-from-lt64.left (omega arith) w.left-is (omega (arith, c.if-left-eq0.false)) (omega (arith, w.left-is))).1
+          (first-moved c.args.word c.args.from c.if-from-lt64.left (omega arith) w.left-is (omega (arith, c.if-left-eq0.false)) (omega (arith, w.left-is))).2
       | else-from-lt64 w ↦ absurd (omega (arith, w.left-is, c.if-left-eq0.false))
     ]

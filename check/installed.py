@@ -1,0 +1,333 @@
+#!/usr/bin/env python3
+"""Installs the tools into a folder, and looks that they are at home there.
+
+Usage: check/installed.py [-q]     -q leaves out what runs the program over the chip databases of real devices
+
+- Each installed script runs the program with the arguments that it should, and hands on standard input as it came: the layout of real
+  chips, the chip database of the image's device, the options that are always passed. Here a script stands in the place of the program, which
+  tells what it gets. This is done in each shell of SHELLS that is there.
+- Where there is no database, or the input can't be copied, a script says so and ends with exit status 3. No temporary file is left.
+- Each tool has a manual page, which groff shows without a warning, and which has each option of the help.
+- bash completes the tools' names and options.
+- The stock tools' calls work over an HX1K and an HX8K, and `make` over stock.mk, a Makefile as those of IceStorm's examples.
+
+What this machine lacks a program for is skipped: the manual pages without groff, the completions without bash, the real devices without the
+databases of Debian's package fpga-icestorm-chipdb, and `make` without make, yosys and nextpnr-ice40.
+
+The last line is 'N passed, M failed' or 'N passed, M failed, K skipped'. Status 0: nothing failed; 1: something failed; 2: the arguments
+aren't taken; 127: there is no program.
+"""
+import os
+import pathlib
+import pty
+import shutil
+import subprocess
+import sys
+import tempfile
+
+from modules.programs import CHIPDB, TOP, missing
+from modules.small_chips import SMALL, SMALL_TILES, text_of
+from modules.tries import TOOLS, Tries
+
+SHELLS = ("sh",), ("dash",), ("bash", "--posix"), ("busybox", "sh"), ("ksh",), ("yash", "-o", "posix"), ("mksh",)
+
+# what stands in the program's place: it runs the program for a help or the version, and where install or a script asks it itself; else it
+# writes its arguments, a line each, and standard input
+TELLER = """#!/bin/sh
+case $*,$# in
+iceunpack,1 | icepack,1 | --version,1 | --help,1 | *" --help",2) exec "%s" "$@" ;;
+esac
+printf '%%s\\n' "$@"
+exec cat
+"""
+TEXT_1K = text_of(SMALL_TILES).encode()
+TEXT_8K = b".comment of a router\nwith words\n.device 8k\r\n.sym 5 .device 1k\n"
+BEHIND_PIPE = TEXT_1K + b"x" * 200000 + b"\0\xff"
+
+
+def first_lines(output):
+    """The start of what was written, in one line."""
+    return output.decode(errors="replace")[:300].replace("\n", " / ")
+
+
+class Installed(Tries):
+    """The tools as they are installed under a prefix, and a folder `work` with images."""
+
+    def __init__(self, folder):
+        super().__init__(folder)
+        self.work = self.folder / "the work"
+        self.copies = self.folder / "copies"
+        self.databases = self.folder / "data bases"
+        for made in (self.work, self.copies, self.databases):
+            made.mkdir()
+        (self.databases / "chipdb-1k.txt").write_text("# a database\n" + SMALL)
+        (self.databases / "chipdb-8k.txt").write_text("# of an 8k\n.device  8k\t34 34 6\n")
+        self.shells = [shell for shell in SHELLS if shutil.which(shell[0])]
+
+    def install(self, name, program):
+        """Installs that program, and gives the folder."""
+        prefix = self.folder / name
+        run = subprocess.run([TOP / "install", prefix], env={**os.environ, "ICESTORM": str(program)}, capture_output=True)
+        if run.returncode != 0:
+            sys.exit("check/installed.py: nothing is installed: " + first_lines(run.stderr))
+        return prefix
+
+    def teller(self, name):
+        """A script that stands in the program's place."""
+        path = self.folder / name
+        path.write_text(TELLER % self.program)
+        path.chmod(0o755)
+        return path
+
+    def environment(self, prefix, variables):
+        """The variables of a run: there is no HOME."""
+        return {"PATH": "%s:%s" % (prefix / "bin", os.environ["PATH"]), "TMPDIR": str(self.copies), "LC_ALL": "C.UTF-8", **variables}
+
+    def run_script(self, prefix, words, source=b"", variables=None, shell=(), **more):
+        """Runs an installed script."""
+        given = {"input": source, **more} if "stdin" not in more and "preexec_fn" not in more else more
+        return subprocess.run([*shell, prefix / "bin" / words[0], *words[1:]], capture_output=True, cwd=self.work,
+                              env=self.environment(prefix, variables or {}), **given)
+
+    def gets(self, prefix, words, wanted, source=b"", variables=None, **more):
+        """Looks that the program gets these arguments, and standard input as it came."""
+        output = "".join(word + "\n" for word in [words[0]] + wanted).encode() + source
+        variables = {"ICEBOX_CHIPDB": str(self.databases)} if variables is None else variables
+        for shell in self.shells:
+            run = self.run_script(prefix, words, source, variables, shell, **more)
+            fault = "" if (run.returncode, run.stdout, run.stderr) == (0, output, b"") else (
+                "status %d, it gets: %s, it says: %s" % (run.returncode, first_lines(run.stdout), first_lines(run.stderr)))
+            self.tell("%s: %s" % (" ".join(shell), " ".join(words)), fault, fault)
+
+    def stops(self, prefix, words, said, source=b"", variables=None, **more):
+        """Looks that a script ends with exit status 3 and a last line with these words, and that nothing was written."""
+        for shell in self.shells:
+            run = self.run_script(prefix, words, source, variables, shell, **more)
+            line = (run.stderr.decode().splitlines() or [""])[-1]
+            is_told = line.startswith(words[0] + ": ") and all(part in line for part in said)
+            fault = "" if run.returncode == 3 and not run.stdout and is_told else "status %d, it says: %s" % (run.returncode, first_lines(run.stderr))
+            self.tell("%s: %s: %s" % (" ".join(shell), " ".join(words), line), fault, fault)
+
+
+def make_images(tries):
+    """Writes images of each kind into the folder `work`."""
+    for name, text in (("a.asc", TEXT_1K), ("b.asc", TEXT_8K), ("with a space.asc", TEXT_8K), ("-n", TEXT_8K), ("none.asc", b"no device\n"),
+                       ("other.asc", b".device 2k\n"), ("blanks.asc", b".device   8k \r\n"), ("odd.asc", b".device ../8k\n")):
+        (tries.work / name).write_bytes(text)
+    for name in ("a", "b"):
+        run = subprocess.run([tries.program, "icepack", name + ".asc", name + ".bin"], cwd=tries.work, capture_output=True)
+        if run.returncode != 0:
+            sys.exit("check/installed.py: no bitstream of %s.asc: %s" % (name, first_lines(run.stderr)))
+
+
+def try_arguments(tries):
+    """What the scripts make of their arguments."""
+    prefix = tries.install("a prefix", tries.teller("teller"))
+    layout = ["--layout", str(prefix / "share/icestorm/silicon.layout")]
+    vlog = layout + ["--used-inputs"]
+    small, large = str(tries.databases / "chipdb-1k.txt"), str(tries.databases / "chipdb-8k.txt")
+
+    def gets(words, wanted, **more):
+        tries.gets(prefix, words, wanted, **more)
+
+    # tools without a database
+    gets(["icepack", "-s", "a.asc"], layout + ["-s", "a.asc"])
+    gets(["iceunpack"], layout, source=b"bytes")
+    gets(["icepack", "--layout=x", "a.asc"], ["--layout=x", "a.asc"])
+    gets(["icepack", "--", "--layout"], layout + ["--", "--layout"])
+    gets(["icepack", "--version"], ["--version"])
+    gets(["icebram", "from", "to"], ["--by-mode", "from", "to"], source=TEXT_1K)
+    gets(["icebram", "--by-mode", "from", "to"], ["--by-mode", "from", "to"])
+    gets(["icebram", "--", "--by-mode", "to"], ["--by-mode", "--", "--by-mode", "to"])
+    gets(["icemulti", "-p0", "a.bin", "b b.bin"], ["-p0", "a.bin", "b b.bin"])
+    gets(["vlogrun", "-s", ""], ["-s", ""], source=b"clk 1\n")
+
+    # one image, of each device and kind
+    gets(["icebox_explain", "a.asc"], layout + [small, "a.asc"])
+    gets(["icebox_explain", "b.asc"], layout + [large, "b.asc"])
+    gets(["icebox_explain", "a.bin"], layout + [small, "a.bin"])
+    gets(["icebox_vlog", "b.bin"], vlog + [large, "b.bin"])
+    gets(["icebox_stat", "b.bin"], [large, "b.bin"])
+    gets(["icebox_stat", "with a space.asc"], [large, "with a space.asc"], source=b"not read")
+    gets(["icebox_stat", "blanks.asc"], [large, "blanks.asc"])
+    gets(["icebox_vlog", "none.asc"], vlog + [small, "none.asc"])
+    gets(["icebox_stat", "odd.asc"], [small, "odd.asc"])
+
+    # options with values, names behind --
+    gets(["icebox_explain", "-t", "1 1", "b.asc"], layout + [large, "-t", "1 1", "b.asc"])
+    gets(["icebox_explain", "b.asc", "-t", "1 1"], layout + [large, "b.asc", "-t", "1 1"])
+    gets(["icebox_explain", "--layout", "a.asc", "b.asc"], [large, "--layout", "a.asc", "b.asc"])
+    gets(["icebox_vlog", "-n", "a.asc", "b.asc"], vlog + [large, "-n", "a.asc", "b.asc"])
+    gets(["icebox_vlog", "-ntop", "b.asc"], vlog + [large, "-ntop", "b.asc"])
+    gets(["icebox_vlog", "--", "-n"], vlog + [large, "--", "-n"])
+    gets(["icebox_vlog", "-p", "pins.pcf", "a.asc"], vlog + ["-d", "tq144", small, "-p", "pins.pcf", "a.asc"])
+    gets(["icebox_vlog", "b.asc", "-ppins.pcf"], vlog + ["-d", "ct256", large, "b.asc", "-ppins.pcf"])
+    gets(["icebox_vlog", "-d", "qn84", "-p", "pins.pcf", "a.asc"], vlog + [small, "-d", "qn84", "-p", "pins.pcf", "a.asc"])
+    gets(["icebox_vlog", "-n", "-p", "a.asc"], vlog + [small, "-n", "-p", "a.asc"])
+    gets(["icebox_vlog", "--used-inputs", "a.asc"], layout + [small, "--used-inputs", "a.asc"])
+
+    # pipes: none is named, or one that can't be read twice
+    gets(["icebox_explain"], layout + [small], source=TEXT_1K)
+    gets(["icebox_vlog", "-n", "top"], vlog + [large, "-n", "top"], source=TEXT_8K)
+    gets(["icebox_stat"], [large], source=(tries.work / "b.bin").read_bytes())
+    gets(["icebox_stat"], [small], source=BEHIND_PIPE)
+    gets(["icebox_vlog", "/dev/stdin", "-n", "top"], vlog + [large, "-n", "top"], source=TEXT_8K)
+    gets(["icebox_stat"], [small], source=b"")
+
+    # a database is named, or what isn't for the script to judge
+    gets(["icebox_stat", small], [small], source=TEXT_8K)
+    gets(["icebox_explain", large, "a.asc"], layout + [large, "a.asc"], source=b"not read")
+    gets(["icebox_vlog", "a.asc", "b.asc"], vlog + ["a.asc", "b.asc"])
+    gets(["icebox_vlog", "missing.asc"], vlog + ["missing.asc"])
+    gets(["icebox_stat", "/"], ["/"])
+    gets(["icebox_vlog", "--version"], ["--version"])
+    try_places(tries, prefix)
+    try_pipe(tries, prefix)
+    try_terminal(tries, prefix)
+
+
+def try_places(tries, prefix):
+    """Where databases are looked for, and what is said where there is none."""
+    stat, own = ["icebox_stat", "a.asc"], prefix / "share/icestorm/chipdb"
+    if (CHIPDB / "chipdb-1k.txt").exists():
+        tries.gets(prefix, stat, [str(CHIPDB / "chipdb-1k.txt"), "a.asc"], variables={})
+    tries.stops(prefix, ["icebox_stat", "other.asc"], ("chipdb-2k.txt", str(own), str(CHIPDB), "ICEBOX_CHIPDB"), variables={})
+    tries.stops(prefix, stat, ("chipdb-1k.txt", "no place", "ICEBOX_CHIPDB"), variables={"ICEBOX_CHIPDB": "no place"})
+    tries.stops(prefix, ["icebox_vlog"], ("chipdb-8k.txt", "no place"), source=TEXT_8K, variables={"ICEBOX_CHIPDB": "no place"})
+    shutil.copytree(tries.databases, own)
+    tries.gets(prefix, stat, [str(own / "chipdb-1k.txt"), "a.asc"], variables={})
+    shutil.copytree(tries.databases, tries.work / "-d")
+    tries.gets(prefix, stat, ["./-d/chipdb-1k.txt", "a.asc"], variables={"ICEBOX_CHIPDB": "-d"})
+    tries.stops(prefix, ["icebox_stat"], ("temporary",), source=TEXT_1K, variables={"TMPDIR": "/no/place"})
+    tries.stops(prefix, ["icebox_stat"], ("can't be read",), preexec_fn=lambda: os.close(0))
+    tries.tell("no temporary file is left", ", ".join(path.name for path in tries.copies.iterdir()))
+
+
+def try_pipe(tries, prefix):
+    """A name that is a pipe, while standard input is something else."""
+    for shell in tries.shells:
+        reading, writing = os.pipe()
+        os.write(writing, TEXT_8K)
+        os.close(writing)
+        run = tries.run_script(prefix, ["icebox_stat", "/dev/fd/%d" % reading], b"not read", {"ICEBOX_CHIPDB": str(tries.databases)}, shell,
+                               pass_fds=[reading])
+        os.close(reading)
+        wanted = ("icebox_stat\n%s\n" % (tries.databases / "chipdb-8k.txt")).encode() + TEXT_8K
+        tries.tell("%s: icebox_stat of a pipe" % " ".join(shell), "" if run.stdout == wanted else "it gets: " + first_lines(run.stdout + run.stderr))
+
+
+def try_terminal(tries, prefix):
+    """At a terminal a script waits for no image: the program says its usage."""
+    ours, theirs = pty.openpty()
+    os.write(ours, b"\4" * len(tries.shells))
+    tries.gets(prefix, ["icebox_stat"], [], stdin=theirs)
+    os.close(ours)
+    os.close(theirs)
+
+
+def try_pages(tries, prefix):
+    """The manual pages."""
+    for tool in ("icestorm",) + TOOLS:
+        page = prefix / "share/man/man1" / (tool + ".1")
+        shown = subprocess.run(["groff", "-man", "-ww", "-Tascii", "-P-cbou", page], capture_output=True)
+        text = shown.stdout.decode(errors="replace")
+        sections = ["NAME", "SYNOPSIS", "EXIT STATUS", "EXAMPLES", "SEE ALSO"] + ["DESCRIPTION"] * (tool in ("icebox_vlog", "icebox_stat"))
+        missing = [section for section in sections if "\n%s\n" % section not in text]
+        missing += [option for option in options(prefix, tool) if "\n       %s" % option not in text]
+        fault = first_lines(shown.stderr) or ("it has no " + ", ".join(missing) if missing else "")
+        self_named = "%s - " % tool in text
+        tries.tell("the manual page %s" % page.name, fault or ("" if self_named else "it has another name"))
+
+
+def options(prefix, tool):
+    """The options that the help of an installed tool has."""
+    words = [prefix / "bin" / tool, "--help"]
+    lines = subprocess.run(words, capture_output=True, check=True).stdout.decode().splitlines()
+    return [line.split()[0] for line in lines if line.startswith("  -")]
+
+
+def completed(prefix, name, words):
+    """What bash completes the last one of these words to, where the completions of that name were read."""
+    script = 'source "$1" && shift && complete -p "$1" >&2 && COMP_WORDS=("$@") && COMP_CWORD=$(($# - 1)) && '
+    script += '_icestorm "$1" "${COMP_WORDS[COMP_CWORD]}" "${COMP_WORDS[COMP_CWORD - 1]}" && printf "%s " "${COMPREPLY[@]}"'
+    run = subprocess.run(["bash", "--norc", "-c", script, "bash", prefix / "share/bash-completion/completions" / name, *words], capture_output=True)
+    return run.stdout.decode().split(), run.stderr.decode()
+
+
+def try_completions(tries, prefix):
+    """The completions for bash."""
+    for tool in TOOLS:
+        found, said = completed(prefix, tool, [tool, "-"])
+        wanted = options(prefix, tool) + ["--help"]
+        is_bound = said.strip() == "complete -o default -F _icestorm " + tool
+        tries.tell("bash completes %s" % tool, "" if found == wanted and is_bound else "to: %s; %s" % (" ".join(found), said))
+    for words, wanted in ((["icestorm", "icebox_"], ["icebox_explain", "icebox_stat", "icebox_vlog"]), (["icepack", "--la"], ["--layout"]),
+                          (["icestorm", "icebram", "--b"], ["--by-mode"]), (["icepack", "a"], []), (["icestorm", "icepack", ""], [])):
+        found, _ = completed(prefix, words[0], words)
+        tries.tell("bash completes: %s" % " ".join(words), "" if found == wanted else "to: " + " ".join(found))
+
+
+def try_devices(tries, prefix):
+    """The stock tools' calls, over real databases."""
+    examples = TOP / "examples"
+
+    def holds(words, wanted, source=b""):
+        run = tries.run_script(prefix, words, source)
+        is_wanted = run.returncode == 0 and not run.stderr and wanted(run.stdout)
+        fault = "" if is_wanted else "status %d, it says: %s" % (run.returncode, first_lines(run.stderr))
+        tries.tell(" ".join(pathlib.Path(word).name for word in words) + (" from a pipe" if source else ""), fault)
+
+    text = examples / "bus_1k/bus.asc"
+    header = (examples / "bus_1k/bus.module").read_bytes().splitlines()[0]
+    explained = {name: (examples / name).read_bytes() for name in ("blink_1k/blink.explain", "lights_8k/lights.explain")}
+    holds(["icebox_explain", str(examples / "blink_1k/blink.asc")], lambda output: output == explained["blink_1k/blink.explain"])
+    holds(["icebox_vlog"], lambda output: output.splitlines()[0] == header, text.read_bytes())
+    try_part(tries, prefix, try_make, "make", "yosys", "nextpnr-ice40")
+    holds(["icebox_explain"], lambda output: output == explained["lights_8k/lights.explain"], (examples / "lights_8k/lights.asc").read_bytes())
+
+
+def try_make(tries, prefix):
+    """A stock project's Makefile."""
+    for source in (TOP / "examples/player_1k").iterdir():
+        if source.suffix != ".asc":
+            shutil.copy(source, tries.work)
+    shutil.copy(TOP / "check/modules/stock.mk", tries.work / "Makefile")
+    flags = ["VLOG_FLAGS=-p player.pcf"] if "-p" in options(prefix, "icebox_vlog") else []
+    run = subprocess.run(["make"] + flags, cwd=tries.work, env=tries.environment(prefix, {}), capture_output=True)
+    tries.tell("make", "" if run.returncode == 0 else "status %d: %s" % (run.returncode, first_lines(run.stderr)))
+    for name, start in (("player.bin", b"\xff"), ("player.ex", b".device 1k\n"), ("player_chip.v", b"module chip ("), ("player_loaded.bin", b"\xff"),
+                        ("player.stat", b"luts ")):
+        path = tries.work / name
+        tries.tell("make makes %s" % name, "" if path.exists() and path.read_bytes().startswith(start) else "it isn't there, or begins otherwise")
+    pair = [tries.work / name for name in ("player.bin", "player_loaded.bin")]
+    is_loaded = all(path.exists() for path in pair) and pair[0].read_bytes() != pair[1].read_bytes()
+    tries.tell("make puts other contents into the RAM", "" if is_loaded else "the bitstreams are the same")
+
+
+def try_part(tries, prefix, part, *needs):
+    """A part, if this machine has what it needs."""
+    lacking = missing(needs)
+    if lacking:
+        tries.skip(part.__doc__.rstrip("."), lacking)
+    else:
+        part(tries, prefix)
+
+
+def main(words):
+    if words not in ([], ["-q"]):
+        print(__doc__, file=sys.stderr)
+        return 2
+    with tempfile.TemporaryDirectory() as folder:
+        tries = Installed(folder)
+        make_images(tries)
+        try_arguments(tries)
+        prefix = tries.install("real", tries.program)
+        try_part(tries, prefix, try_pages, "groff")
+        try_part(tries, prefix, try_completions, "bash")
+        if not words:
+            try_part(tries, prefix, try_devices, "chipdb")
+        return tries.end()
+
+
+if __name__ == "__main__":
+    sys.exit(main(sys.argv[1:]))

@@ -14,7 +14,8 @@ its own, say more of them. A reader of the page doesn't see them:
 
     <!-- check: folder examples/player_1k -->   the commands run in a copy of this folder; 'folder .' has icestorm, README.md, examples and
                                                 layouts. Otherwise the folder is empty at the start
-    <!-- check: needs yosys chipdb -->          what follows is skipped if this machine lacks one of these programs, or the chip databases
+    <!-- check: needs yosys chipdb -->          what follows is skipped if this machine lacks one of these programs, or the chip databases;
+                                                '<!-- check: needs -->' ends that
     <!-- check: each printf ... | icepack -->   each line of the next block is 'WORDS -> LINE' or 'WORDS -> [STATUS] LINE': the command with
                                                 WORDS in place of '...' prints the line and ends with the status, 1 if none is told
 """
@@ -22,7 +23,6 @@ import dataclasses
 import os
 import pathlib
 import re
-import shlex
 import shutil
 import subprocess
 import tempfile
@@ -30,7 +30,7 @@ import tempfile
 from modules.programs import TOP, missing
 
 SECONDS = 120
-NOTE = re.compile(r"<!-- check: (\w+) (.*) -->$")
+NOTE = re.compile(r"<!-- check: (\w+) ?(.*?) -->$")
 STATUS = re.compile(r"\[(\d+)\]$")
 EACH = re.compile(r"(.*?)\s*-> (?:\[(\d+)\] )?(.*)$")
 # what a folder like the top of the repository has

@@ -3,7 +3,7 @@ use Rattle.std.specs.Prelude.{All}
 use Rattle.std.proofs.lemmas.List.Elements.{All-push, All-same}
 use Rattle.vlog_plan.specs.Run.{input_names}
 use Rattle.vlog_sweep.specs.declared.list.EventList.{EventList}
-use Rattle.lanes_tests.proofs.tests.sweeps.lists_of.Goals as goal
+use Rattle.vlog_tests.proofs.tests.sweeps.lists_of.Goals as goal
 
 pub loop-text-preserved : goal.loop-text-preserved
 loop-text-preserved c =

@@ -20,7 +20,7 @@ import sys
 import tempfile
 
 from modules.programs import CHIPDB, need
-from modules.small_chips import SMALL, SMALL_TILES, text_of
+from modules.small_chip import DATABASE, TILES, text_of
 from modules.tries import Tries, make_files
 
 # a fuzzer changes small files faster, and more of what they say
@@ -83,11 +83,11 @@ def places(files):
 
 def made_seeds():
     """The names and the bytes of seeds that are no files of the examples."""
-    yield "small.database", SMALL.encode()
-    yield "pinned.database", (SMALL + ".pins small\nA1 0 1 0\nA2 0 2 0\n").encode()
+    yield "small.database", DATABASE.encode()
+    yield "pinned.database", (DATABASE + ".pins small\nA1 0 1 0\nA2 0 2 0\n").encode()
     yield "small.pcf", b"# a board\nset_io -pullup yes button A1\nset_io led[0] A2\nset_frequency button 12\n"
     yield "first.database", shortened(CHIPDB / "chipdb-1k.txt")
-    yield "small.asc", text_of(SMALL_TILES).encode()
+    yield "small.asc", text_of(TILES).encode()
     yield "statements.asc", STATEMENTS.encode()
     yield "least.asc", LEAST.encode()
 

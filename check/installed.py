@@ -26,7 +26,7 @@ import sys
 import tempfile
 
 from modules.programs import CHIPDB, TOP, missing
-from modules.small_chips import SMALL, SMALL_TILES, text_of
+from modules.small_chip import DATABASE, TILES, text_of
 from modules.tries import TOOLS, Tries
 
 SHELLS = ("sh",), ("dash",), ("bash", "--posix"), ("busybox", "sh"), ("ksh",), ("yash", "-o", "posix"), ("mksh",)
@@ -40,7 +40,7 @@ esac
 printf '%%s\\n' "$@"
 exec cat
 """
-TEXT_1K = text_of(SMALL_TILES).encode()
+TEXT_1K = text_of(TILES).encode()
 TEXT_8K = b".comment of a router\nwith words\n.device 8k\r\n.sym 5 .device 1k\n"
 BEHIND_PIPE = TEXT_1K + b"x" * 200000 + b"\0\xff"
 
@@ -60,7 +60,7 @@ class Installed(Tries):
         self.databases = self.folder / "data bases"
         for made in (self.work, self.copies, self.databases):
             made.mkdir()
-        (self.databases / "chipdb-1k.txt").write_text("# a database\n" + SMALL)
+        (self.databases / "chipdb-1k.txt").write_text("# a database\n" + DATABASE)
         (self.databases / "chipdb-8k.txt").write_text("# of an 8k\n.device  8k\t34 34 6\n")
         self.shells = [shell for shell in SHELLS if shutil.which(shell[0])]
 

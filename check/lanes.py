@@ -3,10 +3,10 @@
 
 Usage: check/lanes.py
 
-Two tests in crates/lanes_tests/src/requests.rt read the module of a small chip, and one of them makes lanes of it too. What that one asks
+Two tests in crates/vlog_tests/src/requests.rt read the module of a small chip, and one of them makes lanes of it too. What that one asks
 more often is what the lanes ask: at least once, and fewer than 64 times, since 64 runners would ask once each at least.
 
-The tests are crates/lanes_tests/out/lanes_tests_tests, which `rt test` makes there, or those of the environment variable LANES_TESTS.
+The tests are crates/vlog_tests/out/vlog_tests_tests, which `rt test` makes there, or those of the environment variable VLOG_TESTS.
 modules/refusing.py tells how requests are counted. The last line is 'N passed, M failed'. Status 0: it is so; 1: it isn't; 127: there are no
 tests or no compiler.
 """
@@ -17,7 +17,7 @@ import tempfile
 from modules.programs import TOP
 from modules.refusing import Refusing, need_refusing
 
-TESTS = os.environ.get("LANES_TESTS", str(TOP / "crates/lanes_tests/out/lanes_tests_tests"))
+TESTS = os.environ.get("VLOG_TESTS", str(TOP / "crates/vlog_tests/out/vlog_tests_tests"))
 READS, MAKES = "requests::reads_a_module", "requests::makes_lanes_of_a_module"
 LANES = 64
 

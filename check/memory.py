@@ -3,8 +3,8 @@
 
 Usage: check/memory.py [TOOL...]     all tools, and icestorm for the program's own help and version, if none is named
 
-Each tool runs over files of the examples with a chip database of a 1k, over the small chips of modules/small_chips.py and their images, over a
-database whose names fill more than one chunk of 65,536 bytes, and writes its help. A first run counts the requests for memory. Then each of them is refused in a run of its own; of a job with more than MOST_IN_TURN
+Each tool runs over files of the examples with a chip database of a 1k, over a small database and its image, over the databases and images of
+a carry chain and of a RAM in transcripts/files, over a database whose names fill more than one chunk of 65,536 bytes, and writes its help. A first run counts the requests for memory. Then each of them is refused in a run of its own; of a job with more than MOST_IN_TURN
 requests the first ones and every 500th after them. Of each such run is asked:
 
 - the request was refused, and the program ended with exit status 5 and the line 'TOOL: out of memory';
@@ -23,12 +23,13 @@ database or no compiler.
 """
 import os
 import pathlib
+import subprocess
 import sys
 import tempfile
 
 from modules.programs import TOP, need
 from modules.refusing import Refusing, need_refusing
-from modules.small_chips import CARRY, CARRY_TILES, RAM, RAM_TILES, SMALL, SMALL_TILES, text_of
+from modules.small_chip import DATABASE, TILES, text_of
 from modules.tries import BEFORE, make_files, own_words, places, speaker
 
 MOST_IN_TURN, FIRST, STEP = 5000, 200, 500
@@ -89,16 +90,24 @@ def try_job(tries, words, source):
 
 # ---- what is tried
 
+def of_page(name):
+    """A database of check/transcripts/files, and the text of its image."""
+    files = TOP / "check/transcripts/files"
+    words = ["awk", "-f", files / "tiles.awk", files / (name + ".tiles")]
+    image = subprocess.run(words, stdout=subprocess.PIPE, text=True, check=True).stdout
+    return (files / (name + ".chipdb")).read_text(), image
+
+
 def many_names():
     """The small database with names behind its own that fill more than one chunk."""
     nets = "".join(".net %d\n1 1 %s_%d\n" % (net, "name" * 15, net) for net in range(6, 1506))
-    return SMALL.replace("14 18 6", "14 18 1506").replace(".buffer 1 1", nets + ".buffer 1 1")
+    return DATABASE.replace("14 18 6", "14 18 1506").replace(".buffer 1 1", nets + ".buffer 1 1")
 
 
 def samples():
     """Small databases and the texts of their images, each pair with a name."""
-    return (("small", SMALL, text_of(SMALL_TILES)), ("names", many_names(), text_of(SMALL_TILES)), ("carry", CARRY, text_of(CARRY_TILES)),
-            ("ram", RAM, text_of(RAM_TILES)))
+    return (("small", DATABASE, text_of(TILES)), ("names", many_names(), text_of(TILES)), ("carry",) + of_page("carry"),
+            ("ram",) + of_page("memory"))
 
 
 def of_sample(tries, name, database, image):

@@ -13,12 +13,12 @@ import os
 import sys
 import tempfile
 
-from modules.small_chips import SMALL_TILES, text_of
+from modules.small_chip import TILES, text_of
 from modules.tries import Tries
 
 STACK = 256 << 10
 PINS = ".device 1k 14 18 %d\n.io_tile_bits 18 16\n" + "".join("IOB_0.PINTYPE_%d B%d[0]\n" % (row, row) for row in range(6))
-INPUT, OUTPUT = SMALL_TILES[:2]
+INPUT, OUTPUT = TILES[:2]
 
 
 def database(length, is_cycle):

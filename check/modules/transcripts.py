@@ -113,7 +113,7 @@ class Reader:
         elif line.startswith("$ "):
             self.in_block = True
             self.add(number, line[2:], [], None)
-        elif self.in_block and line.startswith("> ") and not self.commands[-1].prints:
+        elif self.in_block and (line + " ").startswith("> ") and not self.commands[-1].prints:
             self.commands[-1].text += "\n" + line[2:]
         elif self.in_block:
             self.commands[-1].prints.append(line)

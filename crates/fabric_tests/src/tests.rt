@@ -1,32 +1,29 @@
-// What a database and an image of a 1k give. A test of links, parts and designs is a table of cases; the functions below make the
-// calls, one kind of call each.
+// What a database and an image of a 1k give. A test of links, parts and designs names a case; the functions below make the calls, one
+// kind of call each.
 
 ghost use Rattle.std.specs.Prelude.{◌≡◌};
 ghost use Rattle.ice_image.specs.Either.{configuration_of};
 ghost use Rattle.chipdb_reader.specs.Kept.{database_in};
 ghost use Rattle.net_extract.specs.Links.{AreLinks};
 
-mod cells;
 mod counts;
 mod databases;
 mod designs;
-mod drives;
 mod explained;
-mod long_chains;
+mod modules;
 mod nets;
 mod orders;
-mod pin_kinds;
+mod pin_files;
 mod pins;
 mod rams;
 
 use chipdb_reader::{ChipDb, PinXy};
 use fabric::{Design, FabricFault, LinkEnds, design, design_with};
 use fabric_parts::{cells as find_cells, pins as find_pins, rams as find_rams};
-use fabric_wiring::{ClockEnd, Drive, Output};
+use fabric_wiring::{ClockEnd, Output};
 use ice_image::AnyImage;
-use net_extract::{
-    CarrySet, ClockUser, Driver, GlobalNet, Lc, Links, LutInputs, Pin, RamCell, Register, links,
-};
+use modules::is_printed;
+use net_extract::{Driver, GlobalNet, Links, LutInputs, Pin, RamCell, Register, links};
 use plane_map::Place;
 use sample_images::{SampleBit, database, image_with, set_bits, set_extras};
 use std::alloc::Global;
@@ -71,40 +68,20 @@ enum Gives<'a> {
         routings: &'a [u32],
         nets: &'a [Net],
     },
-    /// So many routings that are on, and one class of all nets, which are all read.
-    OneClass(usize),
     /// A design with these parts.
     Pins(&'a [Pin], &'a [GlobalNet]),
-    Cells(&'a [Lc], &'a [CarrySet]),
     /// A design with one RAM, whose words are written at falling edges and read at falling edges.
     Ram(bool, bool),
-    NoRam,
-    /// A design with one RAM, which is read and written in these modes.
-    Modes(u8, u8),
     /// A design with these outputs.
     Outputs(&'a [Output]),
-    /// A design in which these drive the nets.
-    Drives(&'a [Option<Drive>]),
-    /// A design with two pins whose classes are written in this order.
-    Order(&'a [u32]),
     /// A design with these registers, whose classes are written in this order.
     Registers(&'a [Register], &'a [u32]),
     /// A design that answers as the clocked inverter does, with the pins, RAMs and cells that are found by themselves.
     Calls,
-    /// No design, for this cause.
-    Refused(Cause<'a>),
-}
-
-/// Why there is no design.
-#[derive(Clone, Copy, PartialEq, Eq)]
-enum Cause<'a> {
-    Pll(u8, u8),
-    PinMode(u8, u8, u8, u8),
-    Cascade(u8, u8),
-    TwoDrivers(u32, Driver, Driver),
+    /// A design whose module has this text.
+    Module(&'a str),
+    /// No design, since the class of a net is on this cycle.
     Loop(u32, &'a [u32]),
-    Clock(u8, u8, ClockUser, u32),
-    Other,
 }
 
 /// The place of the extra bit that lets the pad of global 2 drive it.
@@ -142,24 +119,13 @@ fn are_nets(links: &Links, nets: &[Net]) -> bool {
     links.net_count() == nets.len()
 }
 
-/// Whether all nets are one class and all are read.
-fn are_one(links: &Links, count: u32) -> bool {
-    for net in 0..count {
-        if net_at(links, net) != Some((0, true)) {
-            return false;
-        }
-    }
-    links.net_count() == count as usize
-}
-
-fn has_links(links: &Links, count: u32, gives: Gives) -> bool {
+fn has_links(links: &Links, gives: Gives) -> bool {
     match gives {
         Gives::Links {
             buffers,
             routings,
             nets,
         } => { links.buffers() == buffers && links.routings() == routings && are_nets(links, nets) }
-        Gives::OneClass(on) => links.routings().len() == on && are_one(links, count),
         _ => true,
     }
 }
@@ -167,21 +133,9 @@ fn has_links(links: &Links, count: u32, gives: Gives) -> bool {
 /// Whether the links are those, where links are asked for.
 fn gives_links(alloc: Global, db: &ChipDb, image: &AnyImage, gives: Gives) -> bool {
     match links(alloc, db, image) {
-        Ok(links) => has_links(&links, db.net_count(), gives),
+        Ok(links) => has_links(&links, gives),
         Err(_) => false,
     }
-}
-
-/// Whether these drive the nets from 0 on.
-fn are_drives(design: &Design, drives: &[Option<Drive>]) -> bool {
-    let mut net = 0;
-    for expected in drives {
-        if design.drive(net) != *expected {
-            return false;
-        }
-        net = net.saturating_add(1);
-    }
-    design.net_count() == drives.len()
 }
 
 /// Whether a RAM is that at (3, 1), with these edges and nets.
@@ -201,45 +155,30 @@ fn are_rams(rams: &[RamCell], wneg: bool, rneg: bool) -> bool {
     }
 }
 
-fn have_modes(rams: &[RamCell], read: u8, write: u8) -> bool {
-    match rams {
-        [ram] => (ram.read, ram.write) == (read, write),
-        _ => false,
-    }
-}
-
-fn has_parts(design: &Design, gives: Gives) -> bool {
+fn has_parts(alloc: Global, design: &Design, gives: Gives) -> bool {
     match gives {
         Gives::Pins(pins, globals) => design.pins() == pins && design.globals() == globals,
-        Gives::Cells(lcs, sets) => design.lcs() == lcs && design.sets() == sets,
         Gives::Ram(wneg, rneg) => are_rams(design.rams(), wneg, rneg),
-        Gives::NoRam => design.rams().is_empty(),
-        Gives::Modes(read, write) => have_modes(design.rams(), read, write),
         Gives::Outputs(outputs) => design.outputs() == outputs,
-        Gives::Drives(drives) => are_drives(design, drives),
         Gives::Registers(registers, order) => {
             design.registers() == registers && design.order() == order
         }
-        Gives::Order(order) => design.order() == order && design.pins().len() == 2,
+        Gives::Module(text) => is_printed(alloc, design, text) == Ok(true),
         _ => false,
     }
 }
 
-fn cause_of(fault: &FabricFault) -> Cause {
+/// Whether a fault is that cycle.
+fn is_cycle(fault: &FabricFault, net: u32, nets: &[u32]) -> bool {
     match fault {
-        FabricFault::Pll { x, y } => Cause::Pll(*x, *y),
-        FabricFault::PinMode { x, y, pio, pintype } => Cause::PinMode(*x, *y, *pio, *pintype),
-        FabricFault::Cascade { x, y } => Cause::Cascade(*x, *y),
-        FabricFault::TwoDrivers { net, first, second } => Cause::TwoDrivers(*net, *first, *second),
-        FabricFault::Loop { net, cycle } => Cause::Loop(*net, cycle.nets()),
-        FabricFault::Clock { x, y, user, net } => Cause::Clock(*x, *y, *user, *net),
-        FabricFault::Device | FabricFault::Memory(_) => Cause::Other,
+        FabricFault::Loop { net: found, cycle } => *found == net && cycle.nets() == nets,
+        _ => false,
     }
 }
 
 fn is_refused(fault: &FabricFault, gives: Gives) -> bool {
     match gives {
-        Gives::Refused(cause) => cause_of(fault) == cause,
+        Gives::Loop(net, nets) => is_cycle(fault, net, nets),
         _ => false,
     }
 }
@@ -266,7 +205,7 @@ fn gives_design(
     gives: Gives,
 ) -> bool {
     match design_by(alloc, db, image, lut_inputs) {
-        Ok(design) => design.lut_inputs() == lut_inputs && has_parts(&design, gives),
+        Ok(design) => design.lut_inputs() == lut_inputs && has_parts(alloc, &design, gives),
         Err(fault) => is_refused(&fault, gives),
     }
 }
@@ -279,7 +218,7 @@ fn holds(
     gives: Gives,
 ) -> bool {
     match gives {
-        Gives::Links { .. } | Gives::OneClass(_) => gives_links(alloc, db, image, gives),
+        Gives::Links { .. } => gives_links(alloc, db, image, gives),
         Gives::Calls => gives_calls(alloc, db, image),
         _ => gives_design(alloc, db, image, lut_inputs, gives),
     }

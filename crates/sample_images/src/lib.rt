@@ -9,7 +9,4 @@ mod pins;
 
 pub use databases::{CELL, INVERTER, database};
 pub use images::{SampleBit, image_with, set_bits, set_extras};
-pub use pins::{
-    INVERTS, REGISTERED_INPUT, REGISTERED_INPUT_PINS, REGISTERED_OUTPUT, REGISTERED_OUTPUT_PINS,
-    SWITCHED_PINS,
-};
+pub use pins::{INVERTS, REGISTERED_OUTPUT, REGISTERED_OUTPUT_PINS};

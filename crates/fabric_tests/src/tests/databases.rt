@@ -1,4 +1,4 @@
-// Databases read: their faults, and what is looked up in them.
+// Databases read from texts, from sources and from files, and what is looked up in them.
 ghost use Rattle.std.specs.Prelude.{◌<◌, ◌^◌};
 
 use chipdb_reader::{
@@ -10,7 +10,7 @@ use sample_images::CELL;
 use std::alloc::{AllocError, Global};
 
 /// A small database of an 8k.
-pub(super) const OTHER: &[u8] = b".device 8k 34 34 4
+const OTHER: &[u8] = b".device 8k 34 34 4
 .gbufin
 0 16 3
 33 17 3
@@ -41,72 +41,6 @@ fn read_short(alloc: Global, text: &[u8]) -> Result<ChipDb, DbFault> {
             cause: DbCause::Number,
         })
     }
-}
-
-/// The fault of a text: line 0 where it is read, line 1000 where memory is out.
-fn fault_of(alloc: Global, text: &[u8]) -> (u64, DbCause) {
-    match read_short(alloc, text) {
-        Ok(_) => (0, DbCause::NoDevice),
-        Err(DbFault::At { line, cause }) => (line, cause),
-        Err(DbFault::Memory(_)) => (1000, DbCause::NoDevice),
-    }
-}
-
-/// The fault of the small database with more lines at its end.
-fn fault_with(alloc: Global, more: &[u8]) -> (u64, DbCause) {
-    match joined(alloc, more) {
-        Ok(text) => fault_of(alloc, &text),
-        Err(_) => (1000, DbCause::NoDevice),
-    }
-}
-
-fn joined(alloc: Global, more: &[u8]) -> Result<Vec<u8>, AllocError> {
-    let mut text = Vec::from_slice(alloc, CELL)?;
-    text.extend_from_slice(more)?;
-    Ok(text)
-}
-
-/// The end of the small database, from the line of its first buffer on.
-const END: &[u8] = b"1 0\n.buffer 0 2 3 B6[0]\n1 2\n";
-
-/// The fault of the small database, of which the first buffer comes from net 6.
-fn fault_in_first_buffer(alloc: Global) -> Result<(u64, DbCause), AllocError> {
-    let len = CELL.len().saturating_sub(END.len());
-    let mut text = Vec::from_slice(alloc, CELL.get(..len).unwrap_or(b""))?;
-    text.extend_from_slice(b"1 6\n.buffer 0 2 3 B6[0]\n1 2\n")?;
-    Ok(fault_of(alloc, &text))
-}
-
-#[test]
-fn tells_each_cause(rt: HostRuntime) {
-    for (more, line, cause) in [
-        (".net 6", 23, DbCause::NetRange),
-        (".net 4294967296", 23, DbCause::Number),
-        (".net 3", 23, DbCause::NetTwice),
-        (".net 4\n1 1 lutff_0/out", 24, DbCause::NameTwice),
-        (".device 1k 14 18 6", 23, DbCause::Device),
-        (".logic_tile 3 1", 23, DbCause::TileKind),
-        (".routing 1 1 1 B2(0)", 23, DbCause::BitName),
-        (".routing 1 1 1 B16[0]", 23, DbCause::BitRange),
-        (".logic_tile_bits 54 16\nLC_7 B0[36]", 24, DbCause::CellBits),
-        (
-            ".routing 1 1 1 B2[0]\n\n# none\n10 0",
-            26,
-            DbCause::ValueLength,
-        ),
-        (
-            ".buffer 1 1 1 B2[0]\n1 0\n0 2\n1 3",
-            26,
-            DbCause::ValuesTwice,
-        ),
-    ] {
-        let found = fault_with(rt.alloc(), more.as_bytes());
-        assert!(rt; found == (line, cause), "of {more:?}");
-    }
-    assert!(rt; fault_of(rt.alloc(), b"") == (1, DbCause::NoDevice));
-    assert!(rt; fault_of(rt.alloc(), b".device 384 8 10 6\n") == (1, DbCause::Device));
-    assert!(rt; fault_of(rt.alloc(), CELL) == (0, DbCause::NoDevice));
-    assert!(rt; fault_in_first_buffer(rt.alloc()) == Ok((20, DbCause::NetRange)));
 }
 
 /// Whether the nets of the first database are found.
@@ -206,7 +140,6 @@ fn source_is_read(alloc: Global, limit: usize, failing: &[u64]) -> Result<bool, 
 #[test]
 fn reads_a_source(rt: HostRuntime) {
     assert!(rt; source_is_read(rt.alloc(), 10_000, &[]) == Ok(true));
-    assert!(rt; source_is_read(rt.alloc(), 10, &[]) == Err(SourceDbFault::TooLong));
     assert!(rt; source_is_read(rt.alloc(), 10_000, &[3]) == Err(SourceDbFault::Failed));
 }
 

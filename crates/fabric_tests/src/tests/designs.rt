@@ -1,7 +1,7 @@
-// Orders of classes, loops and clocks.
+// Designs of a clocked inverter, and of one that is fed back.
 
-use super::{Case, Cause, Gives, is_so};
-use net_extract::{ClockUser, Driver, LutInputs, Register, Source, Table};
+use super::{Case, Gives, is_so};
+use net_extract::{ClockUser, LutInputs, Register, Source, Table};
 use sample_images::{INVERTER, SampleBit};
 use std::alloc::Global;
 
@@ -41,40 +41,6 @@ IOB_0.PINTYPE_5 B5[0]
 1 1 lutff_global/s_r
 ";
 
-/// The same, in which the inverter resets itself.
-const RESETS_ITSELF: &[u8] = b".device 1k 14 18 6
-.logic_tile_bits 54 16
-LC_0 B0[36] B0[37] B0[38] B0[39] B0[40] B0[41] B0[42] B0[43] B0[44] B0[45] B1[36] B1[37] B1[38] B1[39] B1[40] B1[41] B1[42] B1[43] B1[44] B1[45]
-NegClk B6[0]
-.io_tile_bits 18 16
-IOB_0.PINTYPE_0 B0[0]
-IOB_0.PINTYPE_1 B1[0]
-IOB_0.PINTYPE_2 B2[0]
-IOB_0.PINTYPE_3 B3[0]
-IOB_0.PINTYPE_4 B4[0]
-IOB_0.PINTYPE_5 B5[0]
-.net 0
-0 1 io_0/D_IN_0
-.net 1
-1 1 lutff_0/in_0
-.net 2
-1 1 lutff_0/out
-1 1 lutff_global/s_r
-.net 3
-0 2 io_0/D_OUT_0
-.net 4
-1 1 lutff_global/clk
-.buffer 1 1 1 B2[0]
-1 0
-.buffer 0 2 3 B6[0]
-1 2
-.buffer 1 1 1 B3[0]
-1 2
-.buffer 1 1 4 B4[0] B5[0]
-10 2
-01 0
-";
-
 /// The same without a clock, in which the inverter's own value comes to in_2, which it doesn't use.
 const UNUSED: &[u8] = b".device 1k 14 18 5
 .logic_tile_bits 54 16
@@ -104,14 +70,13 @@ IOB_0.PINTYPE_5 B5[0]
 1 2
 ";
 
-/// The buffer from the pin to in_0, the one from out to in_0, or to in_2 in the last database, the flip-flop, the two that a clock may have, and falling edges.
+/// The buffer from the pin to in_0, and the one from out to in_0, or to in_2 in the last database.
 const FROM_PIN: SampleBit = (1, 1, 2, 0);
 
 const BACK: SampleBit = (1, 1, 3, 0);
 
+/// The flip-flop, its clock from the pin, and falling edges.
 const FLIP: SampleBit = (1, 1, 0, 45);
-
-const CLOCK_OUT: SampleBit = (1, 1, 4, 0);
 
 const CLOCK_PIN: SampleBit = (1, 1, 5, 0);
 
@@ -147,50 +112,15 @@ const REGISTER: Register = Register {
     },
 };
 
-/// Whether the inverter of a database with some more bits gives that.
-fn is_design_of<'a>(
-    alloc: Global,
-    text: &'a [u8],
-    more: &'a [SampleBit],
-    gives: Gives<'a>,
-) -> bool {
+/// Whether the clocked inverter with some more bits gives that.
+fn is_design(alloc: Global, more: &[SampleBit], gives: Gives) -> bool {
     is_so(
         alloc,
         Case {
             more,
-            ..Case::of(text, &INVERTER, gives)
+            ..Case::of(CLOCKED, &INVERTER, gives)
         },
     )
-}
-
-/// The same for the first database.
-fn is_design(alloc: Global, more: &[SampleBit], gives: Gives) -> bool {
-    is_design_of(alloc, CLOCKED, more, gives)
-}
-
-/// The register of the inverter of the last database, without a clock; in_2 reads this.
-const fn unclocked(in_2: Option<u32>) -> Register {
-    Register {
-        x: 1,
-        y: 1,
-        user: ClockUser::Cell { i: 0 },
-        out: Some(2),
-        clk: None,
-        neg: false,
-        cen: None,
-        sr: None,
-        set: false,
-        at_once: false,
-        table: Table {
-            word: 0x5555,
-            ins: [
-                Source::Net(Some(1)),
-                Source::Net(None),
-                Source::Net(in_2),
-                Source::Net(None),
-            ],
-        },
-    }
 }
 
 /// Whether the inverter of a database gives that where LUTs read these inputs.
@@ -214,36 +144,17 @@ fn is_design_by<'a>(
 #[test]
 fn an_input_that_is_not_used_closes_no_loop(rt: HostRuntime) {
     let more = [FROM_PIN, BACK];
-    let cycle = Gives::Refused(Cause::Loop(2, &[2, 4]));
-    let taken = Gives::Order(&[0, 1, 2, 3, 4]);
-    assert!(rt; is_design_by(rt.alloc(), LutInputs::All, UNUSED, &more, cycle));
-    assert!(rt; is_design_by(rt.alloc(), LutInputs::Used, UNUSED, &more, taken));
-}
-
-#[test]
-fn an_input_that_is_used_closes_a_loop(rt: HostRuntime) {
-    let cycle = Gives::Refused(Cause::Loop(1, &[1, 2]));
-    assert!(rt; is_design_by(rt.alloc(), LutInputs::Used, CLOCKED, &[BACK], cycle));
-}
-
-#[test]
-fn a_register_reads_what_its_lut_reads(rt: HostRuntime) {
-    let more = [FROM_PIN, BACK, FLIP];
-    let order = [0, 1, 2, 3, 4];
-    let (all, used) = ([unclocked(Some(4))], [unclocked(None)]);
-    let (all, used) = (
-        Gives::Registers(&all, &order),
-        Gives::Registers(&used, &order),
+    let taken = Gives::Registers(&[], &[0, 1, 2, 3, 4]);
+    assert!(rt;
+        is_design_by(
+            rt.alloc(),
+            LutInputs::All,
+            UNUSED,
+            &more,
+            Gives::Loop(2, &[2, 4])
+        )
     );
-    assert!(rt; is_design_by(rt.alloc(), LutInputs::All, UNUSED, &more, all));
-    assert!(rt; is_design_by(rt.alloc(), LutInputs::Used, UNUSED, &more, used));
-}
-
-#[test]
-fn writes_classes_after_those_they_read(rt: HostRuntime) {
-    let clocked = [BACK, FLIP, CLOCK_PIN, FALLING];
-    assert!(rt; is_design(rt.alloc(), &[FROM_PIN], Gives::Order(&[0, 1, 2, 3])));
-    assert!(rt; is_design(rt.alloc(), &clocked, Gives::Order(&[0, 2, 1, 3, 4])));
+    assert!(rt; is_design_by(rt.alloc(), LutInputs::Used, UNUSED, &more, taken));
 }
 
 #[test]
@@ -254,27 +165,6 @@ fn writes_a_register_after_a_reset_that_acts_at_once(rt: HostRuntime) {
 }
 
 #[test]
-fn refuses_a_register_that_resets_itself_at_once(rt: HostRuntime) {
-    let more = [BACK, FLIP, CLOCK_PIN, FALLING, AT_ONCE];
-    let cycle = Gives::Refused(Cause::Loop(2, &[2]));
-    assert!(rt; is_design_of(rt.alloc(), RESETS_ITSELF, &more, cycle));
-}
-
-#[test]
 fn answers_its_calls(rt: HostRuntime) {
     assert!(rt; is_design(rt.alloc(), &[BACK, FLIP, CLOCK_PIN, FALLING], Gives::Calls));
-}
-
-#[test]
-fn refuses_with_the_least_cause(rt: HostRuntime) {
-    let cycle = Gives::Refused(Cause::Loop(1, &[1, 2]));
-    let clock = Gives::Refused(Cause::Clock(1, 1, ClockUser::Cell { i: 0 }, 4));
-    let twice = Gives::Refused(Cause::TwoDrivers(
-        1,
-        Driver::Link { line: 0 },
-        Driver::Link { line: 2 },
-    ));
-    assert!(rt; is_design(rt.alloc(), &[FROM_PIN, BACK], twice));
-    assert!(rt; is_design(rt.alloc(), &[BACK], cycle));
-    assert!(rt; is_design(rt.alloc(), &[FROM_PIN, FLIP, CLOCK_OUT], clock));
 }

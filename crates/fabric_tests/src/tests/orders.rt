@@ -1,4 +1,4 @@
-// Orders of small wirings, worked out by hand, of a long chain and of a long cycle.
+// Orders and cycles of small wirings, worked out by hand.
 ghost use Rattle.std.specs.Prelude.{◌≡◌, ℕ, ◌<◌, true, length, IsTrue};
 ghost use Rattle.net_extract.specs.Wiring.{has};
 ghost use Rattle.fabric_wiring.specs.Rows.{wiring_of, ReadsWithin};
@@ -86,39 +86,6 @@ fn is_cycle(alloc: Global, reads: &[&[u32]], expected: Option<&[u32]>) -> Result
     Ok(found.as_deref() == expected)
 }
 
-/// How many classes the chain and the cycle have.
-const MANY: u32 = 100_000;
-
-/// Rows of classes of which each reads the next, and the last one reads `last`.
-fn chain(alloc: Global, last: &[u32]) -> Result<Vec<Vec<u32>>, AllocError> {
-    let mut rows = Vec::new(alloc);
-    for class in 1..MANY {
-        rows.push(Vec::from_slice(alloc, &[class])?)
-            .map_err(AllocError::from)?;
-    }
-    rows.push(Vec::from_slice(alloc, last)?)
-        .map_err(AllocError::from)?;
-    Ok(rows)
-}
-
-/// The first class and the length of the order of a long chain, or none.
-fn chain_order(alloc: Global, last: &[u32]) -> Result<Option<(u32, usize)>, AllocError> {
-    let rows = chain(alloc, last)?;
-    let driven = vec![in alloc; true; MANY as usize]?;
-    Ok(order(alloc, &driven, &rows)?.and_then(|order| order
-        .first()
-        .map(|class| (*class, order.len()))))
-}
-
-/// The first class and the length of the cycle of a long chain, or none.
-fn chain_cycle(alloc: Global, last: &[u32]) -> Result<Option<(u32, usize)>, AllocError> {
-    let rows = chain(alloc, last)?;
-    let driven = vec![in alloc; true; MANY as usize]?;
-    Ok(cycle(alloc, &driven, &rows)?.and_then(|cycle| cycle
-        .first()
-        .map(|class| (*class, cycle.len()))))
-}
-
 #[test]
 fn finds_the_order(rt: HostRuntime) {
     let cases: [(&[bool], &[&[u32]], Option<&[u32]>); 5] = [
@@ -131,15 +98,6 @@ fn finds_the_order(rt: HostRuntime) {
     for (driven, reads, expected) in cases {
         assert_eq!(rt; is_order(rt.alloc(), driven, reads, expected), Ok(true));
     }
-}
-
-#[test]
-fn takes_long_chains_and_cycles(rt: HostRuntime) {
-    assert_eq!(rt;
-        chain_order(rt.alloc(), &[]),
-        Ok(Some((MANY - 1, MANY as usize)))
-    );
-    assert_eq!(rt; chain_order(rt.alloc(), &[0]), Ok(None));
 }
 
 #[test]
@@ -166,18 +124,4 @@ fn finds_the_least_class_on_a_cycle(rt: HostRuntime) {
     for (reads, expected) in cases {
         assert_eq!(rt; is_cycle(rt.alloc(), reads, expected), Ok(true));
     }
-}
-
-#[test]
-fn takes_long_cycles_and_chains_into_one(rt: HostRuntime) {
-    assert_eq!(rt; chain_cycle(rt.alloc(), &[]), Ok(None));
-    assert_eq!(rt; chain_cycle(rt.alloc(), &[0]), Ok(Some((0, MANY as usize))));
-    assert_eq!(rt;
-        chain_cycle(rt.alloc(), &[MANY - 3]),
-        Ok(Some((MANY - 3, 3)))
-    );
-    assert_eq!(rt;
-        chain_cycle(rt.alloc(), &[MANY - 1]),
-        Ok(Some((MANY - 1, 1)))
-    );
 }

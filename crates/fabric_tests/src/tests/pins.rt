@@ -1,12 +1,13 @@
 // Pins and globals.
 
-use super::{Case, Cause, Gives, is_so};
+use super::{Case, Gives, is_so};
+use fabric_wiring::{Output, Rule};
 use net_extract::{GlobalFrom, GlobalNet, Pin, PinKind};
 use sample_images::SampleBit;
 use std::alloc::Global;
 
 /// Two pins, a PLL, and a global with a pad and a tile.
-pub(super) const PINS: &[u8] = b".device 1k 14 18 5
+const PINS: &[u8] = b".device 1k 14 18 5
 .io_tile_bits 18 16
 IOB_0.PINTYPE_0 B0[0]
 IOB_0.PINTYPE_1 B1[0]
@@ -34,12 +35,7 @@ padin_glb_netwk.2 0 330 143
 ";
 
 /// The bits of an input pin and of an output pin that can be read.
-pub(super) const TWO_PINS: [SampleBit; 4] = [
-    (0, 1, 0, 0),
-    (0, 2, 0, 0),
-    (0, 2, 3, 0),
-    (0, 2, 4, 0),
-];
+const TWO_PINS: [SampleBit; 4] = [(0, 1, 0, 0), (0, 2, 0, 0), (0, 2, 3, 0), (0, 2, 4, 0)];
 
 /// What these bits give.
 const FOUND: [Pin; 2] = [
@@ -75,12 +71,12 @@ fn global_nets(from: GlobalFrom) -> [GlobalNet; 2] {
     ]
 }
 
-/// Whether an image with these bits, and with the pad of global 2 or without it, gives that.
-fn are_pins(alloc: Global, bits: &[SampleBit], pad: bool, gives: Gives) -> bool {
+/// Whether an image with these bits, and with the pad of global 2, gives that.
+fn are_pins(alloc: Global, bits: &[SampleBit], gives: Gives) -> bool {
     is_so(
         alloc,
         Case {
-            pad,
+            pad: true,
             ..Case::of(PINS, bits, gives)
         },
     )
@@ -88,16 +84,53 @@ fn are_pins(alloc: Global, bits: &[SampleBit], pad: bool, gives: Gives) -> bool 
 
 #[test]
 fn finds_pins_and_globals(rt: HostRuntime) {
-    let fabout = global_nets(GlobalFrom::Fabout { net: 2 });
     let pad = global_nets(GlobalFrom::Pad { x: 0, y: 1, n: 0 });
-    assert!(rt; are_pins(rt.alloc(), &TWO_PINS, false, Gives::Pins(&FOUND, &fabout)));
-    assert!(rt; are_pins(rt.alloc(), &TWO_PINS, true, Gives::Pins(&FOUND, &pad)));
+    assert!(rt; are_pins(rt.alloc(), &TWO_PINS, Gives::Pins(&FOUND, &pad)));
+}
+
+/// A plain input pin, and an output pin that can be switched off.
+const SWITCHED_PINS: [SampleBit; 4] = [(0, 1, 0, 0), (0, 2, 0, 0), (0, 2, 3, 0), (0, 2, 5, 0)];
+
+/// The output pin.
+const SWITCHED: Pin = Pin {
+    x: 0,
+    y: 2,
+    n: 0,
+    kind: PinKind::TriState,
+    output: true,
+    back: false,
+    din: None,
+    dout: Some(3),
+    enable: None,
+};
+
+/// Whether the pins have these outputs.
+fn are_outputs(alloc: Global, outputs: &[Output]) -> bool {
+    is_so(
+        alloc,
+        Case::of(PINS, &SWITCHED_PINS, Gives::Outputs(outputs)),
+    )
 }
 
 #[test]
-fn refuses_a_pll_before_a_pin(rt: HostRuntime) {
-    let pin = Gives::Refused(Cause::PinMode(0, 1, 0, 0));
-    let pll = Gives::Refused(Cause::Pll(0, 3));
-    assert!(rt; are_pins(rt.alloc(), &[], true, pin));
-    assert!(rt; are_pins(rt.alloc(), &[(0, 3, 9, 0)], true, pll));
+fn a_pin_that_can_be_switched_off_has_two_outputs(rt: HostRuntime) {
+    let outputs = [
+        Output {
+            pin: SWITCHED,
+            enable: false,
+            rule: Rule::Input {
+                stated: false,
+                net: Some(3),
+            },
+        },
+        Output {
+            pin: SWITCHED,
+            enable: true,
+            rule: Rule::Input {
+                stated: true,
+                net: None,
+            },
+        },
+    ];
+    assert!(rt; are_outputs(rt.alloc(), &outputs));
 }

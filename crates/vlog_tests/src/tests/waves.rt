@@ -127,17 +127,6 @@ fn tells_what_each_event_changes(rt: HostRuntime) {
 }
 
 #[test]
-fn tells_the_start_alone_where_there_are_no_events(rt: HostRuntime) {
-    let case = Case {
-        events: "",
-        lines: "",
-        room: 400,
-        done: Ok(()),
-    };
-    assert!(rt; are_waves(rt.alloc(), &case) == Ok(true));
-}
-
-#[test]
 fn counts_what_a_full_sink_took_of_the_beginning(rt: HostRuntime) {
     let case = Case {
         events: EVENTS,

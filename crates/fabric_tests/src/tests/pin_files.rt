@@ -1,0 +1,113 @@
+// The pins of a package, and the names that a pin file gives to ports.
+
+use pin_file::{PackagePins, PinName, PinPlace, PinReader, pin_names};
+use std::alloc::{AllocError, Global};
+
+/// The pins of a package, the database being fed in pieces.
+fn pins_of(alloc: Global, name: &str, pieces: &[&[u8]]) -> Result<PackagePins, AllocError> {
+    let mut reader = PinReader::new(alloc, name.as_bytes())?;
+    for piece in pieces {
+        reader.feed(piece)?;
+    }
+    reader.finish()
+}
+
+/// Whether the package is listed with the pins at these places.
+fn has_pins(
+    alloc: Global,
+    name: &str,
+    pieces: &[&[u8]],
+    places: &[(&str, Option<PinPlace>)],
+) -> bool {
+    match pins_of(alloc, name, pieces) {
+        Ok(pins) => pins.is_known() && are_places(&pins, places),
+        Err(_) => false,
+    }
+}
+
+fn are_places(pins: &PackagePins, places: &[(&str, Option<PinPlace>)]) -> bool {
+    for (pin, place) in places {
+        if pins.place_of(pin.as_bytes()) != *place {
+            return false;
+        }
+    }
+    true
+}
+
+#[test]
+fn lines_are_cut_in_pieces(rt: HostRuntime) {
+    let pieces = [
+        b".pi".as_slice(),
+        b"ns p\nA".as_slice(),
+        b"1 1".as_slice(),
+        b"2 1 0\r".as_slice(),
+        b"\nB1 1 2 3".as_slice(),
+    ];
+    let places = [
+        (
+            "A1",
+            Some(PinPlace {
+                x: 12,
+                y: 1,
+                pio: 0,
+            }),
+        ),
+        ("B1", Some(PinPlace { x: 1, y: 2, pio: 3 })),
+    ];
+    assert!(rt; has_pins(rt.alloc(), "p", &pieces, &places));
+}
+
+/// A package with three pins, `A`, `B` and `C`; `D` is at the place of `A`.
+const PINS: &[u8] = b".pins p\nA 0 2 1\nB 5 17 0\nC 6 0 1\nD 0 2 1\n";
+
+/// The place of `A`, whose pin has a second port.
+const ENABLED: [PinPlace; 1] = [PinPlace { x: 0, y: 2, pio: 1 }];
+
+const TEXT: &[u8] =
+    b"# the board\r\nset_io led[3] B\r\n\r\nset_io --warn-no-port top.clk+ A # 12 MHz\r\nset_frequency clk 12\r\nset_io -pullup yes _a[1][2] C";
+
+/// The ports that it names, in order.
+const PORTS: [(PinPlace, &str); 3] = [
+    (
+        PinPlace {
+            x: 5,
+            y: 17,
+            pio: 0,
+        },
+        "led_3",
+    ),
+    (PinPlace { x: 0, y: 2, pio: 1 }, "top_clk"),
+    (PinPlace { x: 6, y: 0, pio: 1 }, "_a_1__2"),
+];
+
+fn is_port(port: &PinName, place: PinPlace, name: &str) -> bool {
+    port.place == place && port.name.bytes() == name.as_bytes()
+}
+
+fn are_ports(ports: &[PinName], expected: &[(PinPlace, &str)]) -> bool {
+    if ports.len() != expected.len() {
+        return false;
+    }
+    for (port, (place, name)) in ports.iter().zip(expected.iter()) {
+        if !is_port(port, *place, name) {
+            return false;
+        }
+    }
+    true
+}
+
+/// Whether the pin file names these ports.
+fn has_ports(alloc: Global, text: &[u8], expected: &[(PinPlace, &str)]) -> bool {
+    let Ok(pins) = pins_of(alloc, "p", &[PINS]) else {
+        return false;
+    };
+    match pin_names(alloc, text, &pins, &ENABLED) {
+        Ok(ports) => are_ports(&ports, expected),
+        Err(_) => false,
+    }
+}
+
+#[test]
+fn names_ports_in_the_order_of_lines(rt: HostRuntime) {
+    assert!(rt; has_ports(rt.alloc(), TEXT, &PORTS));
+}

@@ -1,7 +1,7 @@
 #!/usr/bin/env python3
 """Looks that the files of the examples go with one another, and compares what is made of them with what the stock tools make.
 
-Usage: check/examples.py
+Usage: check/examples.py [TEXT...]     without names: the examples; else the last point below for these texts
 
 - Each NAME.run has the lines of vlogrun -s of NAME.module over NAME.events.
 - Each NAME.explain is what icebox_explain writes of NAME.asc, and each NAME.module what icebox_vlog writes of it. Two of the examples are
@@ -22,7 +22,7 @@ import subprocess
 import sys
 import tempfile
 
-from modules.programs import CHIPDB, TOP, missing, program, stock
+from modules.programs import CHIPDB, TOP, missing, need, program, stock
 from modules.routing import Refused
 from modules.stock import LAYOUT, difference, pack_by_stock
 from modules.tries import Tally
@@ -132,11 +132,15 @@ def try_stock_boot_files(tally, folder):
 
 # ---- bitstreams
 
-def try_stock_bitstreams(tally, folder):
+def try_stock_bitstreams(tally, folder, texts=None):
     """Bitstreams and their texts by the stock icepack and iceunpack."""
-    for text in sorted(EXAMPLES.rglob("*.asc")):
-        pack_by_stock(text, folder)
-        tally.tell("the stock icepack and iceunpack of %s" % text.name, difference(text, folder))
+    for text in texts or sorted(EXAMPLES.rglob("*.asc")):
+        try:
+            pack_by_stock(text, folder)
+            fault = difference(text, folder)
+        except Refused as refused:
+            fault = "refused: %s" % refused
+        tally.tell("the stock icepack and iceunpack of %s" % text.name, fault)
 
 
 def try_part(tally, part, needs, folder):
@@ -153,12 +157,15 @@ def try_part(tally, part, needs, folder):
 
 
 def main(words):
-    if words:
+    if any(word.startswith("-") for word in words):
         print(__doc__, file=sys.stderr)
         return 2
-    program()
+    need(*["fpga-icestorm"] * bool(words))
     tally = Tally()
     with tempfile.TemporaryDirectory() as folder:
+        if words:
+            try_stock_bitstreams(tally, pathlib.Path(folder), [pathlib.Path(word).resolve() for word in words])
+            return tally.end()
         for part, needs in ((try_runs, ()), (try_explained, ("chipdb",)), (try_words, ()), (try_stock_words, ("fpga-icestorm",)),
                             (try_boot_files, ()), (try_stock_boot_files, ("fpga-icestorm",)), (try_stock_bitstreams, ("fpga-icestorm",))):
             try_part(tally, part, needs, pathlib.Path(folder))

@@ -30,13 +30,21 @@ def own(work, tool, source, target):
     output_of([program(), tool, "--layout", LAYOUT, source, target], work)
 
 
+def first_difference(what, own_path, stock_path):
+    """Where two files differ, or nothing."""
+    ours, theirs = own_path.read_bytes(), stock_path.read_bytes()
+    if ours == theirs:
+        return ""
+    place = next((place for place, pair in enumerate(zip(ours, theirs)) if pair[0] != pair[1]), min(len(ours), len(theirs)))
+    return "%s differ at byte %d of %d and %d, counted from 0" % (what, place, len(ours), len(theirs))
+
+
 def difference(text, work):
     """What differs between this project's tools and the stock ones over a text, or nothing."""
     own(work, "icepack", text, "own.bin")
-    if (work / "own.bin").read_bytes() != (work / "stock.bin").read_bytes():
-        return "the bitstreams differ"
     own(work, "iceunpack", "stock.bin", "own.asc")
-    if parts(work / "own.asc") != parts(work / "stock.asc"):
-        return "the unpacked tiles differ"
     own(work, "icepack", "own.asc", "again.bin")
-    return "" if (work / "again.bin").read_bytes() == (work / "stock.bin").read_bytes() else "the text that was unpacked packs to other bytes"
+    fault = first_difference("the bitstreams", work / "own.bin", work / "stock.bin")
+    if not fault and parts(work / "own.asc") != parts(work / "stock.asc"):
+        fault = "the unpacked tiles differ"
+    return fault or first_difference("the bitstream and the one that is packed again", work / "stock.bin", work / "again.bin")

@@ -1,4 +1,4 @@
-// How often new lanes ask for memory: `bench/lanes` counts the requests of the one test and of the other.
+// How often new lanes ask for memory: `check/lanes.py` counts the requests of the one test and of the other.
 
 use std::alloc::Global;
 use vlog_lanes::Lanes;

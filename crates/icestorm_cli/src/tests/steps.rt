@@ -1,4 +1,4 @@
-// The calls of `selfrun` one after another, on the same job. `bench/refused` compares how often both ask for memory.
+// The calls of `selfrun` one after another, on the same job. `check/memory.py` compares how often both ask for memory.
 
 use bin_stream::{decode, encode};
 use chipdb_reader::read;

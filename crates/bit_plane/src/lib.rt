@@ -14,6 +14,3 @@ pub use bits::Bits;
 pub use plane::Plane;
 pub use reversal::reversed;
 pub use tile::Tile;
-
-#[cfg(test)]
-mod tests;

@@ -53,7 +53,7 @@ abbrev pub icebram_name : List ℕ
 icebram_name = codes "icebram"
 
 abbrev pub icebram_usage : List ℕ
-icebram_usage = codes "icebram FROM TO"
+icebram_usage = codes "icebram [--by-mode] FROM TO"
 
 abbrev pub icebram_command : App
 icebram_command = command icebram_name (long_flag (codes "by-mode") ∷ required (codes "from") ∷ required (codes "to") ∷ [])

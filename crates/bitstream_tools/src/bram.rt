@@ -22,7 +22,7 @@ use tool_parts::{CommandLine, has_flag, long_flag, required, run_tool, value, wi
 use tool_run::{AtOnce, Job, Load, Stop, Tool, answer_at_once, loaded_at, perform};
 
 /// The command line of `icebram`.
-pub const ICEBRAM_USAGE: &str = "icebram FROM TO";
+pub const ICEBRAM_USAGE: &str = "icebram [--by-mode] FROM TO";
 
 /// The help of `icebram`, at most 80 columns wide.
 pub const ICEBRAM_HELP: &str = "\

@@ -84,7 +84,7 @@ abbrev pub vlog_name : List ℕ
 vlog_name = codes "icebox_vlog"
 
 abbrev pub vlog_usage : List ℕ
-vlog_usage = codes "icebox_vlog [-n NAME] [--layout FILE] DB [IMAGE]"
+vlog_usage = codes "icebox_vlog [-n NAME] [-p PCF -d PACKAGE] [--used-inputs] [--layout FILE] DB [IMAGE]"
 
 abbrev pub vlog_command : App
 vlog_command = command vlog_name (short_option (codes "name") 110 ∷ short_option (codes "pins") 112 ∷ short_option (codes "package") 100 ∷ long_flag (codes "used-inputs") ∷ long_option (codes "layout") ∷ positional (codes "db") ∷ positional (codes "image") ∷ [])

@@ -12,7 +12,8 @@ use std::alloc::{AllocError, Global};
 use tool_parts::{has_flag, long_flag, long_option, positional, short_option, value, with};
 
 /// The command line of `icebox_vlog`.
-pub const ICEBOX_VLOG_USAGE: &str = "icebox_vlog [-n NAME] [--layout FILE] DB [IMAGE]";
+pub const ICEBOX_VLOG_USAGE: &str =
+    "icebox_vlog [-n NAME] [-p PCF -d PACKAGE] [--used-inputs] [--layout FILE] DB [IMAGE]";
 
 /// The help of `icebox_vlog`, at most 80 columns wide.
 pub const ICEBOX_VLOG_HELP: &str = "\

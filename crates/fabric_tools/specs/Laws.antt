@@ -24,9 +24,9 @@ pub stat-simple : is_simple_and_free stat_command ≡ true
 unfolding clap_on_literals
 stat-simple = refl
 
-stat_of-speaks : (db image : Option Text) → (stat_task_of db image).tool_name ≡ stat_name
-stat_of-speaks (Some db) image = refl
-stat_of-speaks None image = refl
+stat_of-speaks : (layout db image : Option Text) → (stat_task_of layout db image).tool_name ≡ stat_name
+stat_of-speaks layout (Some db) image = refl
+stat_of-speaks layout None image = refl
 
 pub stat-speaks : (rows : List Row) → (stat_task_by rows).tool_name ≡ stat_name
-stat-speaks rows = stat_of-speaks (first_of (codes "db") rows) (first_of (codes "image") rows)
+stat-speaks rows = stat_of-speaks (first_of (codes "layout") rows) (first_of (codes "db") rows) (first_of (codes "image") rows)

@@ -1,5 +1,5 @@
 -- `icebox_stat`: what an image uses of its device.
-use Rattle.std.specs.Prelude.{ℕ, List, [], ◌∷◌, false, codes, Option, None, Some}
+use Rattle.std.specs.Prelude.{ℕ, Bool, List, [], ◌∷◌, codes, is_some, Option, None, Some}
 use Rattle.clap.specs.Words.{App, Row, Text, first_of}
 use Rattle.ice_image.specs.Configuration.{Configuration}
 use Rattle.chipdb_reader.specs.Database.{Database}
@@ -9,8 +9,9 @@ use Rattle.ice_stat.specs.Faults.{stat_fault}
 use Rattle.tool_run.specs.Needs.{text_of}
 use Rattle.tool_run.specs.Tasks.{Answer, Done, Refused, Task, usage_error}
 use Rattle.tool_parts.specs.Outcomes.{Manual, outcome}
-use Rattle.tool_parts.specs.Commands.{command, positional, required}
+use Rattle.tool_parts.specs.Commands.{command, long_option, positional, required}
 use Rattle.tool_parts.specs.DesignInput.{input_answer}
+use Rattle.tool_parts.specs.Layouts.{with_layout}
 use Rattle.tool_parts.specs.Images.{image_limit}
 use Rattle.tool_parts.specs.Databases.{database_limit}
 use Rattle.design_parts.specs.Faults.{design_fault_text}
@@ -27,9 +28,9 @@ counted_with db image (Some fault) = Refused (design_fault_text fault)
 abbrev pub counted : Database → Configuration → Answer
 counted db image = counted_with db image (stat_fault db image)
 
--- the database is read before the image, which is read under the standard layouts
-abbrev pub stat_answer : List (List ℕ) → Answer
-stat_answer texts = input_answer false counted texts
+-- the database is read before the image; `named` tells whether a layout file was taken before both
+abbrev pub stat_answer : Bool → List (List ℕ) → Answer
+stat_answer named texts = input_answer named counted texts
 
 -- ---- the arguments
 
@@ -37,29 +38,29 @@ abbrev pub stat_name : List ℕ
 stat_name = codes "icebox_stat"
 
 abbrev pub stat_usage : List ℕ
-stat_usage = codes "icebox_stat DB [IMAGE]"
+stat_usage = codes "icebox_stat [--layout FILE] DB [IMAGE]"
 
 abbrev pub stat_command : App
-stat_command = command stat_name (required (codes "db") ∷ positional (codes "image") ∷ [])
+stat_command = command stat_name (long_option (codes "layout") ∷ required (codes "db") ∷ positional (codes "image") ∷ [])
 
 -- ---- the task
 
--- the database, and the image from a file or from standard input
-abbrev pub count_task : Text → Option Text → Task
-count_task db image = record {
+-- the layout file if one is named, the database, and the image from a file or from standard input
+abbrev pub count_task : Option Text → Text → Option Text → Task
+count_task layout db image = record {
   tool_name = stat_name;
-  needs = record { name = Some db; limit = database_limit } ∷ record { name = image; limit = image_limit } ∷ [];
+  needs = with_layout layout (record { name = Some db; limit = database_limit } ∷ record { name = image; limit = image_limit } ∷ []);
   target = None;
-  answer = stat_answer;
+  answer = stat_answer (is_some layout);
 }
 
 -- there has to be a database
-abbrev pub stat_task_of : Option Text → Option Text → Task
-stat_task_of (Some db) image = count_task db image
-stat_task_of None image = usage_error stat_name stat_usage
+abbrev pub stat_task_of : Option Text → Option Text → Option Text → Task
+stat_task_of layout (Some db) image = count_task layout db image
+stat_task_of layout None image = usage_error stat_name stat_usage
 
 abbrev pub stat_task_by : List Row → Task
-stat_task_by rows = stat_task_of (first_of (codes "db") rows) (first_of (codes "image") rows)
+stat_task_by rows = stat_task_of (first_of (codes "layout") rows) (first_of (codes "db") rows) (first_of (codes "image") rows)
 
 -- the tool
 abbrev pub icebox_stat : Manual
@@ -72,4 +73,4 @@ stat_outcome args = outcome icebox_stat args
 -- the task of the inputs that were found in the arguments
 abbrev pub stat_task_for : Option Inputs → Task
 stat_task_for None = usage_error stat_name stat_usage
-stat_task_for (Some inputs) = count_task inputs.db.now (text_of inputs.image)
+stat_task_for (Some inputs) = count_task (text_of inputs.layout) inputs.db.now (text_of inputs.image)

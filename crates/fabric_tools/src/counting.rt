@@ -1,5 +1,5 @@
 // `icebox_stat`: what an image uses of its device.
-ghost use Rattle.std.specs.Prelude.{◌≡◌, [], ℕ, List, false, map, string_bytes, IfOk, IfErr, Some};
+ghost use Rattle.std.specs.Prelude.{◌≡◌, [], ℕ, Bool, List, map, string_bytes, IfOk, IfErr, Some};
 ghost use Rattle.clap.specs.Words.{app_of, found_of, rows_of};
 ghost use Rattle.ice_image.specs.Either.{configuration_of};
 ghost use Rattle.chipdb_reader.specs.Kept.{database_in};
@@ -19,22 +19,29 @@ use ice_io::{Files, Sink, Source};
 use ice_stat::stat;
 use std::alloc::{AllocError, Global};
 use tool_parts::{
-    CommandLine, DB_LIMIT, DesignInput, IMAGE_LIMIT, Taking, positional, required, run_tool, value,
-    with,
+    CommandLine, DB_LIMIT, DesignInput, IMAGE_LIMIT, LAYOUT_LIMIT, Taking, long_option, positional,
+    required, run_tool, value, with, with_layout,
 };
 use tool_run::{AtOnce, Job, Load, PieceTool, Stop, answer_at_once, perform_in_pieces};
 
 /// The command line of `icebox_stat`.
-pub const ICEBOX_STAT_USAGE: &str = "icebox_stat DB [IMAGE]";
+pub const ICEBOX_STAT_USAGE: &str = "icebox_stat [--layout FILE] DB [IMAGE]";
 
 /// The help of `icebox_stat`, at most 80 columns wide.
 pub const ICEBOX_STAT_HELP: &str = "\
 icebox_stat: counts what an image uses of its device, by a chip database.
 
-Usage: icebox_stat DB [IMAGE]
+Usage: icebox_stat [--layout FILE] DB [IMAGE]
 
   DB        the chip database of the image's device
   IMAGE     a bitstream (.bin) or a text (.asc); standard input if it is missing
+  --layout FILE
+            the layout file; the standard layout if it is missing
+
+The standard layout isn't that of chips at two kinds of places: io tiles in the
+right half of the top and bottom row, and contents of RAMs in the top half. For
+chips give layouts/silicon.layout, which the installed icebox_stat does by
+itself.
 
 icebox_stat writes ten lines, each a word, a space and a number:
 
@@ -49,14 +56,12 @@ icebox_stat writes ten lines, each a word, a space and a number:
   bits      bits of the configuration planes that are 1, extra bits among them
   extra     extra bits that are 1
 
-The image is read under the standard layout.
-
 Example: icebox_stat chipdb-1k.txt blink.asc
 
-Limits: a database has at most 268435456 bytes, an image 16777216.
+Limits: a database has at most 268435456 bytes, an image 16777216, FILE 65536.
 
-A database or an image with a fault is refused, and told by the first fault. An
-image is refused for these causes, looked for in this order:
+FILE, a database or an image with a fault is refused, and told by the first
+fault. An image is refused for these causes, looked for in this order:
 
   Device        the database is for another device: take the one for yours
   Pll           a PLL is used
@@ -64,14 +69,17 @@ image is refused for these causes, looked for in this order:
                 its type
   Cascade       block RAMs that are chained
 
-Exit status: 0 done; 1 the database or the image is refused, with its first
-fault; 2 the command line isn't taken; 3 reading failed; 4 writing failed; 5 out
-of memory; 6 an input is longer than its limit.
+Exit status: 0 done; 1 FILE, the database or the image is refused, with its
+first fault; 2 the command line isn't taken; 3 reading failed; 4 writing failed;
+5 out of memory; 6 an input is longer than its limit.
 ";
 
-/// Counts what an image uses, by a database.
+/// Counts what an image uses, by a database. The image is read under the layouts of a file that comes first where one is named.
 #[derive(Clone, Copy, Debug, PartialEq, Eq)]
-pub(crate) struct Counting;
+pub(crate) struct Counting {
+    /// Whether a layout file comes first.
+    pub(crate) named: bool,
+}
 
 impl PieceTool for Counting {
     ghost use Rattle.tool_parts.specs.DesignInput.{TakesInput, fed_input};
@@ -82,14 +90,14 @@ impl PieceTool for Counting {
 
     type Made = Vec<u8>;
 
-    ghost answer_of = { λ tool texts. stat_answer texts };
+    ghost answer_of = { λ tool texts. stat_answer tool.named texts };
 
-    ghost takes = { λ tool texts taking bytes. IsTaking TakesInput false texts bytes taking };
+    ghost takes = { λ tool texts taking bytes. IsTaking TakesInput tool.named texts bytes taking };
 
     ghost fed = { fed_of fed_input };
 
     fn begin(&self, alloc: Global) -> Taking<DesignInput> {
-        Taking::begin(alloc, false)
+        Taking::begin(alloc, self.named)
     }
 
     fn feed(&self, taking: &mut Taking<DesignInput>, piece: &[u8]) {
@@ -107,10 +115,10 @@ impl PieceTool for Counting {
 
 // The counts, after the last piece of both.
 fn counted_after(alloc: Global, taking: Taking<DesignInput>) -> Result<Vec<u8>, Stop<'static>>
-    ensures bytes { IfOk result (λ bytes. (texts : List (List ℕ)) → IsTaking TakesInput false texts [] taking
-        → stat_answer texts ≡ Done bytes.items) }
-    ensures stops { IfErr result (λ stop. (texts : List (List ℕ)) → IsTaking TakesInput false texts [] taking
-        → StopsWith (stat_answer texts) stop) }
+    ensures bytes { IfOk result (λ bytes. (named : Bool) (texts : List (List ℕ)) → IsTaking TakesInput named texts [] taking
+        → stat_answer named texts ≡ Done bytes.items) }
+    ensures stops { IfErr result (λ stop. (named : Bool) (texts : List (List ℕ)) → IsTaking TakesInput named texts [] taking
+        → StopsWith (stat_answer named texts) stop) }
 {
     match DesignInput::read(alloc, taking) {
         Ok((db, image)) => count_text(alloc, &db, &image),
@@ -130,9 +138,10 @@ fn count_text(alloc: Global, db: &ChipDb, image: &AnyImage) -> Result<Vec<u8>, S
     }
 }
 
-/// What the arguments ask for: a database and an image.
+/// What the arguments ask for: a layout file, a database and an image.
 #[derive(Clone, Copy)]
 pub(crate) struct Inputs<'a> {
+    pub(crate) layout: Option<&'a str>,
     pub(crate) db: &'a str,
     pub(crate) image: Option<&'a str>,
 }
@@ -142,16 +151,21 @@ fn command<'a>(alloc: Global) -> Result<Command<'a>, AllocError>
     ensures { IfOk result (λ command. app_of command ≡ stat_command) }
 {
     let command = Command::new(alloc, "icebox_stat");
+    let command = with(command, long_option(alloc, "layout"))?;
     let command = with(command, required(alloc, "db"))?;
     with(command, positional(alloc, "image"))
 }
 
 // What the arguments ask for by what was found in them: there has to be a database.
-fn wanted<'a>(db: Option<&'a str>, image: Option<&'a str>) -> Option<Inputs<'a>>
-    ensures { stat_task_for result ≡ stat_task_of (text_of db.entry) (text_of image.entry) }
+fn wanted<'a>(
+    layout: Option<&'a str>,
+    db: Option<&'a str>,
+    image: Option<&'a str>,
+) -> Option<Inputs<'a>>
+    ensures { stat_task_for result ≡ stat_task_of (text_of layout.entry) (text_of db.entry) (text_of image.entry) }
 {
     match db {
-        Some(db) => Some(Inputs { db, image }),
+        Some(db) => Some(Inputs { layout, db, image }),
         None => None,
     }
 }
@@ -160,9 +174,10 @@ fn wanted<'a>(db: Option<&'a str>, image: Option<&'a str>) -> Option<Inputs<'a>>
 fn inputs_in<'a>(matches: &ArgMatches<'a>) -> Option<Inputs<'a>>
     ensures { stat_task_for result ≡ stat_task_by (rows_of (found_of matches.now)) }
 {
+    let layout = value(matches, "layout");
     let db = value(matches, "db");
     let image = value(matches, "image");
-    wanted(db, image)
+    wanted(layout, db, image)
 }
 
 // Counts by the files of the arguments.
@@ -180,6 +195,10 @@ fn count_files<F: Files, I: Source, O: Sink, E: Sink>(
 {
     let loads = [
         Load {
+            name: inputs.layout,
+            limit: LAYOUT_LIMIT,
+        },
+        Load {
             name: Some(inputs.db),
             limit: DB_LIMIT,
         },
@@ -188,12 +207,15 @@ fn count_files<F: Files, I: Source, O: Sink, E: Sink>(
             limit: IMAGE_LIMIT,
         },
     ];
+    let tool = Counting {
+        named: inputs.layout.is_some(),
+    };
     let job = Job {
         tool_name: "icebox_stat",
-        loads: &loads,
+        loads: with_layout(inputs.layout, &loads),
         target: None,
     };
-    perform_in_pieces(alloc, &Counting, &job, files, input, output, errors)
+    perform_in_pieces(alloc, &tool, &job, files, input, output, errors)
 }
 
 // Does what the arguments ask for, where they are taken.

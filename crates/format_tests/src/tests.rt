@@ -1,4 +1,4 @@
-// What several tests need: places and bits, what calls on images require, tested at run time, and comments.
+// What several tests need: places and bits, and what calls on images require, tested at run time.
 ghost use Rattle.std.specs.Prelude.{◌≡◌, Some, IsTrue};
 ghost use Rattle.plane_map.specs.Layout.{kind_of, IsTileBit, IsInCram};
 
@@ -12,9 +12,7 @@ mod streams;
 mod texts;
 mod words;
 
-use ice_image::{Comment, is_comment_line};
 use plane_map::{DeviceName, Place, TileBit, TileKind, kind_on, tile_width};
-use std::alloc::{AllocError, Global};
 
 /// A place by its bank, column and row.
 fn at(bank: u8, px: u16, py: u16) -> Place {
@@ -45,15 +43,4 @@ fn is_in_cram(device: DeviceName, at: Place) -> bool
     ensures { IsTrue result → IsInCram device at }
 {
     at.bank < 4 && u32::from(at.px) < device.cram_columns() && u32::from(at.py) < device.cram_rows()
-}
-
-/// A comment of those lines that a comment may hold.
-fn comment_of(alloc: Global, lines: &[&[u8]]) -> Result<Comment, AllocError> {
-    let mut comment = Comment::new(alloc);
-    for line in lines {
-        if is_comment_line(line) {
-            comment.push(line)?;
-        }
-    }
-    Ok(comment)
 }

@@ -52,7 +52,7 @@ abbrev pub vlogrun_name : List ℕ
 vlogrun_name = codes "vlogrun"
 
 abbrev pub vlogrun_usage : List ℕ
-vlogrun_usage = codes "vlogrun [-s] MODULE [EVENTS]"
+vlogrun_usage = codes "vlogrun [-s | --vcd] MODULE [EVENTS]"
 
 abbrev pub vlogrun_command : App
 vlogrun_command = command vlogrun_name (flag (codes "registers") 115 ∷ long_flag (codes "vcd") ∷ required (codes "module") ∷ positional (codes "events") ∷ [])

@@ -10,7 +10,7 @@ use std::alloc::{AllocError, Global};
 use tool_parts::{flag, has_flag, long_flag, positional, required, value, with};
 
 /// The command line of `vlogrun`.
-pub const VLOGRUN_USAGE: &str = "vlogrun [-s] MODULE [EVENTS]";
+pub const VLOGRUN_USAGE: &str = "vlogrun [-s | --vcd] MODULE [EVENTS]";
 
 /// The help of `vlogrun`, at most 80 columns wide.
 pub const VLOGRUN_HELP: &str = "\

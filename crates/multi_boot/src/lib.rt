@@ -10,6 +10,3 @@ mod places;
 pub use fault::MultiFault;
 pub use joining::{check, join};
 pub use options::Options;
-
-#[cfg(test)]
-mod tests;

@@ -11,6 +11,3 @@ mod table;
 
 pub use arena::{NameArena, NameId};
 pub use table::NameTable;
-
-#[cfg(test)]
-mod tests;

@@ -104,6 +104,3 @@ pub fn narrow(mode: u8, words: &[u16], address: u16) -> u16
     }
     result
 }
-
-#[cfg(test)]
-mod tests;

@@ -19,6 +19,3 @@ pub use pieces::{PieceLines, cut_piece};
 pub use words::{
     Separators, four_numbers, one_number, one_word, split_word, three_numbers, two_numbers,
 };
-
-#[cfg(test)]
-mod tests;

@@ -1,14 +1,12 @@
-// Images: each call at each device, with places that are known from outside.
+// Images: bits of tiles, words, planes, extra bits, comments and settings, with places that are known from outside.
 ghost use Rattle.std.specs.Prelude.{◌≡◌, IsTrue, All};
 ghost use Rattle.plane_map.specs.Layout.{columns_at};
 ghost use Rattle.ice_image.specs.Contents.{IsBitOfTile};
 
-use super::{at, bit, comment_of, is_in_cram, is_lower_ram, is_tile_bit};
+use super::{at, bit, is_in_cram, is_lower_ram, is_tile_bit};
 use bit_plane::{Bits, Tile};
 use ice_image::{AnyImage, Comment, Image, Range, Settings, is_comment_line};
-use plane_map::{
-    Device, DeviceName, Hx1k, Hx8k, Layout, Lp384, Place, RowCol, TileBit, TileKind, kind_on,
-};
+use plane_map::{Device, DeviceName, Hx1k, Layout, Place, RowCol, TileBit, TileKind, kind_on};
 use std::alloc::{AllocError, Global};
 
 fn are_in_tile(layout: &Layout, x: u8, y: u8, bits: &[RowCol]) -> bool
@@ -36,25 +34,6 @@ fn is_logic(device: DeviceName, x: u8, y: u8) -> bool
 
 // ---- bits of tiles
 
-/// Whether a new image has the device, its layout and the settings, and no comment.
-fn is_new(alloc: Global, device: DeviceName, settings: Settings) -> Result<bool, AllocError> {
-    let image = AnyImage::zeroed(alloc, device)?;
-    let is_for = image.device() == device && image.layout().device() == device;
-    Ok(is_for && image.settings() == settings && image.comment().is_none())
-}
-
-#[test]
-fn a_new_image_has_the_usual_settings(rt: HostRuntime) {
-    let usual = Settings {
-        range: Range::Low,
-        warm_boot: true,
-        no_sleep: false,
-    };
-    assert!(rt; is_new(rt.alloc(), DeviceName::L384, usual) == Ok(true));
-    assert!(rt; is_new(rt.alloc(), DeviceName::K1, usual) == Ok(true));
-    assert!(rt; is_new(rt.alloc(), DeviceName::K8, usual) == Ok(true));
-}
-
 /// Whether the bit of a tile is the bit at the place, one way and the other.
 fn is_at(image: &mut AnyImage, bit: TileBit, place: Place) -> bool {
     let device = image.device();
@@ -72,24 +51,6 @@ fn lies_at(alloc: Global, layout: Layout, bit: TileBit, place: Place) -> Result<
     Ok(is_at(&mut image, bit, place))
 }
 
-#[test]
-fn bits_of_tiles_lie_at_their_places(rt: HostRuntime) {
-    for (device, bit, place) in [
-        (DeviceName::L384, bit(1, 1, 0, 0), at(0, 18, 16)),
-        (DeviceName::L384, bit(6, 8, 0, 0), at(3, 71, 31)),
-        (DeviceName::K1, bit(1, 1, 0, 0), at(0, 18, 16)),
-        (DeviceName::K1, bit(12, 16, 0, 0), at(3, 71, 31)),
-        (DeviceName::K1, bit(1, 17, 2, 4), at(1, 34, 12)),
-        (DeviceName::K8, bit(32, 1, 15, 53), at(2, 18, 31)),
-        (DeviceName::K8, bit(32, 32, 0, 0), at(3, 71, 31)),
-    ] {
-        assert!(rt;
-            lies_at(rt.alloc(), Layout::standard(device), bit, place) == Ok(true),
-            "at {bit:?}"
-        );
-    }
-}
-
 /// The standard layout with the banks of the bottom quarters exchanged, and with no mirrored tiles.
 fn exchanged(device: DeviceName) -> Layout {
     let mut layout = Layout::standard(device);
@@ -100,16 +61,12 @@ fn exchanged(device: DeviceName) -> Layout {
 
 #[test]
 fn bits_of_tiles_lie_where_the_layout_puts_them(rt: HostRuntime) {
-    for (device, bit, place) in [
-        (DeviceName::K1, bit(1, 1, 0, 0), at(2, 18, 16)),
-        (DeviceName::K1, bit(12, 16, 0, 0), at(3, 18, 31)),
-        (DeviceName::K8, bit(32, 1, 15, 53), at(0, 71, 31)),
-    ] {
-        assert!(rt;
-            lies_at(rt.alloc(), exchanged(device), bit, place) == Ok(true),
-            "at {bit:?}"
-        );
-    }
+    let standard = Layout::standard(DeviceName::L384);
+    let last = bit(6, 8, 0, 0);
+    assert!(rt; lies_at(rt.alloc(), standard, last, at(3, 71, 31)) == Ok(true));
+    let layout = exchanged(DeviceName::K8);
+    let corner = bit(32, 1, 15, 53);
+    assert!(rt; lies_at(rt.alloc(), layout, corner, at(0, 71, 31)) == Ok(true));
 }
 
 /// Whether a logic tile that is put at (x, y) is read there, by its rows and by listed bits.
@@ -138,10 +95,8 @@ fn keeps_a_tile(alloc: Global, device: DeviceName, x: u8, y: u8) -> Result<bool,
 }
 
 #[test]
-fn tiles_are_read_and_written_whole(rt: HostRuntime) {
-    assert!(rt; keeps_a_tile(rt.alloc(), DeviceName::L384, 6, 1) == Ok(true));
+fn a_tile_is_read_and_written_whole(rt: HostRuntime) {
     assert!(rt; keeps_a_tile(rt.alloc(), DeviceName::K1, 12, 1) == Ok(true));
-    assert!(rt; keeps_a_tile(rt.alloc(), DeviceName::K8, 32, 1) == Ok(true));
 }
 
 /// Whether the first bit of a row, and then all of its bits, are set by the ones of words, and the first one at that place.
@@ -169,20 +124,8 @@ fn has_row(
 
 #[test]
 fn rows_of_tiles_gain_the_ones_of_words(rt: HostRuntime) {
-    for (device, x, y, first, all) in [
-        (DeviceName::L384, 6, 8, at(3, 71, 31), 0x3f_ffff_ffff_ffff),
-        (DeviceName::K1, 1, 1, at(0, 18, 16), 0x3f_ffff_ffff_ffff),
-        (DeviceName::K1, 12, 16, at(3, 71, 31), 0x3f_ffff_ffff_ffff),
-        (DeviceName::K1, 0, 1, at(0, 17, 16), 0x3_ffff),
-        (DeviceName::K1, 3, 1, at(0, 126, 16), 0x3ff_ffff_ffff),
-        (DeviceName::K1, 0, 0, at(0, 0, 0), 0),
-        (DeviceName::K8, 25, 1, at(2, 437, 16), 0x3ff_ffff_ffff),
-    ] {
-        assert!(rt;
-            has_row(rt.alloc(), device, x, y, first, all) == Ok(true),
-            "at {x} {y}"
-        );
-    }
+    let first = at(0, 17, 16);
+    assert!(rt; has_row(rt.alloc(), DeviceName::K1, 0, 1, first, 0x3_ffff) == Ok(true));
 }
 
 // ---- words and planes
@@ -204,8 +147,7 @@ fn keeps_a_word(alloc: Global, device: DeviceName, x: u8, y: u8) -> Result<bool,
 }
 
 #[test]
-fn words_are_read_and_written(rt: HostRuntime) {
-    assert!(rt; keeps_a_word(rt.alloc(), DeviceName::K1, 3, 1) == Ok(true));
+fn a_word_is_read_and_written(rt: HostRuntime) {
     assert!(rt; keeps_a_word(rt.alloc(), DeviceName::K8, 8, 17) == Ok(true));
 }
 
@@ -241,89 +183,56 @@ fn is_word_bit<D: Device>(
     image.ram_word(ram.0, ram.1, y) == 8 && image.bram(bank).get(x, row)
 }
 
-fn smallest_planes_hold_bits(alloc: Global) -> Result<bool, AllocError> {
-    let mut image = Image::<Lp384>::zeroed(alloc)?;
-    Ok(is_in_plane(&mut image, at(3, 181, 79)))
-}
-
-fn small_planes_hold_bits(alloc: Global) -> Result<bool, AllocError> {
+fn planes_hold_bits(alloc: Global) -> Result<bool, AllocError> {
     let mut image = Image::<Hx1k>::zeroed(alloc)?;
     Ok(is_in_plane(&mut image, at(3, 331, 143)) && is_word_bit(&mut image, (3, 1), 0, 12, 2))
 }
 
-fn large_planes_hold_bits(alloc: Global) -> Result<bool, AllocError> {
-    let mut image = Image::<Hx8k>::zeroed(alloc)?;
-    Ok(is_in_plane(&mut image, at(3, 871, 271)) && is_word_bit(&mut image, (8, 17), 1, 124, 7))
-}
-
 #[test]
 fn planes_hold_bits_of_places_and_words(rt: HostRuntime) {
-    assert!(rt; smallest_planes_hold_bits(rt.alloc()) == Ok(true));
-    assert!(rt; small_planes_hold_bits(rt.alloc()) == Ok(true));
-    assert!(rt; large_planes_hold_bits(rt.alloc()) == Ok(true));
+    assert!(rt; planes_hold_bits(rt.alloc()) == Ok(true));
 }
 
 // ---- extra bits
 
-/// Sets the bits at the places, and tells whether each is in the planes.
-fn set_all(image: &mut AnyImage, places: &[Place]) -> bool {
-    for place in places {
-        if !is_in_cram(image.device(), *place) {
-            return false;
-        }
-        image.set_cram_bit(*place, true);
+/// Sets an extra bit, where no tile has the place.
+fn set_extra(image: &mut AnyImage, place: Place) {
+    let (bank, px, py) = (place.bank, place.px, place.py);
+    if let Some(at) = image.extra_place(u32::from(bank), u32::from(px), u32::from(py)) {
+        image.set_extra_bit(at, true);
     }
-    true
 }
 
-/// Whether an image with the bits at the places has those extra bits, in that order.
-fn has_extras(
-    alloc: Global,
-    device: DeviceName,
-    places: &[Place],
-    extras: &[Place],
-) -> Result<bool, AllocError> {
-    let mut image = AnyImage::zeroed(alloc, device)?;
-    Ok(set_all(&mut image, places) && image.extra_bits(alloc)?.as_slice() == extras)
+/// Whether an image of the HX1K with two extra bits has them in their order.
+fn has_extras(alloc: Global, first: Place, second: Place) -> Result<bool, AllocError> {
+    let mut image = AnyImage::zeroed(alloc, DeviceName::K1)?;
+    set_extra(&mut image, second);
+    set_extra(&mut image, first);
+    Ok(image.extra_bits(alloc)?.as_slice() == [first, second].as_slice())
 }
 
 #[test]
 fn extra_bits_come_in_order(rt: HostRuntime) {
-    let smallest = [at(1, 180, 79), at(3, 71, 31), at(0, 181, 79), at(1, 181, 2)];
-    let ordered = [at(0, 181, 79), at(1, 181, 2), at(1, 180, 79)];
-    assert!(rt; has_extras(rt.alloc(), DeviceName::L384, &smallest, &ordered) == Ok(true));
-    let small = [at(1, 330, 0), at(0, 18, 16), at(0, 330, 143), at(0, 331, 5)];
-    let ordered = [at(0, 331, 5), at(0, 330, 143), at(1, 330, 0)];
-    assert!(rt; has_extras(rt.alloc(), DeviceName::K1, &small, &ordered) == Ok(true));
-    let pads = [
-        at(1, 23, 12),
-        at(1, 24, 12),
-        at(1, 34, 12),
-        at(1, 42, 12),
-        at(1, 24, 30),
-    ];
-    let ordered = [at(1, 24, 12), at(1, 42, 12)];
-    assert!(rt; has_extras(rt.alloc(), DeviceName::K1, &pads, &ordered) == Ok(true));
-    let large = [at(3, 870, 271), at(3, 871, 2), at(2, 869, 100)];
-    let ordered = [at(3, 871, 2), at(3, 870, 271)];
-    assert!(rt; has_extras(rt.alloc(), DeviceName::K8, &large, &ordered) == Ok(true));
+    assert!(rt; has_extras(rt.alloc(), at(0, 331, 5), at(1, 330, 0)) == Ok(true));
 }
 
 // ---- comments and settings
 
 #[test]
 fn tells_the_lines_that_a_comment_may_hold(rt: HostRuntime) {
-    for (line, fits) in [
-        (b"AB" as &[u8], true),
-        (b" ~", true),
-        (b"a.", true),
-        (b"", false),
-        (b".A", false),
-        (b"A\x07", false),
-        (b"A\x7f", false),
-    ] {
-        assert_eq!(rt; is_comment_line(line), fits, "at {line:?}");
+    assert!(rt; is_comment_line(b"a ~."));
+    assert!(rt; !is_comment_line(b".A"));
+}
+
+/// A comment of those lines that a comment may hold.
+fn comment_of(alloc: Global, lines: &[&[u8]]) -> Result<Comment, AllocError> {
+    let mut comment = Comment::new(alloc);
+    for line in lines {
+        if is_comment_line(line) {
+            comment.push(line)?;
+        }
     }
+    Ok(comment)
 }
 
 /// Whether an image keeps the settings and a comment.
@@ -349,5 +258,4 @@ fn keeps_what_was_set(alloc: Global, device: DeviceName) -> Result<bool, AllocEr
 #[test]
 fn settings_and_comments_are_kept(rt: HostRuntime) {
     assert!(rt; keeps_what_was_set(rt.alloc(), DeviceName::K1) == Ok(true));
-    assert!(rt; keeps_what_was_set(rt.alloc(), DeviceName::K8) == Ok(true));
 }

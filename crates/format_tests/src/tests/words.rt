@@ -1,25 +1,27 @@
-// Memory words that are replaced in texts.
+// Memory words that are replaced in a text, and how many columns of RAMs were found, which no program tells.
 
-mod modes;
-
-use asc_text::{AscCause, AscFault, TileXy};
-use bram_replace::{BramFault, HexFault, HexFile, replace};
-use plane_map::TileKind;
+use bram_replace::{HexFault, HexFile, ReadModes, replace, replace_with};
 use std::alloc::{AllocError, Global};
 
-/// The lines of a RAM whose word a is the digit a mod 16, and of one whose word a is 15 less that digit.
+/// Words of a file: the digits of numbers, which rise from 0 and fall from 15.
+const RISING_WORDS: &str = "0 1 2 3 4 5 6 7 8 9 a b c d e f";
+
+const FALLING_WORDS: &str = "f e d c b a 9 8 7 6 5 4 3 2 1 0";
+
+/// The lines of a RAM that has these words.
 const RISING: &str = "000f000e000d000c000b000a0009000800070006000500040003000200010000";
 
 const FALLING: &str = "0000000100020003000400050006000700080009000a000b000c000d000e000f";
 
-/// Rising words with capital digits.
-const CAPITALS: &str = "000F000E000D000C000B000A0009000800070006000500040003000200010000";
+/// The lines of a RAM of mode 1 that has them.
+const NARROW: &str = "00fe00f200ce00c2003e0032000e000200fe00f200ce00c2003e0032000e0002";
 
-/// A line in which no word is a rising one.
-const UNLIKE: &str = "ABCDABCDABCDABCDABCDABCDABCDABCDABCDABCDABCDABCDABCDABCDABCDABCD";
+const NARROW_FALLING: &str = "0001000d0031003d00c100cd00f100fd0001000d0031003d00c100cd00f100fd";
 
-/// A row of a logic tile.
-const ROW: &str = "010000000000000000000000000000000000000000000000000001";
+/// A row of a tile, and one whose column 7 is 1.
+const ZEROS: &str = "000000000000000000000000000000000000000000";
+
+const ONE: &str = "000000010000000000000000000000000000000000";
 
 /// So many times one line, with one end.
 type Lines<'a> = (usize, &'a str, &'a str);
@@ -43,43 +45,6 @@ fn text_of(alloc: Global, parts: &[Lines]) -> Result<Vec<u8>, AllocError> {
     Ok(text)
 }
 
-/// A file of words.
-#[derive(Clone, Copy)]
-enum Words<'a> {
-    /// So many words, each the digit of a number modulo 16, which rises from 0.
-    Rising(u32),
-    /// The same, falling from 15.
-    Falling(u32),
-    /// These lines.
-    Lines(Lines<'a>),
-}
-
-/// A word of one digit on a line.
-fn append_digit(file: &mut Vec<u8>, digit: u32) -> Result<(), AllocError> {
-    file.push(b"0123456789abcdef"[(digit % 16) as usize])?;
-    file.push(b'\n')?;
-    Ok(())
-}
-
-/// The bytes of a file of words.
-fn bytes_of(alloc: Global, words: Words) -> Result<Vec<u8>, AllocError> {
-    let mut file = Vec::new(alloc);
-    match words {
-        Words::Rising(count) => {
-            for word in 0..count {
-                append_digit(&mut file, word)?;
-            }
-        }
-        Words::Falling(count) => {
-            for word in 0..count {
-                append_digit(&mut file, 15 - word % 16)?;
-            }
-        }
-        Words::Lines(lines) => append_lines(&mut file, lines)?,
-    }
-    Ok(file)
-}
-
 /// Reads a file of words, of a few bytes.
 fn read(alloc: Global, bytes: &[u8]) -> Result<HexFile, HexFault> {
     if bytes.len() <= 16_777_216 {
@@ -89,9 +54,9 @@ fn read(alloc: Global, bytes: &[u8]) -> Result<HexFile, HexFault> {
     }
 }
 
-/// The file of words.
-fn file(alloc: Global, words: Words) -> Result<HexFile, HexFault> {
-    read(alloc, &bytes_of(alloc, words)?)
+/// A file of 256 words, sixteen on each line.
+fn file(alloc: Global, line: &str) -> Result<HexFile, HexFault> {
+    read(alloc, &text_of(alloc, &[(16, line, "\n")])?)
 }
 
 /// Whether rising words are replaced by falling ones so, with so many columns found.
@@ -101,209 +66,89 @@ fn is_replaced(
     expected: &[u8],
     found: &[u32],
 ) -> Result<bool, HexFault> {
-    let from = file(alloc, Words::Rising(256))?;
-    let to = file(alloc, Words::Falling(256))?;
+    let from = file(alloc, RISING_WORDS)?;
+    let to = file(alloc, FALLING_WORDS)?;
     Ok(match replace(alloc, asc, &from, &to) {
         Ok(answer) => answer.bytes.as_slice() == expected && answer.found.as_slice() == found,
         Err(_) => false,
     })
 }
 
-/// Whether the words of a text of lines are replaced so.
-fn gives(
-    alloc: Global,
-    asc: &[Lines],
-    expected: &[Lines],
-    found: &[u32],
-) -> Result<bool, HexFault> {
-    is_replaced(
+/// A text with two RAMs of sixteen equal lines, the last of which has no end.
+fn two_rams(alloc: Global, line: &str) -> Result<Vec<u8>, AllocError> {
+    text_of(
         alloc,
-        &text_of(alloc, asc)?,
-        &text_of(alloc, expected)?,
-        found,
+        &[
+            (1, ".device 1k", "\n"),
+            (1, ".ram_data 3 1", "\n"),
+            (16, line, "\n"),
+            (1, ".ram_data 10 15", "\n"),
+            (15, line, "\n"),
+            (1, line, ""),
+        ],
     )
 }
 
-/// A text with one RAM of sixteen equal lines, each with that end.
-fn ram<'a>(line: &'a str, end: &'a str) -> [Lines<'a>; 3] {
-    [
-        (1, ".device 1k", "\n"),
-        (1, ".ram_data 3 1", end),
-        (16, line, end),
-    ]
-}
-
-#[test]
-fn replaces_the_columns_of_a_ram(rt: HostRuntime) {
-    for before in [RISING, CAPITALS] {
-        for end in ["\n", "\r\n", " \t\n", " \t\r\n"] {
-            let answer = gives(
-                rt.alloc(),
-                &ram(before, end),
-                &ram(FALLING, end),
-                &[1, 1, 1, 1],
-            );
-            assert!(rt; answer == Ok(true), "{end:?}");
-        }
-    }
-}
-
-/// A text with two RAMs of sixteen equal lines, the last of which has no end.
-fn two_rams(line: &str) -> [Lines<'_>; 6] {
-    [
-        (1, ".device 1k", "\n"),
-        (1, ".ram_data 3 1", "\n"),
-        (16, line, "\n"),
-        (1, ".ram_data 10 15", "\n"),
-        (15, line, "\n"),
-        (1, line, ""),
-    ]
+/// Whether the words of two RAMs are replaced, and each column is found in both.
+fn both_are_replaced(alloc: Global) -> Result<bool, HexFault> {
+    is_replaced(
+        alloc,
+        &two_rams(alloc, RISING)?,
+        &two_rams(alloc, FALLING)?,
+        &[2, 2, 2, 2],
+    )
 }
 
 #[test]
 fn replaces_in_each_ram(rt: HostRuntime) {
-    let answer = gives(
-        rt.alloc(),
-        &two_rams(RISING),
-        &two_rams(FALLING),
-        &[2, 2, 2, 2],
-    );
-    assert!(rt; answer == Ok(true));
+    assert!(rt; both_are_replaced(rt.alloc()) == Ok(true));
 }
 
-/// Whether a text of lines stays as it was.
-fn passes(alloc: Global, asc: &[Lines]) -> Result<bool, HexFault> {
-    let text = text_of(alloc, asc)?;
-    is_replaced(alloc, &text, &text, &[0, 0, 0, 0])
-}
-
-#[test]
-fn passes_everything_else(rt: HostRuntime) {
-    for asc in [
-        [(1, ".device 1k", "\n")].as_slice(),
+/// A text with a RAM of mode 1, of sixteen equal lines, after the tile above it.
+fn narrow_ram(alloc: Global, line: &str) -> Result<Vec<u8>, AllocError> {
+    text_of(
+        alloc,
         &[
-            (1, ".device 384", "\n"),
-            (1, ".logic_tile 1 1", "\n"),
-            (16, ROW, "\n"),
+            (1, ".device 1k", "\n"),
+            (1, ".ramt_tile 3 2", "\n"),
+            (3, ZEROS, "\n"),
+            (1, ONE, "\n"),
+            (12, ZEROS, "\n"),
+            (1, ".ram_data 3 1", "\n"),
+            (16, line, "\n"),
         ],
-        &ram(UNLIKE, " \r\n"),
-        &[
-            (1, ".comment", "\n"),
-            (1, " .ram_data 3 1", "\n"),
-            (1, RISING, "\n"),
-            (1, ".device 1k", ""),
-        ],
-    ] {
-        assert!(rt; passes(rt.alloc(), asc) == Ok(true), "{asc:?}");
-    }
+    )
 }
 
-/// Whether files of these lines have as many digits and words.
-fn have_one_shape(alloc: Global, lines: Lines, like: Lines) -> Result<bool, HexFault> {
-    let from = file(alloc, Words::Lines(lines))?;
-    let to = file(alloc, Words::Lines(like))?;
-    Ok(match replace(alloc, b"", &from, &to) {
-        Ok(_) => true,
-        Err(fault) => fault != BramFault::Shape,
-    })
-}
-
-#[test]
-fn reads_files_of_words(rt: HostRuntime) {
-    for (lines, like, is_so) in [
-        ((256, "0", "\n"), (256, "1", "\n"), true),
-        ((512, "aF_0 // g", "\r\n"), (512, "123", "\n"), true),
-        ((512, "aF_0 // g", "\r\n"), (512, "1234", "\n"), false),
-        ((64, "\t12  3_4\r56 _78 //", "\n"), (256, "12", "\n"), true),
-        ((128, "1 2//", "\n"), (256, "1", "\n"), true),
-        ((128, "1 2//", "\n"), (512, "1", "\n"), false),
-    ] {
-        assert!(rt;
-            have_one_shape(rt.alloc(), lines, like) == Ok(is_so),
-            "{lines:?}"
-        );
-    }
-}
-
-/// Why a file of these lines isn't read.
-fn fault_of(alloc: Global, lines: Lines) -> Option<HexFault> {
-    match file(alloc, Words::Lines(lines)) {
-        Ok(_) => None,
-        Err(fault) => Some(fault),
-    }
-}
-
-#[test]
-fn refuses_files_of_words(rt: HostRuntime) {
-    for (lines, fault) in [
-        ((255, "1", "\n"), HexFault::Depth),
-        ((0, "1", "\n"), HexFault::Depth),
-        ((256, "// 1", "\n"), HexFault::Depth),
-        ((1, "1\n2g", "\n"), HexFault::Digit { line: 2 }),
-        ((1, "1\n/ 2", "\n"), HexFault::Digit { line: 2 }),
-        ((1, "1/\n/", "\n"), HexFault::Digit { line: 1 }),
-        ((1, "1 _", "\n"), HexFault::Digit { line: 1 }),
-        ((1, "\r1\r\n12 -1", ""), HexFault::Digit { line: 2 }),
-        ((1, "1\n22\ng", ""), HexFault::Width { line: 2 }),
-        ((65, "1", ""), HexFault::Width { line: 1 }),
-    ] {
-        assert!(rt; fault_of(rt.alloc(), lines) == Some(fault), "{lines:?}");
-    }
-}
-
-/// Whether replacing words of a text is refused for that fault.
-fn is_refused(
+/// Whether rising words are replaced by falling ones so, where modes are followed, and the first column is found so often.
+fn is_replaced_by_mode(
     alloc: Global,
-    asc: &str,
-    from: Words,
-    to: Words,
-    fault: BramFault,
+    asc: &[u8],
+    expected: &[u8],
+    found: u32,
 ) -> Result<bool, HexFault> {
-    let from = file(alloc, from)?;
-    let to = file(alloc, to)?;
-    Ok(match replace(alloc, asc.as_bytes(), &from, &to) {
-        Ok(_) => false,
-        Err(other) => other == fault,
-    })
+    let from = file(alloc, RISING_WORDS)?;
+    let to = file(alloc, FALLING_WORDS)?;
+    Ok(
+        match replace_with(alloc, asc, &from, &to, ReadModes::Followed) {
+            Ok(answer) => answer.bytes.as_slice() == expected
+                && answer.found.first() == Some(&found),
+            Err(_) => false,
+        },
+    )
+}
+
+/// Whether the words of a RAM of mode 1 are replaced, and each column is found in both of its blocks.
+fn narrow_is_replaced(alloc: Global) -> Result<bool, HexFault> {
+    is_replaced_by_mode(
+        alloc,
+        &narrow_ram(alloc, NARROW)?,
+        &narrow_ram(alloc, NARROW_FALLING)?,
+        2,
+    )
 }
 
 #[test]
-fn refuses_to_replace(rt: HostRuntime) {
-    let rising = Words::Rising(256);
-    let zeros = Words::Lines((256, "0", "\n"));
-    let wide = Words::Lines((256, "00", "\n"));
-    let device = BramFault::Asc(AscFault::At {
-        line: 1,
-        tile: None,
-        cause: AscCause::Device,
-    });
-    let hex = BramFault::Asc(AscFault::At {
-        line: 3,
-        tile: Some(TileXy { x: 3, y: 1 }),
-        cause: AscCause::Hex,
-    });
-    let no_ram = BramFault::Asc(AscFault::At {
-        line: 2,
-        tile: Some(TileXy { x: 3, y: 1 }),
-        cause: AscCause::Kind {
-            expected: TileKind::Logic,
-        },
-    });
-    let same = BramFault::SameColumns {
-        first: 0,
-        second: 1,
-    };
-    for (asc, from, to, fault) in [
-        (".device 5k", zeros, wide, BramFault::Shape),
-        (".device 1k", rising, Words::Rising(512), BramFault::Shape),
-        (".device 5k", zeros, rising, same),
-        (".device 5k", rising, zeros, device),
-        (".device 1k\n.ram_data 3 1", rising, rising, hex),
-        (".device 384\n.ram_data 3 1", rising, rising, no_ram),
-    ] {
-        assert!(rt;
-            is_refused(rt.alloc(), asc, from, to, fault) == Ok(true),
-            "of {asc:?}"
-        );
-    }
+fn follows_a_read_mode(rt: HostRuntime) {
+    assert!(rt; narrow_is_replaced(rt.alloc()) == Ok(true));
 }

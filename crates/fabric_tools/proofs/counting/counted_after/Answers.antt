@@ -1,4 +1,4 @@
-use Rattle.std.proofs.Common.{◌∙◌, subst, sym, false}
+use Rattle.std.proofs.Common.{◌∙◌, subst, sym}
 use Rattle.std.proofs.lemmas.Result.{IfOk-weaker, IfErr-weaker}
 use Rattle.tool_run.specs.Stops.{StopsWith}
 use Rattle.tool_run.specs.Tasks.{Answer}
@@ -7,12 +7,12 @@ use Rattle.fabric_tools.proofs.counting.counted_after.Goals as goal
 
 pub returns-in-Ok-clause-bytes : goal.returns-in-Ok-clause-bytes
 returns-in-Ok-clause-bytes c =
-    IfOk-weaker c.count_text.result _ _ (λ bytes is texts taking. c.in-Ok.ensures.read false texts counted taking ∙ is) c.count_text.ensures.bytes
+    IfOk-weaker c.count_text.result _ _ (λ bytes is named texts taking. c.in-Ok.ensures.read named texts counted taking ∙ is) c.count_text.ensures.bytes
 
 pub returns-in-Ok-clause-stops : goal.returns-in-Ok-clause-stops
 returns-in-Ok-clause-stops c =
-    IfErr-weaker c.count_text.result _ _ (λ stop stops texts taking.
-    subst (λ (answer : Answer). StopsWith answer stop) (sym (c.in-Ok.ensures.read false texts counted taking)) stops) c.count_text.ensures.stops
+    IfErr-weaker c.count_text.result _ _ (λ stop stops named texts taking.
+    subst (λ (answer : Answer). StopsWith answer stop) (sym (c.in-Ok.ensures.read named texts counted taking)) stops) c.count_text.ensures.stops
 
 pub returns-in-Err-clause-stops : goal.returns-in-Err-clause-stops
-returns-in-Err-clause-stops c = λ texts taking. c.in-Err.ensures.stops false texts counted taking
+returns-in-Err-clause-stops c = λ named texts taking. c.in-Err.ensures.stops named texts counted taking

@@ -1,5 +1,4 @@
-use Rattle.std.proofs.Common.{false}
 use Rattle.fabric_tools.proofs.counting.CountingPieceTool.close.Goals as goal
 
 pub returns-clause-closed : goal.returns-clause-closed
-returns-clause-closed c = λ texts bytes taking. c.close.ensures.closed false texts bytes taking
+returns-clause-closed c = λ texts bytes taking. c.close.ensures.closed c.args.self.now.named texts bytes taking

@@ -1,8 +1,8 @@
 // Files and streams, of the system and in memory.
 
 use ice_io::{
-    ContentFault, DirFiles, Failed, Files, MemFiles, MemSink, MemSource, NamedFile, PutFault,
-    Source, StdSink, StdSource, StoreFault, TakeFault, Taker, load_into, read_all, write_whole,
+    DirFiles, Failed, Files, MemFiles, MemSink, MemSource, NamedFile, PutFault, Source, StdSink,
+    StdSource, StoreFault, TakeFault, Taker, load_into, read_all, write_whole,
 };
 use std::alloc::{AllocError, Global};
 use std::fs;
@@ -67,7 +67,7 @@ fn an_interrupted_write_is_tried_again(rt: HostRuntime) {
 }
 
 /// Stores the bytes and loads them again, and answers whether they are the same.
-pub(super) fn is_kept<F: Files>(
+fn is_kept<F: Files>(
     alloc: Global,
     files: &mut F,
     name: &str,
@@ -106,7 +106,7 @@ impl Taker for Compared<'_> {
 }
 
 /// Stores the bytes and loads them again in pieces, and answers whether they are the same.
-pub(super) fn is_kept_in_pieces<F: Files>(
+fn is_kept_in_pieces<F: Files>(
     alloc: Global,
     files: &mut F,
     name: &str,
@@ -129,7 +129,7 @@ pub(super) fn is_kept_in_pieces<F: Files>(
 }
 
 /// 100,000 bytes, with a period that divides no power of two.
-pub(super) fn many_bytes(alloc: Global) -> Result<Vec<u8>, AllocError> {
+fn many_bytes(alloc: Global) -> Result<Vec<u8>, AllocError> {
     (0..100_000u32).map(|i| (i % 251) as u8).collect(alloc)
 }
 
@@ -142,8 +142,6 @@ fn real_files_are_stored_and_loaded_whole(rt: HostRuntime) -> Result<(), Fail> {
     for (bytes, limit, want) in [
         (many.as_slice(), 100_000, Ok(true)),
         (many.as_slice(), 99_999, Err(TakeFault::TooLong)),
-        (b"abc".as_slice(), 3, Ok(true)),
-        (b"".as_slice(), 0, Ok(true)),
     ] {
         are_as_wanted &= is_kept(rt.alloc(), &mut files, name, bytes, limit) == want;
         are_as_wanted &= is_kept_in_pieces(rt.alloc(), &mut files, name, bytes, limit) == want;
@@ -154,45 +152,12 @@ fn real_files_are_stored_and_loaded_whole(rt: HostRuntime) -> Result<(), Fail> {
 }
 
 #[test]
-fn faults_of_real_files_are_told(rt: HostRuntime) -> Result<(), Fail> {
+fn faults_of_real_files_are_told(rt: HostRuntime) {
     let mut files = DirFiles::new(&rt);
     for (name, opened) in [("ice_io_missing/file", false), ("/dev/full", true)] {
         let fault = StoreFault::Failed { opened, written: 0 };
         assert_eq!(rt; files.store(name, b"abc"), Err(fault));
-        assert_eq!(rt;
-            files.store_content(rt.alloc(), name, b"abc".to_vec(rt.alloc())?),
-            Err(ContentFault::Store(fault))
-        );
     }
-    let missing = files.load(rt.alloc(), "ice_io_missing", 3);
-    assert!(rt; matches!(missing, Err(TakeFault::Failed)));
-    let mut compared = Compared {
-        want: b"",
-        taken: 0,
-        are_same: true,
-    };
-    let missing = load_into(rt.alloc(), &mut files, "ice_io_missing", 3, &mut compared);
-    assert!(rt; matches!(missing, Err(TakeFault::Failed)));
-    assert_eq!(rt; files.read_at("ice_io_missing", 0, &mut [0]), Err(Failed));
-    Ok(())
-}
-
-#[test]
-fn files_in_memory_are_stored_and_loaded(rt: HostRuntime) -> Result<(), Fail> {
-    let alloc = rt.alloc();
-    let mut given = Vec::new(alloc);
-    given.push(NamedFile {
-        name: String::from_str(alloc, "a")?,
-        bytes: b"abc".to_vec(alloc)?,
-    })?;
-    let mut files = MemFiles::new(alloc, given, "b", 3, 2, Vec::new(alloc))?;
-    assert_eq!(rt; is_kept(alloc, &mut files, "b", b"xyz", 3), Ok(true));
-    assert_eq!(rt;
-        is_kept_in_pieces(alloc, &mut files, "b", b"uvw", 3),
-        Ok(true)
-    );
-    assert_eq!(rt; files.bytes_of("a"), Some(b"abc".as_slice()));
-    Ok(())
 }
 
 /// What a read of a part gives: the bytes at the front of the buffer, or its failure.

@@ -1,4 +1,6 @@
-use super::*;
+// Names in an arena and in a table, as long as a chunk of memory and longer.
+
+use name_arena::{NameArena, NameId, NameTable};
 use std::alloc::{AllocError, Global};
 
 /// As many bytes as a chunk has room for.

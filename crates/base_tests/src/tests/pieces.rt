@@ -140,10 +140,6 @@ fn an_input_is_taken_in_pieces(rt: HostRuntime) -> Result<(), Fail> {
         from: Some("in"),
         to: Some("out"),
     };
-    let missing = Way {
-        from: Some("no"),
-        to: None,
-    };
     for (way, bytes, failing, status, written, said) in [
         (
             stream,
@@ -152,14 +148,6 @@ fn an_input_is_taken_in_pieces(rt: HostRuntime) -> Result<(), Fail> {
             0,
             [8].as_slice(),
             "",
-        ),
-        (
-            stream,
-            b"abcd\0fgh".as_slice(),
-            [9].as_slice(),
-            1,
-            [].as_slice(),
-            "count: zero\n",
         ),
         (
             stream,
@@ -179,35 +167,11 @@ fn an_input_is_taken_in_pieces(rt: HostRuntime) -> Result<(), Fail> {
         ),
         (
             file,
-            b"abcdefgh".as_slice(),
-            [9].as_slice(),
-            0,
-            [8].as_slice(),
-            "",
-        ),
-        (
-            file,
             b"abcd\0fgh".as_slice(),
             [9].as_slice(),
             1,
             [].as_slice(),
             "count: zero\n",
-        ),
-        (
-            file,
-            b"a\0c".as_slice(),
-            [1].as_slice(),
-            3,
-            [].as_slice(),
-            "count: read failed: in\n",
-        ),
-        (
-            file,
-            b"a\0cdefghi".as_slice(),
-            [9].as_slice(),
-            6,
-            [].as_slice(),
-            "count: too long: in limit 8\n",
         ),
         (
             file,
@@ -224,14 +188,6 @@ fn an_input_is_taken_in_pieces(rt: HostRuntime) -> Result<(), Fail> {
             4,
             [].as_slice(),
             "count: write failed: out\n",
-        ),
-        (
-            missing,
-            b"abc".as_slice(),
-            [9].as_slice(),
-            3,
-            [].as_slice(),
-            "count: read failed: no\n",
         ),
     ] {
         let want = Outcome {

@@ -3,7 +3,7 @@ use Rattle.std.specs.Prelude.{nat_eq}
 use Rattle.std.specs.List.{concat, list_any}
 use Rattle.std.proofs.lemmas.List.{append-nil}
 use Rattle.std.proofs.lemmas.List.Folds.{concat-append}
-use Rattle.run_tests.proofs.tests.pieces.CountingPieceTool.close.Goals as goal
+use Rattle.base_tests.proofs.tests.pieces.CountingPieceTool.close.Goals as goal
 
 pub returns-clause-closed : goal.returns-clause-closed
 returns-clause-closed c = λ texts bytes takes.

@@ -1,0 +1,8 @@
+mod files;
+mod lines;
+mod names;
+mod narrow;
+mod orders;
+mod pieces;
+mod planes;
+mod real;

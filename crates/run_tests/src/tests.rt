@@ -1,4 +1,0 @@
-mod files;
-mod orders;
-mod pieces;
-mod real;

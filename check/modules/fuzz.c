@@ -1,4 +1,4 @@
-/* Ends a program by a signal where it doesn't end as each tool should, so that a fuzzer sees it. bench/fuzz loads it before the C library.
+/* Ends a program by a signal where it doesn't end as each tool should, so that a fuzzer sees it. check/fuzz.py loads it before the C library.
    The exit status must be 0, 1, 2 or 6. With 0 nothing goes to standard error; with any other one line, and nothing to standard output. */
 #define _GNU_SOURCE
 #include <stddef.h>

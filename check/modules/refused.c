@@ -1,4 +1,4 @@
-/* Counts the requests for memory of a program, and refuses one of them. bench/refused loads it before the C library. The environment
+/* Counts the requests for memory of a program, and refuses one of them. check/memory.py loads it before the C library. The environment
    variable TALLY names a file of three numbers of 64 bits: which request to refuse, counted from 1, and none where that is 0; how many
    there were; and whether one was refused. */
 #include <errno.h>

@@ -4,8 +4,9 @@
 Usage: check/memory.py [TOOL...]     all tools, and icestorm for the program's own help and version, if none is named
 
 Each tool runs over files of the examples with a chip database of a 1k, over a small database and its image, over the databases and images of
-a carry chain and of a RAM in transcripts/files, over a database whose names fill more than one chunk of 65,536 bytes, and writes its help. A first run counts the requests for memory. Then each of them is refused in a run of its own; of a job with more than MOST_IN_TURN
-requests the first ones and every 500th after them. Of each such run is asked:
+a carry chain and of a RAM in transcripts/files, over a database whose names fill more than one chunk of 65,536 bytes, and writes its help. A
+first run counts the requests for memory. Then each of them is refused in a run of its own; of a job with more than MOST_IN_TURN requests the
+first ones and every 500th after them. Of each such run is asked:
 
 - the request was refused, and the program ended with exit status 5 and the line 'TOOL: out of memory';
 - nothing went to standard output, and the target is as it was.

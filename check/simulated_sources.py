@@ -82,7 +82,8 @@ def compare(design, device, work):
     for number, (one, other) in enumerate(zip(mine, wanted)):
         if one != other:
             return "", "line %d differs: the module %s, the source %s" % (number + 1, one, other)
-    return "%d lines; %s" % (len(mine), design.seen(module)), "" if len(mine) == len(wanted) else "%d lines, and %d of the source" % (len(mine), len(wanted))
+    fault = "" if len(mine) == len(wanted) else "%d lines, and %d of the source" % (len(mine), len(wanted))
+    return "%d lines; %s" % (len(mine), design.seen(module)), fault
 
 
 def is_constant_clock(design, refused):

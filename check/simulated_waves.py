@@ -21,6 +21,7 @@ from modules.programs import missing, need, program
 from modules.random_modules import DUMP_START, LARGE, SMALL, Module
 from modules.tries import Tally
 
+
 def declared(words):
     """The identifier, and the name, kind and width of the variable that a line declares."""
     kind, width, identifier, name = words[1:5]

@@ -11,8 +11,9 @@ asked, under layouts/silicon.layout:
 - this project's iceunpack of these bytes writes the tiles, contents of RAMs and extra bits of the stock one;
 - the text that it writes packs to the same bytes.
 
-The stock tools are those of Debian's package fpga-icestorm, and the pins are those of its chip databases. With -k the designs, their texts and the stock bitstreams stay in FOLDER, and a text that is there already isn't made anew. With -m they are
-made alone, and nothing is compared.
+The stock tools are those of Debian's package fpga-icestorm, and the pins are those of its chip databases. With -k the designs, their texts
+and the stock bitstreams stay in FOLDER, and a text that is there already isn't made anew. With -m they are made alone, and nothing is
+compared.
 
 The last line is 'N passed, M failed'. Status 0: all passed; 1: something failed; 2: the arguments aren't taken; 127: a program or a database
 is missing.

@@ -18,7 +18,7 @@
 set -euo pipefail
 
 here=$(cd "$(dirname "${BASH_SOURCE[0]}")" && pwd)
-program=${ICESTORM:-$("$here/../dist/choose")}
+program=${ICESTORM:-$("$here/../dist/choose" || true)}
 database=${CHIPDB:-/usr/share/fpga-icestorm/chipdb}/chipdb-8k.txt
 layout=$here/../layouts/silicon.layout
 

@@ -11,9 +11,10 @@
 set -eu
 
 top=$(cd "$(dirname "$0")/.." && pwd)
-program=$(realpath "${ICESTORM:-$("$top/dist/choose")}")
+program=${ICESTORM:-$("$top/dist/choose" || true)}
 
 [ -x "$program" ] || { echo "bench/stock.sh: there is no program $program" >&2; exit 127; }
+program=$(realpath "$program")
 for tool in icepack iceunpack icemulti icebram python3; do
   command -v "$tool" >/dev/null || { echo "bench/stock.sh: $tool isn't installed" >&2; exit 127; }
 done

@@ -69,6 +69,7 @@ def places(files):
         (["icebox_explain", database, "@@"], ("text", "stream")),
         (["icebox_explain", "@@", text], ("database",)),
         (["icebox_stat", database, "@@"], ("text", "stream")),
+        (["icebox_stat", "--layout", "@@", database, text], ("layout",)),
         (["icebox_stat", "@@", text], ("database",)),
         (["icebox_vlog", database, "@@"], ("text", "stream")),
         (["icebox_vlog", "@@", text], ("database",)),

@@ -9,8 +9,9 @@
 set -euo pipefail
 
 top=$(cd "$(dirname "${BASH_SOURCE[0]}")/.." && pwd)
-program=$(realpath "${ICESTORM:-$("$top/dist/choose")}")
+program=${ICESTORM:-$("$top/dist/choose" || true)}
 [ -x "$program" ] || { echo "check/streams.sh: there is no program $program" >&2; exit 127; }
+program=$(realpath "$program")
 
 work=$(mktemp -d)
 trap 'rm -rf "$work"' EXIT

@@ -23,7 +23,8 @@ def program():
         chosen = subprocess.run([TOP / "dist/choose"], stdout=subprocess.PIPE, text=True)
         named = chosen.stdout.strip()
     if not named or not os.access(named, os.X_OK):
-        print("%s: there is no program%s" % (sys.argv[0], " " + named if named else ""), file=sys.stderr)
+        what = " " + named if named else " of these sources; ./build proves and builds it"
+        print("%s: there is no program%s" % (sys.argv[0], what), file=sys.stderr)
         sys.exit(127)
     return pathlib.Path(named).resolve()
 

@@ -192,6 +192,7 @@ def places(files):
         (["icebox_explain", "--layout", "FILE", database, stream], None, layout),
         (["icebox_stat", "FILE", text], None, database),
         (["icebox_stat", database, "FILE"], None, text),
+        (["icebox_stat", "--layout", "FILE", database, text], None, layout),
         (["icebox_vlog", "FILE", text], None, database),
         (["icebox_vlog", "-n", "name", database, "FILE"], None, text),
         (["icebox_vlog", "--layout", "FILE", database, text], None, layout),

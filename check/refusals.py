@@ -16,7 +16,8 @@ For each place where a tool reads a file, as tries.py lists them:
   written; or, below the limit under which the program begins at all, the system's own refusal, and nothing is written.
 
 Files mustn't be read or written by the user nobody, as which the program runs there where root runs this script. streams.sh has named
-pipes, and files of the length of a limit. With --short memory is limited at one place of each tool, in few steps.
+pipes, and files of the length of a limit; transcripts/program.md has each exit status. With --short memory is limited at one place of each
+tool, in few steps.
 
 The last line is 'N passed, M failed'. Status 0: all passed; 1: something failed; 2: the arguments aren't taken; 127: there is no program or
 no database.

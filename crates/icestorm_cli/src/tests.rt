@@ -1,33 +1,13 @@
-// Whole runs over files and streams in memory.
+// Runs over files and streams in memory, whose calls fail in turn. Whole runs of the built program are in check/transcripts.
 ghost use Rattle.std.specs.Prelude.{◌≤◌};
 
-mod answering;
-mod counting;
-mod explaining;
-mod failing;
-mod generating;
-mod helping;
-mod joining;
-mod layouts;
-mod long;
-mod modules;
-mod naming;
-mod packing;
-mod refusing;
-mod replacing;
 mod small;
-mod splitting;
 mod steps;
-mod sweeping;
 mod turns;
-mod unpacking;
-mod writing;
 
 use crate::running::run;
 use ice_io::{MemFiles, MemSink, MemSource, NamedFile};
 use std::alloc::{AllocError, Global};
-
-const DEVICE: &[u8] = b".device 1k\n";
 
 /// The name and the bytes of a file.
 type Named<'a> = (&'a str, &'a [u8]);
@@ -53,19 +33,15 @@ impl Part {
     }
 }
 
+/// How many bytes standard output takes.
+const OUTPUT_ROOM: usize = 1_000_000;
+
 /// What a run begins with.
 #[derive(Clone, Copy)]
 struct Setup<'a> {
-    /// The names and the bytes of two files, of which one without a name isn't there.
-    first_name: &'a str,
-    first: &'a [u8],
-    second_name: &'a str,
-    second: &'a [u8],
-    /// More files.
-    more: &'a [Named<'a>],
-    /// How many bytes the file `out` takes, and standard output.
+    files: &'a [Named<'a>],
+    /// How many bytes the file `out` takes.
     room: usize,
-    output_room: usize,
     /// How many bytes go at once.
     part: Part,
     input: &'a [u8],
@@ -81,13 +57,8 @@ struct Setup<'a> {
 
 /// No files, an empty input, and nothing that fails.
 const PLAIN: Setup<'static> = Setup {
-    first_name: "",
-    first: b"",
-    second_name: "",
-    second: b"",
-    more: &[],
+    files: &[],
     room: 0,
-    output_room: 1_000_000,
     part: Part::Large,
     input: b"",
     failing_call: 0,
@@ -135,12 +106,7 @@ impl Stage {
                 setup.part.most(),
                 [setup.failing_read].to_vec(alloc)?,
             ),
-            output: sink(
-                alloc,
-                setup.output_room,
-                setup.part.most(),
-                setup.failing_write,
-            )?,
+            output: sink(alloc, OUTPUT_ROOM, setup.part.most(), setup.failing_write)?,
             errors: sink(alloc, 100, 7, setup.failing_line)?,
         })
     }
@@ -169,29 +135,19 @@ impl Stage {
     }
 }
 
-/// One more file, if it has a name.
-fn push_file(
-    alloc: Global,
-    files: &mut Vec<NamedFile>,
-    name: &str,
-    bytes: &[u8],
-) -> Result<(), AllocError> {
-    if !name.is_empty() {
-        files.push(NamedFile {
-            name: String::from_str(alloc, name)?,
-            bytes: bytes.to_vec(alloc)?,
-        })?;
-    }
-    Ok(())
+/// A file of that name with these bytes.
+fn file_of(alloc: Global, name: &str, bytes: &[u8]) -> Result<NamedFile, AllocError> {
+    Ok(NamedFile {
+        name: String::from_str(alloc, name)?,
+        bytes: bytes.to_vec(alloc)?,
+    })
 }
 
 /// The files of a run.
 fn files_of(alloc: Global, setup: Setup<'_>) -> Result<MemFiles, AllocError> {
     let mut files = Vec::new(alloc);
-    push_file(alloc, &mut files, setup.first_name, setup.first)?;
-    push_file(alloc, &mut files, setup.second_name, setup.second)?;
-    for (name, bytes) in setup.more {
-        push_file(alloc, &mut files, name, bytes)?;
+    for (name, bytes) in setup.files {
+        files.push(file_of(alloc, name, bytes)?)?;
     }
     let failing = [setup.failing_call].to_vec(alloc)?;
     MemFiles::new(alloc, files, "out", setup.room, setup.part.most(), failing)
@@ -220,24 +176,8 @@ fn outcome(alloc: Global, setup: Setup<'_>, words: &[&str]) -> Result<Ended, All
     stage.left(alloc, status)
 }
 
-/// Whether these words end with that status and that line, and write nothing to standard output.
-fn refuses(
-    alloc: Global,
-    setup: Setup<'_>,
-    words: &[&str],
-    status: u8,
-    line: &str,
-) -> Result<bool, AllocError> {
-    Ok(outcome(alloc, setup, words)?.refuses(status, line))
-}
-
 /// The bytes that a tool writes to standard output for an input, or nothing where it is refused.
 fn made(alloc: Global, words: &[&str], input: &[u8]) -> Result<Vec<u8>, AllocError> {
     let Ended { output, .. } = outcome(alloc, Setup { input, ..PLAIN }, words)?;
     Ok(output)
-}
-
-/// Whether a tool refuses an input with that line.
-fn is_refused(alloc: Global, words: &[&str], input: &[u8], line: &str) -> Result<bool, AllocError> {
-    refuses(alloc, Setup { input, ..PLAIN }, words, 1, line)
 }

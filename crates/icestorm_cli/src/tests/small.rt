@@ -1,4 +1,4 @@
-// A small database of a 1k, and images for it.
+// A small database of a 1k, an image for it, and the module of its design.
 
 use std::alloc::{AllocError, Global};
 
@@ -27,34 +27,42 @@ IOB_0.PINTYPE_5 B5[0]
 1 2
 ";
 
+/// The module of a pin, an inverter and another pin.
+pub(super) const MODULE: &str = "\
+module chip (io_0_1_0, io_0_2_0);
+  input io_0_1_0;
+  output io_0_2_0;
+  wire n_0 = io_0_1_0;
+  wire n_1 = n_0;
+  wire n_2 = 16'h5555 >> {1'b0, 1'b0, 1'b0, n_1};
+  wire n_3 = n_2;
+  assign io_0_2_0 = n_3;
+endmodule
+";
+
 /// A tile of an image: its statement, its columns, and the row and the column of each bit that is set.
-pub(super) type Tile = (&'static str, usize, &'static [(usize, usize)]);
-
-/// An input pin.
-pub(super) const INPUT: Tile = (".io_tile 0 1\n", 18, &[(0, 0)]);
-
-/// An output pin that a buffer drives.
-pub(super) const OUTPUT: Tile = (".io_tile 0 2\n", 18, &[(0, 0), (3, 0), (4, 0), (6, 0)]);
-
-/// A cell that inverts its input.
-pub(super) const CELL: Tile = (
-    ".logic_tile 1 1\n",
-    54,
-    &[
-        (0, 37),
-        (0, 39),
-        (0, 40),
-        (0, 42),
-        (1, 36),
-        (1, 38),
-        (1, 41),
-        (1, 43),
-        (2, 0),
-    ],
-);
+type Tile = (&'static str, usize, &'static [(usize, usize)]);
 
 /// A pin, an inverter and another pin.
-pub(super) static INVERTER: [Tile; 3] = [INPUT, OUTPUT, CELL];
+static INVERTER: [Tile; 3] = [
+    (".io_tile 0 1\n", 18, &[(0, 0)]),
+    (".io_tile 0 2\n", 18, &[(0, 0), (3, 0), (4, 0), (6, 0)]),
+    (
+        ".logic_tile 1 1\n",
+        54,
+        &[
+            (0, 37),
+            (0, 39),
+            (0, 40),
+            (0, 42),
+            (1, 36),
+            (1, 38),
+            (1, 41),
+            (1, 43),
+            (2, 0),
+        ],
+    ),
+];
 
 /// Appends a tile.
 fn append_tile(text: &mut Vec<u8>, tile: &Tile) -> Result<(), AllocError> {
@@ -69,10 +77,10 @@ fn append_tile(text: &mut Vec<u8>, tile: &Tile) -> Result<(), AllocError> {
     Ok(())
 }
 
-/// The image of a 1k with these tiles.
-pub(super) fn image(alloc: Global, tiles: &[Tile]) -> Result<Vec<u8>, AllocError> {
+/// The image of that design.
+pub(super) fn image(alloc: Global) -> Result<Vec<u8>, AllocError> {
     let mut text = b".device 1k\n".to_vec(alloc)?;
-    for tile in tiles {
+    for tile in &INVERTER {
         append_tile(&mut text, tile)?;
     }
     Ok(text)

@@ -1,8 +1,8 @@
 // Each tool while its calls fail in turn: each read of a file and of standard input, each write of standard output, each store, and
 // each write of the line on standard error.
 
-use super::small::{DATABASE, INVERTER, image};
-use super::{Ended, Named, PLAIN, Part, Setup, made, modules, outcome};
+use super::small::{DATABASE, MODULE, image};
+use super::{Ended, Named, PLAIN, Part, Setup, made, outcome};
 use std::alloc::{AllocError, Global};
 
 /// The pins of a package, and a pin file for it.
@@ -43,9 +43,9 @@ fn repeated(alloc: Global, bytes: &[u8], times: usize) -> Result<Vec<u8>, AllocE
 
 /// The boot file of one image.
 fn boot_of(alloc: Global, stream: &[u8]) -> Result<Vec<u8>, AllocError> {
+    let files = [("stream", stream)];
     let setup = Setup {
-        first_name: "stream",
-        first: stream,
+        files: &files,
         ..PLAIN
     };
     let Ended { output, .. } = outcome(alloc, setup, &["icemulti", "stream"])?;
@@ -61,7 +61,7 @@ fn packaged(alloc: Global) -> Result<Vec<u8>, AllocError> {
 
 impl Made {
     fn new(alloc: Global) -> Result<Made, AllocError> {
-        let image = image(alloc, &INVERTER)?;
+        let image = image(alloc)?;
         let stream = made(alloc, &["icepack"], &image)?;
         let boot = boot_of(alloc, &stream)?;
         Ok(Made {
@@ -87,7 +87,7 @@ impl Made {
             ("packaged", &self.packaged),
             ("pins", PINS),
             ("layout", LAYOUT),
-            ("module", modules::INVERTER.as_bytes()),
+            ("module", MODULE.as_bytes()),
             ("events", EVENTS),
         ]
     }
@@ -291,7 +291,7 @@ static JOBS: [Job; 24] = [
 /// What a job begins with.
 fn setup_of<'a>(job: &Job, files: &'a [Named<'a>]) -> Setup<'a> {
     Setup {
-        more: files,
+        files,
         room: 1_000_000,
         part: job.4,
         input: bytes_of(files, job.3),
@@ -633,4 +633,37 @@ fn keeps_the_status_where_no_line_is_told(rt: HostRuntime) {
             );
         }
     }
+}
+
+/// A standard error that takes the first 14 bytes of a line.
+const SHORT: Setup<'static> = Setup {
+    failing_line: 4,
+    ..PLAIN
+};
+
+/// Whether a text is refused with status 1 and the first words of the line.
+fn keeps_refusal(alloc: Global) -> Result<bool, AllocError> {
+    let ended = outcome(alloc, SHORT, &["icepack"])?;
+    Ok(ended.refuses(1, "icepack: line "))
+}
+
+#[test]
+fn keeps_the_status_where_the_line_is_cut(rt: HostRuntime) {
+    assert!(rt; keeps_refusal(rt.alloc()) == Ok(true));
+}
+
+/// Whether a run of a module is done, with its lines.
+fn runs_a_module(alloc: Global) -> Result<bool, AllocError> {
+    let files = [("module", MODULE.as_bytes()), ("events", EVENTS)];
+    let setup = Setup {
+        files: &files,
+        ..PLAIN
+    };
+    let ended = outcome(alloc, setup, &["vlogrun", "module", "events"])?;
+    Ok(ended.says(0, "") && ended.output.as_slice() == b"1\n0\n1\n".as_slice())
+}
+
+#[test]
+fn runs_a_tool(rt: HostRuntime) {
+    assert!(rt; runs_a_module(rt.alloc()) == Ok(true));
 }

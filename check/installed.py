@@ -233,7 +233,7 @@ def try_terminal(tries, prefix):
 
 def try_pages(tries, prefix):
     """The manual pages."""
-    for tool in ("icestorm",) + TOOLS:
+    for tool in ("icestorm", *TOOLS, "iceverify"):
         page = prefix / "share/man/man1" / (tool + ".1")
         shown = subprocess.run(["groff", "-man", "-ww", "-Tascii", "-P-cbou", page], capture_output=True)
         text = shown.stdout.decode(errors="replace")
@@ -267,6 +267,8 @@ def try_completions(tries, prefix):
         wanted = options(prefix, tool) + ["--help"]
         is_bound = said.strip() == "complete -o default -F _icestorm " + tool
         tries.tell("bash completes %s" % tool, "" if found == wanted and is_bound else "to: %s; %s" % (" ".join(found), said))
+    found, said = completed(prefix, "iceverify", ["iceverify", "-"])
+    tries.tell("bash completes iceverify", "" if found == options(prefix, "iceverify") and said else "to: " + " ".join(found))
     for words, wanted in ((["icestorm", "icebox_"], ["icebox_explain", "icebox_stat", "icebox_vlog"]), (["icepack", "--la"], ["--layout"]),
                           (["icestorm", "icebram", "--b"], ["--by-mode"]), (["icepack", "a"], []), (["icestorm", "icepack", ""], [])):
         found, _ = completed(prefix, words[0], words)
@@ -305,6 +307,9 @@ def try_make(tries, prefix):
                         ("player.stat", b"luts ")):
         path = tries.work / name
         tries.tell("make makes %s" % name, "" if path.exists() and path.read_bytes().startswith(start) else "it isn't there, or begins otherwise")
+    if shutil.which("yosys-abc"):
+        run = subprocess.run(["make", "verify"], cwd=tries.work, env=tries.environment(prefix, {}), capture_output=True)
+        tries.tell("make verify", "" if run.returncode == 0 and b"\nequal: " in run.stdout else "it says: " + first_lines(run.stdout + run.stderr))
     pair = [tries.work / name for name in ("player.bin", "player_loaded.bin")]
     is_loaded = all(path.exists() for path in pair) and pair[0].read_bytes() != pair[1].read_bytes()
     tries.tell("make puts other contents into the RAM", "" if is_loaded else "the bitstreams are the same")

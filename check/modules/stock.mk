@@ -1,5 +1,5 @@
-# A Makefile as those of IceStorm's examples: it knows the stock tools' names and calls, and nothing of this project. check/installed.py runs
-# it in a folder with the files of examples/player_1k.
+# A Makefile as those of IceStorm's examples: it knows the stock tools' names and calls, and of this project the rule for iceverify alone.
+# check/installed.py runs it in a folder with the files of examples/player_1k.
 PROJ = player
 PIN_DEF = $(PROJ).pcf
 DEVICE = hx1k
@@ -28,8 +28,12 @@ all: $(PROJ).bin $(PROJ).ex $(PROJ)_chip.v $(PROJ)_loaded.bin $(PROJ).stat
 %.stat: %.bin
 	iceunpack $< | icebox_stat >$@
 
+# the one rule that is this project's
+verify: $(PROJ).json $(PROJ).asc $(PROJ).bin
+	iceverify -p $(PIN_DEF) $^
+
 clean:
 	rm -f $(PROJ).json $(PROJ).asc $(PROJ).bin $(PROJ).ex $(PROJ)_chip.v $(PROJ)_loaded.asc $(PROJ)_loaded.bin $(PROJ).stat
 
 .SECONDARY:
-.PHONY: all clean
+.PHONY: all verify clean

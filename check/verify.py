@@ -1,0 +1,362 @@
+#!/usr/bin/env python3
+"""Tries iceverify: designs that are equal to their files, files and netlists that are wrong, bits that can't matter, and bad input.
+
+Usage: check/verify.py [--short] [-k FOLDER] [NAME ...]
+
+The designs are those of check/verify. Each is taken through yosys and nextpnr-ice40 for an HX1K and an HX8K with three seeds, and has
+to be equal. Then one thing is changed in a text, a bitstream or a netlist, and iceverify has to tell it by its name. With --short there
+are fewer of each, for about a minute. With NAMEs only what has one of them in its name is
+tried. With -k the files stay in FOLDER, and designs that are there aren't routed again.
+
+The program is that of modules/programs.py, which `./install` installs in a temporary folder. If yosys, yosys-abc, nextpnr-ice40 or the chip
+databases are missing, everything is skipped, with a line. One check needs iverilog and vvp, and is skipped without them.
+
+The last line is 'N passed, M failed', with ', K skipped' if something was. Status 0: all passed; 1: one failed; 2: the arguments aren't taken;
+127: there is no program.
+"""
+import concurrent.futures
+import json
+import os
+import pathlib
+import re
+import shutil
+import subprocess
+import sys
+import tempfile
+import time
+
+from modules.programs import TOP, install, missing, program
+
+sys.path.insert(0, str(TOP / "check" / "verify"))
+
+from device import ENTRIES, Database, Text  # noqa: E402
+from ram_forms import bench  # noqa: E402
+from routes import EQUAL, PACKAGES, Refused, database_path, output_of, package_pins, routed, synthesized  # noqa: E402
+from wrong import NETLISTS, TEXTS  # noqa: E402
+
+NEEDED = "yosys", "yosys-abc", "nextpnr-ice40", "chipdb"
+DEVICES, SEEDS = ("1k", "8k"), (1, 2, 3)
+SHORT_DESIGNS = ("crc", "1k", 1), ("servo", "1k", 1), ("rams", "1k", 1), ("pins", "1k", 1), ("globals", "1k", 1), ("passes", "1k", 1), \
+    ("machine", "8k", 1)
+SHORT_WRONG = ("a bit of a LUT", "a link to a LUT", "an edge", "a carry's set bit", "an enable", "a RAM's contents", "a RAM's write mode",
+               "a pin that can't be switched off", "a clock", "a start at 1", "a port more")
+WORKERS = min(4, os.cpu_count() or 1)
+
+
+class Failure(Exception):
+    """Something that isn't as it should be."""
+
+
+class Checks:
+    """What was tried. folder: where the files are, a folder for each design. prefix: where the tools are installed."""
+
+    def __init__(self, folder, wanted):
+        self.folder = folder
+        self.prefix = folder / "prefix"
+        self.wanted = wanted
+        self.passed = self.failed = self.skipped = 0
+        self.databases = {}
+        self.texts = {}
+        self.list = []
+
+    def add(self, name, run, *words):
+        """Adds something to try, if its name is wanted."""
+        if not self.wanted or any(word in name for word in self.wanted):
+            self.list.append((name, run, words))
+
+    def skip(self, name, lacking):
+        """Tells what isn't tried."""
+        self.skipped += 1
+        print("skipped: %s: there is no %s" % (name, ", no ".join(lacking)), flush=True)
+
+    def end(self):
+        """Writes the last line, and answers the exit status of the script."""
+        print("%d passed, %d failed%s" % (self.passed, self.failed, ", %d skipped" % self.skipped if self.skipped else ""))
+        return 1 if self.failed else 0
+
+    def run_all(self):
+        """Tries all, a few side by side, and tells each."""
+        with concurrent.futures.ThreadPoolExecutor(WORKERS) as pool:
+            for (name, _, _), (fault, seconds) in zip(self.list, pool.map(self.run_one, self.list)):
+                self.passed += not fault
+                self.failed += bool(fault)
+                print("%s: %s (%.1f s)" % (name, "FAILED: " + fault if fault else "passed", seconds), flush=True)
+
+    def run_one(self, entry):
+        """Tries one, and answers its fault and how long it took."""
+        start = time.perf_counter()
+        try:
+            entry[1](*entry[2])
+            fault = ""
+        except (Failure, Refused, KeyError, StopIteration) as error:
+            fault = "%s: %s" % (type(error).__name__, error)
+        return fault, time.perf_counter() - start
+
+    def tool(self, name, words, work, **more):
+        """Runs an installed tool."""
+        command = [str(self.prefix / "bin" / name)] + [str(word) for word in words]
+        return subprocess.run(command, cwd=work, capture_output=True, text=True, **more)
+
+    def database(self, device):
+        if device not in self.databases:
+            self.databases[device] = Database(database_path(device))
+        return self.databases[device]
+
+    def folder_of(self, design, device, seed):
+        return self.folder / ("%s_%s_%d" % (design, device, seed))
+
+    def text_of(self, design):
+        """The text of a design on an HX1K, with the places of its pins."""
+        if design not in self.texts:
+            work = self.folder_of(design, "1k", 1)
+            text = Text((work / "top.asc").read_text(), self.database("1k"))
+            pins = package_pins(database_path("1k"), PACKAGES["1k"])
+            words = [line.split() for line in (work / "top.pcf").read_text().splitlines()]
+            text.pins = {name: tuple(int(part) for part in pins[pin].split("_")[1:]) for _, name, pin in words}
+            self.texts[design] = text
+        text = self.texts[design].copy()
+        text.pins = self.texts[design].pins
+        return text
+
+
+def expect(run, status, *said):
+    """Looks that a run ends with a status, and has a line with all of these words."""
+    lines = (run.stdout + run.stderr).splitlines()
+    if run.returncode != status or not any(all(word in line for word in said) for line in lines):
+        raise Failure("status %d, it says: %s" % (run.returncode, " / ".join(lines)[:600]))
+
+
+def check_equal(checks, design, device, seed):
+    """A design is equal to its text, and with the first seed to its bitstream."""
+    work = checks.folder_of(design, device, seed)
+    expect(checks.tool("iceverify", ["-p", "top.pcf", "top.json", "top.asc"], work), 0, "equal: ")
+    if seed == 1:
+        checks.tool("icepack", ["top.asc", "top.bin"], work)
+        expect(checks.tool("iceverify", ["top.json", "top.asc", "top.bin", "--log", "log", "-p", "top.pcf"], work), 0, "equal: ")
+
+
+def check_edges(checks, device):
+    """nextpnr-ice40 sets the edges of a RAM's ports at the wrong port of an HX8K, which is told."""
+    run = checks.tool("iceverify", ["-p", "top.pcf", "top.json", "top.asc"], checks.folder_of("edges", device, 1))
+    if device == "1k":
+        expect(run, 0, "equal: ")
+    else:
+        expect(run, 1, "RAM falling_write (top.v:", "edge of the write clock: the netlist has falling, the file has rising")
+
+
+def check_wrong(checks, wrong, by_bitstream=False):
+    """Something wrong is told by its name."""
+    work = checks.folder_of(wrong.design, "1k", 1)
+    with tempfile.TemporaryDirectory(dir=checks.folder) as folder:
+        place = pathlib.Path(folder)
+        netlist, words = work / "top.json", [work / "top.asc"]
+        if wrong.is_netlist:
+            netlist = place / "wrong.json"
+            netlist.write_text(json.dumps(wrong.change(json.loads((work / "top.json").read_text()))))
+        else:
+            (place / "wrong.asc").write_text(wrong.change(checks.text_of(wrong.design)).text())
+            words = [place / "wrong.asc"]
+        if by_bitstream:
+            checks.tool("icepack", ["wrong.asc", "wrong.bin"], place)
+            words = [work / "top.asc", place / "wrong.bin"]
+        expect(checks.tool("iceverify", ["-p", work / "top.pcf", netlist, *words], work), 1, *wrong.said)
+
+
+def unreachable_entries(text):
+    """Cells with an entry of their table that they never come to, since it needs a 1 at an input without a net: with such a net it is 0."""
+    for tile, (_, kind) in sorted(text.tiles.items()):
+        for number in range(8 if kind == "logic_tile" else 0):
+            cell = (*tile, number)
+            if any(text.bit(tile, place) for place in text.cell_bits(cell, *ENTRIES)):
+                for k in range(3):
+                    if not text.link_on(text.net(tile, "lutff_%d/in_%d" % (number, k))):
+                        yield cell, 1 << k
+
+
+def check_idle(checks):
+    """A bit that can't matter is found equal: an entry of a table that the table's inputs never come to. Where such an entry makes a table
+    use an input that closes a loop, icebox_vlog refuses the file; then another one is tried."""
+    work = checks.folder_of("servo", "1k", 1)
+    for cell, number in unreachable_entries(checks.text_of("servo")):
+        text = checks.text_of("servo").flip(cell[:2], *checks.text_of("servo").cell_bits(cell, ENTRIES[number]))
+        (work / "idle.asc").write_text(text.text())
+        run = checks.tool("iceverify", ["-p", "top.pcf", "top.json", "idle.asc"], work)
+        if not run.stderr.endswith("Loop\n"):
+            return expect(run, 0, "equal: ")
+    raise Failure("each table has a net at each input")
+
+
+def check_other(checks, netlist, text, said):
+    """The netlist or the text of something else is told."""
+    work = checks.folder_of(*netlist)
+    expect(checks.tool("iceverify", ["-p", "top.pcf", "top.json", checks.folder_of(*text) / "top.asc"], work), 1, *said)
+
+
+def check_older(checks):
+    """The netlist of an older source is told, with the register that changed."""
+    work = checks.folder / "older"
+    synthesized("servo", work, ("10'd17", "10'd16"))
+    newer = checks.folder_of("servo", "1k", 1)
+    expect(checks.tool("iceverify", ["-p", newer / "top.pcf", "top.json", newer / "top.asc"], work), 1, "register count[0]", "next value")
+
+
+def check_swapped_pins(checks):
+    """Two outputs that have each other's pin are told."""
+    work = checks.folder_of("crc", "1k", 1)
+    swapped = {"parity": "full", "full": "parity"}
+    lines = [" ".join(swapped.get(word, word) for word in line.split()) for line in (work / "top.pcf").read_text().splitlines()]
+    (work / "swapped.pcf").write_text("\n".join(lines) + "\n")
+    expect(checks.tool("iceverify", ["-p", "swapped.pcf", "top.json", "top.asc"], work), 1, "output full", "value")
+
+
+def check_ram_forms(checks, cycles):
+    """The forms of block RAMs are those of the model that yosys ships, in a simulation of all modes."""
+    work = checks.folder / "forms"
+    work.mkdir(exist_ok=True)
+    (work / "bench.v").write_text(bench(cycles))
+    cells = pathlib.Path(shutil.which("yosys")).resolve().parent.parent / "share/yosys/ice40/cells_sim.v"
+    output_of(["iverilog", "-g2009", "-DNO_ICE40_DEFAULT_ASSIGNMENTS", "-o", "bench", "bench.v", cells], work)
+    said = output_of(["vvp", "-n", "bench"], work).strip()
+    if said != "same":
+        raise Failure(said)
+
+
+def check_bad(checks, words, status, said, files=None):
+    """Bad input has a line and a status."""
+    work = checks.folder_of("crc", "1k", 1)
+    with tempfile.TemporaryDirectory(dir=checks.folder) as folder:
+        for name in ("top.json", "top.asc", "top.pcf"):
+            shutil.copy(work / name, folder)
+        for name, change in (files or {}).items():
+            path = pathlib.Path(folder, name)
+            path.write_text(change(path.read_text() if path.exists() else ""))
+        run = checks.tool("iceverify", words, folder)
+        lines = run.stderr.splitlines()
+        is_line = len(lines) == 1 and lines[0].startswith("iceverify: ") and said in lines[0]
+        if run.returncode != status or run.stdout or not is_line:
+            raise Failure("status %d, it says: %s" % (run.returncode, (run.stdout + run.stderr)[:300]))
+
+
+def two_tops(text):
+    """A netlist with two top modules."""
+    data = json.loads(text)
+    data["modules"]["again"] = json.loads(json.dumps(data["modules"]["crc"]))
+    return json.dumps(data)
+
+
+def other_cell(text):
+    """A netlist with a cell that isn't known."""
+    data = json.loads(text)
+    pll = {"type": "SB_PLL40_CORE", "parameters": {}, "connections": {}, "attributes": {"src": "top.v:3.1-3.5"}}
+    data["modules"]["crc"]["cells"]["pll"] = pll
+    return json.dumps(data)
+
+
+def add_bad(checks):
+    """Adds what is bad input."""
+    both = ["-p", "top.pcf", "top.json", "top.asc"]
+    for words in ([], ["top.json"], ["-d", "tq144", "top.json", "top.asc"], ["-x", "top.json", "top.asc"], both + ["a", "b"], ["-p"],
+                  ["--help", "top.json"], both + ["-p", "top.pcf"]):
+        checks.add("bad arguments: %s" % " ".join(words), check_bad, checks, words, 2, "usage: iceverify ")
+    for name, words, status, said, files in (
+            ("no netlist", ["none.json", "top.asc"], 3, "read failed: none.json", {}),
+            ("no text", ["top.json", "none.asc"], 3, "read failed: none.asc", {}),
+            ("no bitstream", ["top.json", "top.asc", "none.bin"], 3, "read failed", {}),
+            ("no names", both, 1, "has no .sym lines", {"top.asc": lambda text: re.sub(r"(?m)^\.sym.*\n", "", text)}),
+            ("no device", both, 1, "names no device", {"top.asc": lambda text: re.sub(r"(?m)^\.device.*\n", "", text)}),
+            ("another device", both, 1, "the device 384", {"top.asc": lambda text: text.replace(".device 1k", ".device 384")}),
+            ("the text isn't one", both, 1, "iceverify: icebox_vlog: line", {"top.asc": lambda text: text.replace(".logic_tile", ".magic_tile", 1)}),
+            ("the netlist isn't JSON", both, 1, "the netlist isn't JSON: line 1", {"top.json": lambda text: "module"}),
+            ("the netlist has no modules", both, 1, "has no modules", {"top.json": lambda text: "{}"}),
+            ("several tops", both, 1, "the netlist has the top modules again, crc", {"top.json": two_tops}),
+            ("an unknown cell", both, 1, "cell pll (top.v:3) has the type SB_PLL40_CORE, which isn't known", {"top.json": other_cell}),
+            ("an unknown pin", both, 1, "pin file line 1", {"top.pcf": lambda text: "set_io clk 9999\n"}),
+            ("an unknown package", ["-d", "none"] + both, 1, "the device has no package none", {}),
+            ("a folder that can't be", ["--log", "top.pcf/log"] + both, 4, "write failed: top.pcf/log", {})):
+        checks.add("bad input: %s" % name, check_bad, checks, words, status, said, files)
+
+
+def check_other_database(checks):
+    """A database of another device is told."""
+    with tempfile.TemporaryDirectory(dir=checks.folder) as folder:
+        pathlib.Path(folder, "chipdb-1k.txt").symlink_to(database_path("8k"))
+        run = checks.tool("iceverify", ["top.json", "top.asc"], checks.folder_of("crc", "1k", 1), env={**os.environ, "ICEBOX_CHIPDB": folder})
+        expect(run, 1, "icebox_vlog: Device")
+
+
+def check_missing(checks):
+    """A program that is missing is named."""
+    work = checks.folder_of("crc", "1k", 1)
+    for name in ("yosys-abc", "yosys", "python3"):
+        with tempfile.TemporaryDirectory(dir=checks.folder) as folder:
+            for each in ("sh", "dirname", "python3", "yosys", "yosys-abc"):
+                if each != name:
+                    pathlib.Path(folder, each).symlink_to(shutil.which(each))
+            expect(checks.tool("iceverify", ["top.json", "top.asc"], work, env={"PATH": folder}), 3, "iceverify: it needs %s" % name)
+
+
+def prepare(checks, is_short):
+    """Makes the texts of all designs that are needed, a few side by side."""
+    designs = list(SHORT_DESIGNS) if is_short else [(design, device, seed) for design in EQUAL for device in DEVICES for seed in SEEDS]
+    designs += [] if is_short else [("edges", device, 1) for device in DEVICES]
+    sources = {design: checks.folder / "sources" / design for design, _, _ in designs}
+    with concurrent.futures.ThreadPoolExecutor(WORKERS) as pool:
+        new = [design for design in designs if not (checks.folder_of(*design) / "top.asc").exists()]
+        list(pool.map(lambda name: synthesized(name, sources[name]), {name for name, _, _ in new}))
+        list(pool.map(lambda design: routed(*design, sources[design[0]], checks.folder_of(*design)), new))
+    return designs
+
+
+def add_all(checks, designs, is_short):
+    """Adds all that is tried."""
+    for design in designs:
+        if design[0] == "edges":
+            checks.add("edges of RAMs on %s" % design[1], check_edges, checks, design[1])
+        else:
+            checks.add("equal: %s %s seed %d" % design, check_equal, checks, *design)
+    for wrong in TEXTS + NETLISTS:
+        if not is_short or wrong.what in SHORT_WRONG:
+            checks.add("wrong: %s%s" % (wrong.what, " of the netlist" if wrong.is_netlist else ""), check_wrong, checks, wrong)
+    for wrong in TEXTS[:1] if is_short else TEXTS:
+        checks.add("wrong: %s of the bitstream" % wrong.what, check_wrong, checks, wrong, True)
+    checks.add("a bit that can't matter", check_idle, checks)
+    checks.add("the text of another design", check_other, checks, ("crc", "1k", 1), ("servo", "1k", 1), ("register crc[0]", "no partner"))
+    checks.add("the netlist of an older source", check_older, checks)
+    lacking = missing(("iverilog", "vvp"))
+    if lacking:
+        checks.skip("the forms of block RAMs", lacking)
+    else:
+        checks.add("the forms of block RAMs", check_ram_forms, checks, 2000 if is_short else 20000)
+    checks.add("pins the other way round", check_swapped_pins, checks)
+    add_bad(checks)
+    checks.add("a database of another device", check_other_database, checks)
+    checks.add("programs that are missing", check_missing, checks)
+
+
+def main(words):
+    """Reads the arguments, tries all, and answers the exit status."""
+    is_short = "--short" in words
+    words = [word for word in words if word != "--short"]
+    keep = None
+    if words[:1] == ["-k"] and len(words) > 1:
+        keep, words = pathlib.Path(words[1]), words[2:]
+    if any(word.startswith("-") for word in words):
+        print(__doc__, file=sys.stderr)
+        return 2
+    program()
+    with tempfile.TemporaryDirectory() as made:
+        folder = (keep or pathlib.Path(made)).resolve()
+        folder.mkdir(parents=True, exist_ok=True)
+        checks = Checks(folder, words)
+        lacking = missing(NEEDED)
+        if lacking:
+            checks.skip("all of it", lacking)
+        else:
+            install(checks.prefix)
+            add_all(checks, prepare(checks, is_short), is_short)
+            checks.run_all()
+    return checks.end()
+
+
+if __name__ == "__main__":
+    sys.exit(main(sys.argv[1:]))

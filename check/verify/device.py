@@ -1,0 +1,107 @@
+"""What the tests change in a routed text: the bits of functions, cells and links, by the chip database."""
+import re
+
+# the bits of a cell that are entries 0 to 15 of its table, and the others
+ENTRIES = 4, 14, 15, 5, 6, 16, 17, 7, 3, 13, 12, 2, 1, 11, 10, 0
+CARRY, SETS, AT_ONCE = 8, 18, 19
+
+
+class Database:
+    """functions: of each kind of tile, of each function, its bits as pairs of a row and a column. links: of each net that links lead to, the
+    tile, the bits, and of each of the values its source. nets: the number of each name in a tile."""
+
+    def __init__(self, path):
+        self.functions, self.links, self.nets = {}, {}, {}
+        statement, words = "", []
+        with open(path) as lines:
+            for line in lines:
+                if line.startswith("."):
+                    words = line.split()
+                    statement = words[0]
+                    if statement in (".buffer", ".routing"):
+                        link = ((int(words[1]), int(words[2])), bits_of(words[4:]), {})
+                        self.links.setdefault(int(words[3]), []).append(link)
+                elif line.strip():
+                    self.take(statement, words, line.split(), line)
+
+    def take(self, statement, words, entry, line):
+        """Takes a line below a statement."""
+        if statement == ".net":
+            self.nets[(int(entry[0]), int(entry[1]), entry[2])] = int(words[1])
+        elif statement in (".buffer", ".routing"):
+            self.links[int(words[3])][-1][2][entry[0]] = int(entry[1])
+        elif statement.endswith("_tile_bits"):
+            self.functions.setdefault(statement[1:-5], {})[entry[0]] = bits_of(entry[1:])
+
+
+def bits_of(words):
+    """The rows and columns of bits like B7[12]."""
+    return [tuple(int(part) for part in re.fullmatch(r"B(\d+)\[(\d+)\]", word).groups()) for word in words]
+
+
+class Text:
+    """A routed text whose bits can be changed."""
+
+    def __init__(self, text, database):
+        self.lines = text.splitlines()
+        self.database = database
+        self.tiles, self.rams, self.names = {}, {}, {}
+        for index, line in enumerate(self.lines):
+            words = line.split(None, 2)
+            if line.startswith(".ram_data "):
+                self.rams[int(words[1]), int(words[2])] = index
+            elif re.match(r"\.\w+_tile ", line):
+                self.tiles[int(words[1]), int(words[2])] = index, words[0][1:]
+            elif line.startswith(".sym "):
+                self.names.setdefault(int(words[1]), words[2])
+
+    def copy(self):
+        return Text("\n".join(self.lines) + "\n", self.database)
+
+    def text(self):
+        return "\n".join(self.lines) + "\n"
+
+    def bit(self, tile, place):
+        return int(self.lines[self.tiles[tile][0] + 1 + place[0]][place[1]])
+
+    def flip(self, tile, *places):
+        """Turns bits of a tile, and answers the text."""
+        for row, column in places:
+            index = self.tiles[tile][0] + 1 + row
+            line = self.lines[index]
+            self.lines[index] = line[:column] + "10"[int(line[column])] + line[column + 1:]
+        return self
+
+    def function(self, tile, name):
+        """The bits of a function of a tile."""
+        return self.database.functions[self.tiles[tile][1]][name]
+
+    def cell_bits(self, cell, *numbers):
+        """Bits of a cell, which is named by its tile and its number."""
+        return [self.function(cell[:2], "LC_%d" % cell[2])[number] for number in numbers]
+
+    def link_on(self, net):
+        """The tile and the bits that are 1 of the link to a net that is on, or None."""
+        for tile, bits, sources in self.database.links.get(net, []):
+            if "".join(str(self.bit(tile, place)) for place in bits) in sources:
+                return tile, [place for place in bits if self.bit(tile, place)]
+        return None
+
+    def net(self, tile, name):
+        return self.database.nets.get((*tile, name))
+
+    def cell_of(self, name):
+        """The cell whose output a name of a net stands for."""
+        for (x, y, port), net in self.database.nets.items():
+            match = re.fullmatch(r"lutff_(\d)/out", port)
+            if match and re.sub(r"\$SB_IO_OUT$", "", self.names.get(net, "")) == name:
+                return x, y, int(match.group(1))
+        raise KeyError(name)
+
+    def other_word(self, ram, word):
+        """Turns the lowest bit of a word of a RAM."""
+        index = self.rams[ram] + 1 + word // 16
+        line = self.lines[index]
+        place = 63 - 4 * (word % 16)
+        self.lines[index] = line[:place] + "%x" % (int(line[place], 16) ^ 1) + line[place + 1:]
+        return self

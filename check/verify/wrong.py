@@ -1,0 +1,196 @@
+"""Wrong files and netlists: each with what iceverify has to say of it."""
+import json
+from dataclasses import dataclass
+from typing import Callable
+
+from device import AT_ONCE, CARRY, ENTRIES, SETS
+
+
+@dataclass
+class Wrong:
+    """Something that is wrong. what: in words. design: the name of the design. change: makes of a Text, or of a netlist as a dict, the
+    wrong one. said: words that a line about it has. is_netlist: whether the netlist is changed and not the text."""
+
+    what: str
+    design: str
+    change: Callable
+    said: tuple
+    is_netlist: bool = False
+
+
+def entry(name, number=0):
+    """Turns an entry of the table of the cell of a register."""
+    def change(text):
+        cell = text.cell_of(name)
+        return text.flip(cell[:2], *text.cell_bits(cell, ENTRIES[number]))
+    return change
+
+
+def cell_bit(name, number):
+    """Turns a bit of the cell of a register."""
+    def change(text):
+        cell = text.cell_of(name)
+        return text.flip(cell[:2], *text.cell_bits(cell, number))
+    return change
+
+
+def link_off(name, port):
+    """Turns off the link to an input of the cell of a register, or to what its tile shares. The first input that has one, for `in`."""
+    def change(text):
+        x, y, number = text.cell_of(name)
+        ports = ["lutff_%d/in_%d" % (number, k) for k in range(4)] if port == "in" else ["lutff_global/" + port]
+        links = [text.link_on(text.net((x, y), each)) for each in ports if text.net((x, y), each) is not None]
+        tile, bits = next(link for link in links if link)
+        return text.flip(tile, *bits)
+    return change
+
+
+def tile_function(name, function):
+    """Turns a function of the tile of a register."""
+    def change(text):
+        tile = text.cell_of(name)[:2]
+        return text.flip(tile, *text.function(tile, function))
+    return change
+
+
+def carry_set(text):
+    """Turns off the carry that is set in the first tile that has one."""
+    for tile, (_, kind) in sorted(text.tiles.items()):
+        if kind == "logic_tile" and text.bit(tile, text.function(tile, "CarryInSet")[0]):
+            return text.flip(tile, *text.function(tile, "CarryInSet"))
+    raise KeyError("CarryInSet")
+
+
+def ram_word(text):
+    """Turns a bit of a word of the first RAM."""
+    return text.other_word(min(text.rams), 37)
+
+
+def ram_function(kind, function):
+    """Turns a function of the first RAM: of its lower tile or of its upper one."""
+    def change(text):
+        x, y = min(text.rams)
+        tile = (x, y + 1) if kind == "ramt" else (x, y)
+        return text.flip(tile, *text.function(tile, function))
+    return change
+
+
+def pin_type(port, *numbers):
+    """Turns bits of the type of the pin of a port, which the names at its pin tell."""
+    def change(text):
+        x, y, pin = text.pins[port]
+        return text.flip((x, y), *[text.function((x, y), "IOB_%d.PINTYPE_%d" % (pin, number))[0] for number in numbers])
+    return change
+
+
+def pin_function(port, function):
+    """Turns a function of the tile of the pin of a port."""
+    def change(text):
+        tile = text.pins[port][:2]
+        return text.flip(tile, *text.function(tile, function))
+    return change
+
+
+def cell_of_type(netlist, design, *types):
+    """A cell of a netlist of one of these types."""
+    return next(cell for _, cell in sorted(netlist["modules"][design]["cells"].items()) if cell["type"] in types)
+
+
+def netlist_cell(design, types, **changes):
+    """Changes the first cell of some types: its type, a parameter, or what is connected to a port."""
+    def change(netlist):
+        cell = cell_of_type(netlist, design, *types)
+        for name, value in changes.items():
+            if name == "type":
+                cell["type"] = value
+            elif name in cell["connections"]:
+                cell["connections"][name] = value
+            else:
+                cell["parameters"][name] = value
+        return netlist
+    return change
+
+
+def pin_cell(name, **parameters):
+    """Changes parameters of a pin's cell."""
+    def change(netlist):
+        netlist["modules"]["pins"]["cells"][name]["parameters"].update(parameters)
+        return netlist
+    return change
+
+
+def set_for_reset(netlist):
+    """Makes a flip-flop that is reset one that is set."""
+    cell = cell_of_type(netlist, "globals", "SB_DFFNESR")
+    cell["type"] = "SB_DFFNESS"
+    for part in "connections", "port_directions":
+        cell[part]["S"] = cell[part].pop("R")
+    return netlist
+
+
+def start_at_one(name, index=0):
+    """Gives a net of the netlist an `init` of 1."""
+    def change(netlist):
+        net = netlist["modules"]["servo"]["netnames"][name]
+        net["attributes"]["init"] = "".join("1" if place == index else "x" for place in reversed(range(len(net["bits"]))))
+        return netlist
+    return change
+
+
+def extra_port(netlist):
+    """Adds an output that the file hasn't."""
+    module = netlist["modules"]["crc"]
+    module["ports"]["more"] = {"direction": "output", "bits": [module["ports"]["parity"]["bits"][0]]}
+    return netlist
+
+
+def no_port(netlist):
+    """Takes an output away that the file has."""
+    del netlist["modules"]["crc"]["ports"]["parity"]
+    return netlist
+
+
+TEXTS = [
+    Wrong("a bit of a LUT", "crc", entry("crc[5]"), ("register crc[5] (top.v:",)),
+    Wrong("another bit of a LUT", "servo", entry("want[2][3]"), ("register want[2][3]", "next value")),
+    Wrong("a link to a LUT", "crc", link_off("crc[7]", "in"), ("register crc[7]",)),
+    Wrong("an enable", "crc", link_off("count[0]", "cen"), ("register count[0]", "next value")),
+    Wrong("a reset", "crc", link_off("count[1]", "s_r"), ("register count[1]", "condition that sets or resets it")),
+    Wrong("a clock", "globals", link_off("shift[4]", "clk"), ("register shift[4]", "clock")),
+    Wrong("an edge", "crc", tile_function("full", "NegClk"), ("register full", "edge of the clock")),
+    Wrong("a reset that sets", "crc", cell_bit("crc[3]", SETS), ("register crc[3]", "value that it gets without the clock")),
+    Wrong("a reset that waits for the clock", "crc", cell_bit("crc[9]", AT_ONCE), ("register crc[9]", "condition")),
+    Wrong("a reset at the edge that sets", "servo", cell_bit("now[1][2]", SETS), ("register now[1][2]", "next value")),
+    Wrong("a reset that doesn't wait for the clock", "servo", cell_bit("now[2][4]", AT_ONCE), ("register now[2][4]", "condition")),
+    Wrong("a carry's set bit", "passes", carry_set, ("differs: ", "the netlist has ")),
+    Wrong("a carry that is off", "passes", cell_bit("total[1]", CARRY), ("register total[", "next value")),
+    Wrong("a RAM's contents", "rams", ram_word, ("RAM ", "contents at the start: 1 of 256 words differ, the first at 37")),
+    Wrong("a RAM's write mode", "rams", ram_function("ramt", "RamConfig.CBIT_0"), ("RAM ", "bits of a word at the write port")),
+    Wrong("a RAM's read mode", "rams", ram_function("ramt", "RamConfig.CBIT_2"), ("RAM ", "bits of a word at the read port")),
+    Wrong("a RAM's read edge", "rams", ram_function("ramt", "NegClk"), ("RAM ", "edge of the read clock")),
+    Wrong("a RAM's write edge", "rams", ram_function("ramb", "NegClk"), ("RAM ", "edge of the write clock")),
+    Wrong("a pin that can't be switched off", "pins", pin_type("t0", 5, 4), ("output t0", "switch that turns it off")),
+    Wrong("a pin without its register", "pins", pin_type("o2", 3, 2), ("register dout_q_0 of the pin cell shown_2",)),
+    Wrong("an input without its register", "pins", pin_type("i2", 0), ("register din_q_0 of the pin cell taken_2",)),
+    Wrong("the edge of a pin", "pins", pin_function("o1", "NegClk"), ("register dout_q_0 of the pin cell shown_1", "edge of the clock")),
+    Wrong("a pin that is no output", "crc", pin_type("parity", 4, 3), ("output parity", "no partner")),
+]
+NETLISTS = [
+    Wrong("another table", "crc", netlist_cell("crc", ["SB_LUT4"], LUT_INIT="0" * 16), ("differs: ",), True),
+    Wrong("another edge", "crc", netlist_cell("crc", ["SB_DFFNS"], type="SB_DFFS"), ("register full", "edge of the clock"), True),
+    Wrong("a set in place of a reset", "globals", set_for_reset, ("register back[", "next value"), True),
+    Wrong("a constant enable", "servo", netlist_cell("servo", ["SB_DFFE"], E=["1"]), ("register want[", "next value"), True),
+    Wrong("a RAM's contents", "rams", netlist_cell("rams", ["SB_RAM40_4K"], INIT_7="1" + "0" * 255), ("RAM ", "contents at the start"), True),
+    Wrong("a RAM's mode", "rams", netlist_cell("rams", ["SB_RAM40_4K"], READ_MODE="01"), ("RAM ", "bits of a word at the read port"), True),
+    Wrong("a RAM's edge", "rams", netlist_cell("rams", ["SB_RAM40_4KNRNW"], type="SB_RAM40_4KNW"), ("RAM ",), True),
+    Wrong("a RAM's mask", "rams", netlist_cell("rams", ["SB_RAM40_4K"], WE=["1"]), ("RAM ", "write enable"), True),
+    Wrong("a pin's type", "pins", pin_cell("shown_0", PIN_TYPE="011001"), ("register po_", "the netlist has no partner"), True),
+    Wrong("a pin's edge", "pins", pin_cell("shown_0", NEG_TRIGGER="1"), ("register dout_q_0 of the pin cell shown_0", "edge of the clock"), True),
+    Wrong("a start at 1", "servo", start_at_one("slow"), ("differs: ", "start"), True),
+    Wrong("a port more", "crc", extra_port, ("output more", "no partner"), True),
+    Wrong("a port less", "crc", no_port, ("of the file", "the netlist has no partner"), True),
+]
+
+
+def as_json(netlist):
+    return json.dumps(netlist)

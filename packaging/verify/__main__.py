@@ -1,0 +1,240 @@
+"""The tool iceverify: what is asked for, the run, and the verdict."""
+import os
+import shutil
+import signal
+import sys
+import tempfile
+from dataclasses import dataclass
+from pathlib import Path
+from typing import Dict, List, Optional
+
+from building import Builder, SWITCH, drop_idle
+from cells import RAMS, check_kind, kind_of, read_models
+from circuit import Circuit, Loop, order
+from comparing import Comparison, Difference
+from matching import Matcher
+from module import read_module
+from netlist import Netlist, read_netlist
+from programs import Tools
+from proving import Proof
+from stopping import MEMORY, REFUSED, READING, USAGE, WRITING, Stop
+from texts import Place, read_package, read_pins, read_routed
+
+USAGE_LINE = "iceverify [-p PCF [-d PACKAGE]] [--log FOLDER] NETLIST TEXT [BITSTREAM]"
+PACKAGES = {"1k": "tq144", "8k": "ct256"}
+DATABASES = "/usr/share/fpga-icestorm/chipdb"
+
+
+@dataclass
+class Request:
+    """What the arguments ask for."""
+
+    netlist: str
+    text: str
+    bitstream: Optional[str]
+    pins: Optional[str] = None
+    package: Optional[str] = None
+    log: Optional[str] = None
+
+
+def request_of(words: List[str]) -> Request:
+    """Reads the arguments. Raises Stop where they are wrong."""
+    wrong = Stop(USAGE, "usage: " + USAGE_LINE)
+    options: Dict[str, str] = {}
+    names: List[str] = []
+    left = list(words)
+    while left:
+        word = left.pop(0)
+        if word == "--":
+            names += left
+            break
+        option = next((option for option in ("-p", "-d", "--log") if word == option or word.startswith(option)), None)
+        if option is None:
+            if word.startswith("-") and word != "-":
+                raise wrong
+            names.append(word)
+            continue
+        value = word[len(option):]
+        if option == "--log" and value:
+            if not value.startswith("="):
+                raise wrong
+            value = value[1:]
+        elif not value:
+            value = left.pop(0) if left else ""
+        if not value or option in options:
+            raise wrong
+        options[option] = value
+    if len(names) not in (2, 3) or ("-d" in options and "-p" not in options):
+        raise wrong
+    return Request(names[0], names[1], names[2] if len(names) == 3 else None, options.get("-p"), options.get("-d"), options.get("--log"))
+
+
+def database_of(device: str, share: Path) -> str:
+    """The chip database of a device, as the other tools look for it."""
+    if device not in PACKAGES:
+        raise Stop(REFUSED, "it takes texts of a 1k and an 8k, and not of the device %s" % device)
+    name = "chipdb-%s.txt" % device
+    folder = os.environ.get("ICEBOX_CHIPDB")
+    for place in [folder] if folder else [str(share / "chipdb"), DATABASES]:
+        if os.access(os.path.join(place, name), os.R_OK):
+            return os.path.join(place, name)
+    raise Stop(READING, "there is no %s in %s" % (name, folder if folder else "%s or %s" % (share / "chipdb", DATABASES)))
+
+
+def module_text(request: Request, database: str, tools: Tools) -> str:
+    """The module that icebox_vlog writes of the configuration. Raises Stop with what it says if it refuses it."""
+    image = str(Path(request.bitstream or request.text).absolute())
+    ended = tools.run("icebox_vlog", [str(tools.here / "icebox_vlog"), "--", str(Path(database).absolute()), image], "module.v")
+    if ended.returncode != 0:
+        said = ended.stderr.decode(errors="replace").strip().splitlines()
+        status = ended.returncode if 0 < ended.returncode <= 6 else READING
+        raise Stop(status, said[-1] if said else "icebox_vlog failed")
+    return ended.stdout.decode(errors="replace")
+
+
+def pins_of(request: Request, device: str, database: str, tools: Tools) -> Dict[Place, str]:
+    """The ports that the pin file names, by their places. Without a pin file there are none."""
+    if request.pins is None:
+        return {}
+    package = request.package or PACKAGES.get(device, "")
+    try:
+        with open(database, encoding="utf-8", errors="replace") as lines:
+            places = read_package(lines, package)
+    except (OSError, ValueError):
+        raise Stop(READING, "read failed: %s" % database) from None
+    return read_pins(tools.read(request.pins), places, package)
+
+
+def verify(request: Request, tools: Tools) -> int:
+    """Compares, prints the verdict, and answers the exit status."""
+    netlist = read_netlist(tools.read(request.netlist))
+    for cell in netlist.cells:
+        if cell.type != SWITCH:
+            check_kind(cell)
+    routed = read_routed(tools.read(request.text), request.text)
+    share = tools.here.parent / "share" / "icestorm"
+    database = database_of(routed.device, share)
+    pins = pins_of(request, routed.device, database, tools)
+    tools.progress("icebox_vlog writes the module")
+    module = read_module(module_text(request, database, tools))
+    tools.progress("yosys reads the models of the cells")
+    kinds = list(dict.fromkeys(kind_of(cell) for cell in netlist.cells if cell.type not in RAMS and cell.type != SWITCH))
+    built = Builder(netlist, read_models(kinds, tools) if kinds else {}).build()
+    check_loops(built.circuit, "netlist", lambda net: netlist.name(int(net[1:])) if net[1:].isdigit() else net)
+    check_loops(module.circuit, "module", str)
+    drop_idle(built.circuit)
+    drop_idle(module.circuit)
+    partners = Matcher(netlist, built, module, routed.names, pins).match()
+    comparison = Comparison(built.circuit, module.circuit, partners)
+    comparison.collect()
+    comparison.tell_unmatched()
+    tell_others(netlist, built, comparison)
+    aside = comparison.tell_unshared()
+    differences = comparison.differences + Proof(comparison, tools).differences()
+    return report(comparison, differences, aside, bool(pins))
+
+
+def check_loops(circuit: Circuit, what: str, shown) -> None:
+    """Raises Stop if a circuit has a loop without a register. `shown` gives the name of a net."""
+    try:
+        order(circuit.functions, list(circuit.functions))
+    except Loop as loop:
+        raise Stop(REFUSED, "the %s has a loop without a register, through %s" % (what, shown(loop.net))) from None
+
+
+def tell_others(netlist: Netlist, built, comparison: Comparison) -> None:
+    """Tells a start value of 1 for a bit that no register drives, and outputs that the netlist leaves open."""
+    for port in netlist.ports.values():
+        if port.bit == "z":
+            comparison.tell("output %s" % port.name, "", "the netlist leaves it open (z)")
+    for bit, start in netlist.starts.items():
+        if start and bit not in built.registers:
+            source = netlist.sources.get(bit, "")
+            comparison.tell("net %s" % netlist.name(bit), source, "it starts at 1 in the netlist, and no register drives it")
+
+
+def counted(count: int, what: str) -> str:
+    return "%d %s%s" % (count, what, "" if count == 1 else "s")
+
+
+def report(comparison: Comparison, differences: List[Difference], aside: int, has_pins: bool) -> int:
+    """Prints the verdict, and answers the exit status."""
+    if not differences and not aside:
+        ours = comparison.ours
+        write_out("equal: %s, %s, %s\n" % (counted(len(ours.registers), "register"), counted(len(ours.outputs), "output"),
+                                           counted(len(ours.memories), "RAM")))
+        return 0
+    lines = [difference.line() for difference in differences]
+    if aside:
+        lines.append("not compared: %s, which read what has no partner" % counted(aside, "function"))
+    write_out("".join(line + "\n" for line in lines))
+    complain("the netlist and the file differ" + ("" if has_pins else "; a pin file by -p would say for sure which pin is which port"))
+    return REFUSED
+
+
+def write_out(text: str) -> None:
+    """Writes to standard output. Raises Stop if that fails."""
+    try:
+        sys.stdout.write(text)  # Python has none if it is closed
+        sys.stdout.flush()
+    except (OSError, AttributeError):
+        sys.stdout = None
+        raise Stop(WRITING, "write failed: standard output") from None
+
+
+def folder_of(request: Request) -> str:
+    """The folder in which the programs work."""
+    try:
+        if request.log is None:
+            return tempfile.mkdtemp(prefix="iceverify-")
+        os.makedirs(request.log, exist_ok=True)
+    except OSError:
+        raise Stop(WRITING, "write failed: %s" % (request.log or "a temporary folder")) from None
+    return request.log
+
+
+def complain(line: str) -> None:
+    """Writes a line to standard error, if there is one."""
+    try:
+        os.write(2, ("iceverify: %s\n" % line).encode(errors="replace"))
+    except OSError:
+        pass
+
+
+def fill_streams() -> None:
+    """Puts something in the place of streams that are closed, so that no file gets their numbers. Writing to them fails."""
+    for number in range(3):
+        try:
+            os.fstat(number)
+        except OSError:
+            os.open(os.devnull, os.O_RDONLY)
+
+
+def run(words: List[str], here: Path) -> int:
+    """Runs the tool, and answers the exit status. here: the folder of the installed tools."""
+    folder = None
+    request = None
+    try:
+        request = request_of(words)
+        folder = folder_of(request)
+        tools = Tools(Path(folder).absolute(), here)
+        tools.need(["yosys", "yosys-abc"])
+        return verify(request, tools)
+    except Stop as stop:
+        complain(stop.line)
+        return stop.status
+    except MemoryError:
+        complain("out of memory")
+        return MEMORY
+    except Exception as error:  # a fault of this script: whatever it is, nothing is said to be equal
+        complain("it can't go on: %s: %s" % (type(error).__name__, error))
+        return READING
+    finally:
+        if folder and request and request.log is None:
+            shutil.rmtree(folder, ignore_errors=True)
+
+
+if __name__ == "__main__":
+    fill_streams()
+    signal.signal(signal.SIGTERM, lambda *_: sys.exit(143))
+    sys.exit(run(sys.argv[2:], Path(sys.argv[1])))

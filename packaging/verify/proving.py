@@ -1,0 +1,137 @@
+"""Finds the points of a comparison whose functions differ, and proves that those of all others are equal."""
+import re
+from typing import Dict, List, Optional, Tuple
+
+from circuit import evaluate, order, random_values, variables
+from comparing import Comparison, Difference, Point
+from programs import Tools
+from stopping import READING, REFUSED, Stop
+
+CASES = 2048
+SEED = 1
+EQUIVALENT = re.compile(r"^Networks are equivalent( after structural hashing)?\.", re.M)
+DIFFERENT = re.compile(r"^Networks are NOT EQUIVALENT\.", re.M)
+SIZES = re.compile(r"i/o = *(\d+)/ *(\d+) ")
+COLOURS = re.compile(r"\x1b\[[0-9;]*m")
+
+
+class Proof:
+    """Takes the points of a comparison. The variables that both sides share are v0, v1 and so on in the files for abc, the points p0, p1 and
+    so on."""
+
+    def __init__(self, comparison: Comparison, tools: Tools):
+        self.comparison = comparison
+        self.tools = tools
+        self.points = comparison.points
+        self.sides = [(comparison.ours, [point.ours for point in self.points], {name: name for name in comparison.shared}),
+                      (comparison.theirs, [point.theirs for point in self.points], {there: here for here, there in comparison.shared.items()})]
+        self.variables = sorted(comparison.shared)
+        self.numbers = {name: place for place, name in enumerate(self.variables)}
+        self.orders = [order(circuit.functions, roots) for circuit, roots, _ in self.sides]
+
+    def differences(self) -> List[Difference]:
+        """A difference for each point whose functions differ. That the others are equal is proved when this answers."""
+        cases = {place: (case, values) for values in [random_values(self.variables, CASES, SEED)]
+                 for place, case in self.differing(values, CASES, range(len(self.points)))}
+        self.tools.progress("%d of %d functions differ in random cases" % (len(cases), len(self.points)))
+        left = [place for place in range(len(self.points)) if place not in cases]
+        while left:
+            values = self.prove(left)
+            if values is None:
+                break
+            found = self.differing(values, 1, left)
+            if not found:
+                raise Stop(READING, "abc found a difference that isn't one")
+            cases.update({place: (0, values) for place, _ in found})
+            left = [place for place in left if place not in cases]
+        return [self.difference(place, *cases[place]) for place in sorted(cases)]
+
+    def values(self, side: int, values: Dict[str, int], full: int, nets: Optional[List[str]] = None) -> Dict[str, int]:
+        """The values of all nets of a side."""
+        circuit, _, shared = self.sides[side]
+        known = {name: values[common] for name, common in shared.items()}
+        evaluate(circuit.functions, self.orders[side] if nets is None else nets, known, full)
+        return known
+
+    def differing(self, values: Dict[str, int], cases: int, places) -> List[Tuple[int, int]]:
+        """The places of points that differ in one of so many cases, each with such a case: the one with the fewest ones."""
+        full = (1 << cases) - 1
+        ours, theirs = (self.values(side, values, full) for side in (0, 1))
+        found = []
+        for place in places:
+            point = self.points[place]
+            wrong = ours[point.ours] ^ theirs[point.theirs]
+            if wrong:
+                found.append((place, (wrong & -wrong).bit_length() - 1))
+        return found
+
+    def difference(self, place: int, case: int, values: Dict[str, int]) -> Difference:
+        """The difference at a point, with a case of few ones in which it differs."""
+        point = self.points[place]
+        names = self.read_by(point)
+        orders = [order(circuit.functions, [net]) for (circuit, _, _), net in zip(self.sides, (point.ours, point.theirs))]
+        chosen = {name: values[name] >> case & 1 for name in self.variables}
+        for name in names:
+            if chosen[name]:
+                chosen[name] = 0
+                if not self.differs(point, chosen, orders):
+                    chosen[name] = 1
+        here = self.values(0, chosen, 1, orders[0])[point.ours]
+        what = "%s: the netlist has %d, the file has %d" % (point.what, here, 1 - here)
+        shown = self.comparison.shown
+        return Difference(point.part, point.source, what, [(shown[name], chosen[name]) for name in names])
+
+    def read_by(self, point: Point) -> List[str]:
+        """The variables on which a point depends on either side, by their names for a reader."""
+        names = set()
+        for (circuit, _, shared), net in zip(self.sides, (point.ours, point.theirs)):
+            names.update(shared[name] for name in variables(circuit.functions, [net]))
+        return sorted(names, key=lambda name: natural(self.comparison.shown[name]))
+
+    def differs(self, point: Point, chosen: Dict[str, int], orders) -> bool:
+        """Whether a point differs in a case."""
+        return self.values(0, chosen, 1, orders[0])[point.ours] != self.values(1, chosen, 1, orders[1])[point.theirs]
+
+    def write(self, side: int, name: str, places: List[int]) -> None:
+        """Writes the points at these places of a side as a file for abc."""
+        circuit, roots, shared = self.sides[side]
+        short = {there: "v%d" % self.numbers[here] for there, here in shared.items()}
+        lines = [".model %s" % name, ".inputs " + " ".join("v%d" % place for place in range(len(self.variables))),
+                 ".outputs " + " ".join("p%d" % place for place in places)]
+        for net in self.orders[side]:
+            function = circuit.functions[net]
+            short[net] = "n%d" % len(short)
+            lines.append(".names " + " ".join(short[read] for read in function.inputs + (net,)))
+            lines += rows(function.table, len(function.inputs))
+        for place in places:
+            lines += [".names %s p%d" % (short[roots[place]], place), "1 1"]
+        self.tools.write(name + ".blif", "\n".join(lines + [".end"]) + "\n")
+
+    def prove(self, places: List[int]) -> Optional[Dict[str, int]]:
+        """Asks abc whether the points at these places are equal. Answers None if they are, or values for which one isn't."""
+        self.tools.progress("abc compares %d functions" % len(places))
+        self.write(0, "netlist", places)
+        self.write(1, "module", places)
+        ended = self.tools.run("cec", ["yosys-abc", "-c", "read_blif netlist.blif; print_stats; read_blif module.blif; print_stats; "
+                                       "cec -T 100000 -C 100000000 netlist.blif module.blif"])
+        said = COLOURS.sub("", ended.stdout.decode(errors="replace"))
+        sizes = [(int(one), int(other)) for one, other in SIZES.findall(said)]
+        if ended.returncode != 0 or sizes != [(len(self.variables), len(places))] * 2 or "arning" in said or "rror" in said:
+            raise Stop(READING, "abc failed: see cec.log, which --log FOLDER keeps")
+        if EQUIVALENT.search(said) and not DIFFERENT.search(said):
+            return None
+        if not DIFFERENT.search(said):
+            raise Stop(REFUSED, "abc couldn't decide whether the functions are equal: see cec.log, which --log FOLDER keeps")
+        pattern = dict(re.findall(r"\b(v\d+)=([01])", said))
+        return {name: int(pattern.get("v%d" % place, 0)) for place, name in enumerate(self.variables)}
+
+
+def rows(table: int, count: int) -> List[str]:
+    """The rows of a truth table in a file for abc."""
+    return ["".join("01"[entry >> place & 1] for place in range(count)) + (" 1" if count else "1")
+            for entry in range(1 << count) if table >> entry & 1]
+
+
+def natural(name: str):
+    """A key that sorts names with numbers by the numbers."""
+    return [(int(part), "") if part.isdigit() else (-1, part) for part in re.split(r"(\d+)", name)]

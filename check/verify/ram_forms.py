@@ -15,7 +15,7 @@ NAMES = "RCLK", "RCLKE", "RE", "WCLK", "WCLKE", "WE", "RADDR", "WADDR", "MASK", 
 
 
 def shift_of(mode, port):
-    """The address bits behind the lowest eight, as far as a mode has them."""
+    """The address bits above the lowest eight, as far as a mode has them."""
     return "{%s}" % ", ".join("%s[%d]" % (port, bit) if bit < 8 + mode else "1'b0" for bit in (10, 9, 8))
 
 

@@ -26,6 +26,14 @@ def entry(name, number=0):
     return change
 
 
+def no_ones(name):
+    """Makes each entry of the table of the cell of a register 0."""
+    def change(text):
+        cell = text.cell_of(name)
+        return text.flip(cell[:2], *[place for place in text.cell_bits(cell, *ENTRIES) if text.bit(cell[:2], place)])
+    return change
+
+
 def cell_bit(name, number):
     """Turns a bit of the cell of a register."""
     def change(text):
@@ -153,6 +161,7 @@ def no_port(netlist):
 TEXTS = [
     Wrong("a bit of a LUT", "crc", entry("crc[5]"), ("register crc[5] (top.v:",)),
     Wrong("another bit of a LUT", "servo", entry("want[2][3]"), ("register want[2][3]", "next value")),
+    Wrong("a table of zeros", "crc", no_ones("crc[9]"), ("register crc[9]", "next value")),
     Wrong("a link to a LUT", "crc", link_off("crc[7]", "in"), ("register crc[7]",)),
     Wrong("an enable", "crc", link_off("count[0]", "cen"), ("register count[0]", "next value")),
     Wrong("a reset", "crc", link_off("count[1]", "s_r"), ("register count[1]", "condition that sets or resets it")),

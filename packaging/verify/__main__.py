@@ -38,7 +38,7 @@ class Request:
 
 
 def request_of(words: List[str]) -> Request:
-    """Reads the arguments. Raises Stop where they are wrong."""
+    """Reads the arguments. Raises Stop if they are wrong."""
     wrong = Stop(USAGE, "usage: " + USAGE_LINE)
     options: Dict[str, str] = {}
     names: List[str] = []
@@ -130,8 +130,9 @@ def verify(request: Request, tools: Tools) -> int:
     comparison.tell_unmatched()
     tell_others(netlist, built, comparison)
     aside = comparison.tell_unshared()
-    differences = comparison.differences + Proof(comparison, tools).differences()
-    return report(comparison, differences, aside, bool(pins))
+    proof = Proof(comparison, tools)
+    differences = comparison.differences + proof.differences()
+    return report(comparison, differences, aside, proof.undecided, bool(pins))
 
 
 def check_loops(circuit: Circuit, what: str, shown) -> None:
@@ -157,9 +158,10 @@ def counted(count: int, what: str) -> str:
     return "%d %s%s" % (count, what, "" if count == 1 else "s")
 
 
-def report(comparison: Comparison, differences: List[Difference], aside: int, has_pins: bool) -> int:
-    """Prints the verdict, and answers the exit status."""
-    if not differences and not aside:
+def report(comparison: Comparison, differences: List[Difference], aside: int, undecided: int, has_pins: bool) -> int:
+    """Prints the verdict, and answers the exit status. aside: how many functions read what has no partner. undecided: how many are open since
+    so many others differ. has_pins: whether there was a pin file."""
+    if not differences and not aside and not undecided:
         ours = comparison.ours
         write_out("equal: %s, %s, %s\n" % (counted(len(ours.registers), "register"), counted(len(ours.outputs), "output"),
                                            counted(len(ours.memories), "RAM")))
@@ -167,6 +169,8 @@ def report(comparison: Comparison, differences: List[Difference], aside: int, ha
     lines = [difference.line() for difference in differences]
     if aside:
         lines.append("not compared: %s, which read what has no partner" % counted(aside, "function"))
+    if undecided:
+        lines.append("not compared: %s, since so many others differ" % counted(undecided, "function"))
     write_out("".join(line + "\n" for line in lines))
     complain("the netlist and the file differ" + ("" if has_pins else "; a pin file by -p would say for sure which pin is which port"))
     return REFUSED

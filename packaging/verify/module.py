@@ -162,7 +162,7 @@ class Reader:
         register.condition, register.value = condition, int(value)
 
     def take_clocked(self, edge, clock, enable, reset, name, value, word, *atoms):
-        """Takes a flip-flop: where it is enabled it takes the bit if the reset is 1, and else the LUT."""
+        """Takes a flip-flop: if it is enabled it takes the bit if the reset is 1, and else the LUT."""
         if name.startswith("po_"):
             self.keep_value(name, atoms[-1])
         taken = self.add(self.lut(word, atoms))

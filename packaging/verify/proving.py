@@ -1,4 +1,5 @@
 """Finds the points of a comparison whose functions differ, and proves that those of all others are equal."""
+import random
 import re
 from typing import Dict, List, Optional, Tuple
 
@@ -8,6 +9,8 @@ from programs import Tools
 from stopping import READING, REFUSED, Stop
 
 CASES = 2048
+MOST_CASES = 50  # differences that are told with values
+MOST_ROUNDS = 8  # differences that abc finds, before the others are left open
 SEED = 1
 EQUIVALENT = re.compile(r"^Networks are equivalent( after structural hashing)?\.", re.M)
 DIFFERENT = re.compile(r"^Networks are NOT EQUIVALENT\.", re.M)
@@ -27,24 +30,35 @@ class Proof:
                       (comparison.theirs, [point.theirs for point in self.points], {there: here for here, there in comparison.shared.items()})]
         self.variables = sorted(comparison.shared)
         self.numbers = {name: place for place, name in enumerate(self.variables)}
+        self.undecided = 0
         self.orders = [order(circuit.functions, roots) for circuit, roots, _ in self.sides]
 
     def differences(self) -> List[Difference]:
-        """A difference for each point whose functions differ. That the others are equal is proved when this answers."""
+        """A difference for each point whose functions differ. That the others are equal is proved when this answers, unless `undecided` says how
+        many are open since so many differ."""
         cases = {place: (case, values) for values in [random_values(self.variables, CASES, SEED)]
                  for place, case in self.differing(values, CASES, range(len(self.points)))}
         self.tools.progress("%d of %d functions differ in random cases" % (len(cases), len(self.points)))
         left = [place for place in range(len(self.points)) if place not in cases]
-        while left:
-            values = self.prove(left)
-            if values is None:
+        rounds = 0
+        while left and not self.prove(left):
+            rounds += 1
+            if rounds > MOST_ROUNDS:
+                self.undecided = len(left)
                 break
-            found = self.differing(values, 1, left)
+            values = self.counterexample()
+            found = self.differing(values, CASES, left)
             if not found:
-                raise Stop(READING, "abc found a difference that isn't one")
-            cases.update({place: (0, values) for place, _ in found})
+                raise Stop(READING, "abc found a difference that isn't one: see cec.log, which --log FOLDER keeps")
+            cases.update({place: (case, values) for place, case in found})
             left = [place for place in left if place not in cases]
-        return [self.difference(place, *cases[place]) for place in sorted(cases)]
+        places = sorted(cases)
+        differences = [self.difference(place, *cases[place]) for place in places[:MOST_CASES]]
+        return differences + [self.plain_difference(self.points[place]) for place in places[MOST_CASES:]]
+
+    def plain_difference(self, point: Point) -> Difference:
+        """The difference at a point, without a case."""
+        return Difference(point.part, point.source, "%s: it isn't that of the netlist" % point.what)
 
     def values(self, side: int, values: Dict[str, int], full: int, nets: Optional[List[str]] = None) -> Dict[str, int]:
         """The values of all nets of a side."""
@@ -101,14 +115,15 @@ class Proof:
         for net in self.orders[side]:
             function = circuit.functions[net]
             short[net] = "n%d" % len(short)
-            lines.append(".names " + " ".join(short[read] for read in function.inputs + (net,)))
-            lines += rows(function.table, len(function.inputs))
+            inputs = function.inputs if function.table else ()  # abc takes no table without a row that has inputs
+            lines.append(".names " + " ".join(short[read] for read in inputs + (net,)))
+            lines += rows(function.table, len(inputs))
         for place in places:
             lines += [".names %s p%d" % (short[roots[place]], place), "1 1"]
         self.tools.write(name + ".blif", "\n".join(lines + [".end"]) + "\n")
 
-    def prove(self, places: List[int]) -> Optional[Dict[str, int]]:
-        """Asks abc whether the points at these places are equal. Answers None if they are, or values for which one isn't."""
+    def prove(self, places: List[int]) -> bool:
+        """Asks abc whether the points at these places are equal."""
         self.tools.progress("abc compares %d functions" % len(places))
         self.write(0, "netlist", places)
         self.write(1, "module", places)
@@ -119,11 +134,25 @@ class Proof:
         if ended.returncode != 0 or sizes != [(len(self.variables), len(places))] * 2 or "arning" in said or "rror" in said:
             raise Stop(READING, "abc failed: see cec.log, which --log FOLDER keeps")
         if EQUIVALENT.search(said) and not DIFFERENT.search(said):
-            return None
+            return True
         if not DIFFERENT.search(said):
             raise Stop(REFUSED, "abc couldn't decide whether the functions are equal: see cec.log, which --log FOLDER keeps")
-        pattern = dict(re.findall(r"\b(v\d+)=([01])", said))
-        return {name: int(pattern.get("v%d" % place, 0)) for place, name in enumerate(self.variables)}
+        return False
+
+    def counterexample(self) -> Dict[str, int]:
+        """Values for which one of the points that abc has compared differs, in the first of CASES cases. The others are near it."""
+        path = self.tools.write("counterexample.txt", "")
+        self.tools.run("miter", ["yosys-abc", "-c", "miter netlist.blif module.blif; strash; iprove; write_cex -n counterexample.txt"])
+        found = dict(re.findall(r"(?m)^(v\d+)(?:@0)?=([01])", self.tools.read(path)))
+        if len(found) != len(self.variables):
+            raise Stop(REFUSED, "abc found a difference, and can't tell for which values: see miter.log, which --log FOLDER keeps")
+        draws = random.Random(SEED)
+        full = (1 << CASES) - 1
+        values = {}
+        for name in self.variables:
+            others = draws.getrandbits(CASES) & draws.getrandbits(CASES) & draws.getrandbits(CASES) & draws.getrandbits(CASES) & ~1
+            values[name] = (full if found["v%d" % self.numbers[name]] == "1" else 0) ^ others
+        return values
 
 
 def rows(table: int, count: int) -> List[str]:

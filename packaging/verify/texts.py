@@ -70,7 +70,7 @@ def read_pins(text: str, places: Dict[str, Place], package: str) -> Dict[Place, 
 
 
 def named_words(words: List[str]) -> List[str]:
-    """The words behind set_io that are no options; -pullup and -pullup_resistor have a value."""
+    """The words after set_io that are no options; -pullup and -pullup_resistor have a value."""
     named, is_value = [], False
     for word in words:
         if is_value:

@@ -7,6 +7,7 @@ mod tool;
 
 use crate::starting::start;
 use ice_io::{DirFiles, StdSink, StdSource};
+use std::env;
 use std::process::ExitCode;
 
 fn main(rt: HostRuntime) -> ExitCode {
@@ -14,7 +15,15 @@ fn main(rt: HostRuntime) -> ExitCode {
     let mut input = StdSource::new(rt.stdin());
     let mut output = StdSink::new(rt.stdout());
     let mut errors = StdSink::new(rt.stderr());
-    let status = start(&rt, &mut files, &mut input, &mut output, &mut errors);
+    let args = env::args(&rt);
+    let status = start(
+        rt.alloc(),
+        args,
+        &mut files,
+        &mut input,
+        &mut output,
+        &mut errors,
+    );
     ExitCode::from(status)
 }
 

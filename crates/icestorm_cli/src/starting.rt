@@ -1,14 +1,15 @@
 // From the program's arguments to a status.
-ghost use Rattle.std.specs.Prelude.{◌≡◌, ◌≢◌, ◌⊎◌, IfErr, map, string_bytes};
+ghost use Rattle.std.specs.Prelude.{◌≡◌, ◌≢◌, IfErr, IfOk, map, string_bytes};
+ghost use Rattle.std.specs.IoError.{error_kind};
+ghost use Rattle.std.specs.Vec.Iter.{into_iter_items};
 ghost use Rattle.tool_run.specs.Runs.{outside, scene};
 ghost use Rattle.icestorm_cli.specs.Starts.{DoesArgs, Starts};
 
 use crate::running::run;
 use ice_io::{Files, Sink, Source};
 use std::alloc::{AllocError, Global};
-use std::env::{self, Args};
-use std::io::ErrorKind;
-use std::rt::Env;
+use std::env::Args;
+use std::io::{self, ErrorKind};
 
 /// The exit status where there is no memory for the arguments.
 const OUT_OF_MEMORY: u8 = 5;
@@ -27,8 +28,10 @@ fn status_without_args(kind: ErrorKind) -> u8
     }
 }
 
-/// The arguments in a list, or want of memory where room for them is refused.
-fn listed(alloc: Global, args: Args) -> Result<Vec<String>, AllocError> {
+/// The arguments in a list, all of them in their order, or want of memory where room for them is refused.
+fn listed(alloc: Global, args: Args) -> Result<Vec<String>, AllocError>
+    ensures { IfOk result (λ list. list.items ≡ into_iter_items args) }
+{
     let mut list = Vec::with_capacity(alloc, args.len())?;
     for arg in args {
         list.push(arg).map_err(AllocError::from)?;
@@ -36,21 +39,7 @@ fn listed(alloc: Global, args: Args) -> Result<Vec<String>, AllocError> {
     Ok(list)
 }
 
-/// The program's arguments, the first of which is its own name, or the exit status where they can't be had.
-fn args_of(rt: &(impl Env + AllocGlobal)) -> Result<Vec<String>, u8>
-    ensures { IfErr result (λ status. (status ≡ 2) ⊎ (status ≡ 5)) }
-{
-    let args = match env::args(rt) {
-        Ok(args) => args,
-        Err(error) => return Err(status_without_args(error.kind())),
-    };
-    match listed(rt.alloc(), args) {
-        Ok(args) => Ok(args),
-        Err(AllocError) => Err(OUT_OF_MEMORY),
-    }
-}
-
-/// Does what the arguments behind the first one ask for.
+/// Does what the arguments after the first one ask for.
 fn run_args<F: Files, I: Source, O: Sink, E: Sink>(
     alloc: Global,
     args: &[String],
@@ -69,19 +58,45 @@ fn run_args<F: Files, I: Source, O: Sink, E: Sink>(
     }
 }
 
-/// Runs the program with the arguments of its environment, and answers its exit status.
-pub fn start<R: Env + AllocGlobal, F: Files, I: Source, O: Sink, E: Sink>(
-    rt: &R,
+/// Lists the arguments and does what those after the first one ask for.
+fn start_args<F: Files, I: Source, O: Sink, E: Sink>(
+    alloc: Global,
+    args: Args,
     files: &mut F,
     input: &mut I,
     output: &mut O,
     errors: &mut E,
 ) -> u8
     ensures { Starts (outside F.contents F.steady F.load_faults F.store_faults I.left I.faults O.held O.faults E.held E.faults)
-        result (scene files.old input.old output.old errors.old) (scene files.new input.new output.new errors.new) }
+        (map string_bytes (into_iter_items args)) result
+        (scene files.old input.old output.old errors.old) (scene files.new input.new output.new errors.new) }
 {
-    match args_of(rt) {
-        Ok(args) => run_args(rt.alloc(), args.as_slice(), files, input, output, errors),
-        Err(status) => status,
+    match listed(alloc, args) {
+        Ok(args) => run_args(alloc, args.as_slice(), files, input, output, errors),
+        Err(AllocError) => OUT_OF_MEMORY,
+    }
+}
+
+/// Runs the program with what the environment gives as its arguments, the first of which is the program's own name, and answers the exit
+/// status. What the others ask for is done. If there is no memory for them, or if the environment gives an error in place of arguments, nothing
+/// is touched: the status is 5 for out of memory, and 2 for an argument that isn't UTF-8.
+pub fn start<F: Files, I: Source, O: Sink, E: Sink>(
+    alloc: Global,
+    args: io::Result<Args>,
+    files: &mut F,
+    input: &mut I,
+    output: &mut O,
+    errors: &mut E,
+) -> u8
+    ensures given { IfOk args (λ args. Starts (outside F.contents F.steady F.load_faults F.store_faults I.left I.faults O.held O.faults E.held E.faults)
+        (map string_bytes (into_iter_items args)) result
+        (scene files.old input.old output.old errors.old) (scene files.new input.new output.new errors.new)) }
+    ensures memory { IfErr args (λ error. error_kind error ≡ ErrorKind.OutOfMemory → result ≡ 5) }
+    ensures other { IfErr args (λ error. error_kind error ≢ ErrorKind.OutOfMemory → result ≡ 2) }
+    ensures untouched { IfErr args (λ error. scene files.new input.new output.new errors.new ≡ scene files.old input.old output.old errors.old) }
+{
+    match args {
+        Ok(args) => start_args(alloc, args, files, input, output, errors),
+        Err(error) => status_without_args(error.kind()),
     }
 }

@@ -98,6 +98,7 @@ def try_all(tries):
     tries.try_run("vlogrun of 40,000 wires", ["vlogrun", path("chain.v")])
     (tries.folder / "small.v").write_text(module_of(10))
     tries.try_run("vlogrun over 1 MiB of events", ["vlogrun", path("small.v"), path("events")])
+    tries.try_run("vlogrun --vcd over 1 MiB of events", ["vlogrun", "--vcd", path("small.v"), path("events")])
     tries.try_run("vlogsweep over 64 lists of 64 KiB", ["vlogsweep", path("small.v")] + [path("list")] * LISTS)
     tries.try_run("selfrun of an 8k", ["selfrun", "8k", "7", "1000"])
 

@@ -2,7 +2,7 @@
 use Rattle.std.proofs.Common.{◌≡◌, ℕ, zero, suc, ◌+◌, ◌*◌, ◌/◌, ◌%◌, ◌^◌, ◌<◌, Bool, false, List, get_or, set, length, sym, ap₂, ◌∙◌, subst, inl, inr, arith}
 use Rattle.std.proofs.lemmas.Bool.{cases_eq}
 use Rattle.std.proofs.lemmas.List.{length-set, get_or-set_same, get_or-set_other}
-use Rattle.bram_replace.specs.ReadModes.{RamBits, by_columns, column_in, mode_width, place_in, reversed}
+use Rattle.bram_replace.specs.ReadModes.{ColumnsAreWords, RamBits, by_columns, column_in, from_columns, mode_width, place_in, reversed}
 use Rattle.bram_replace.specs.Rams.{AreAlike, kept_at, listed}
 
 -- ---- where the bits of columns are
@@ -58,6 +58,30 @@ back (suc (suc (suc (suc more)))) word bit small few low = absurd (omega arith)
 
 pub by_columns-back : (mode : ℕ) (bits : RamBits) (word bit : ℕ) → mode < 4 → word < 256 → bit < 16 → by_columns mode bits (place_in mode word bit) (column_in mode word bit) ≡ bits word bit
 by_columns-back mode bits word bit small few low = let b = back mode word bit small few low in ap₂ bits b.word_is b.bit_is
+
+-- the bit of a word that a bit of a column is, and its place and column
+abbrev word_of : ℕ → ℕ → ℕ → ℕ
+word_of mode place column = (256 * (column / mode_width mode) + place) / 2 ^ mode
+
+abbrev bit_of : ℕ → ℕ → ℕ → ℕ
+bit_of mode place column = 2 ^ mode * (column % mode_width mode) + reversed mode ((256 * (column / mode_width mode) + place) % 2 ^ mode)
+
+record IsThere (mode place column : ℕ) : Type 0 where
+  place_is : place_in mode (word_of mode place column) (bit_of mode place column) ≡ place
+  column_is : column_in mode (word_of mode place column) (bit_of mode place column) ≡ column
+
+there : (mode place column : ℕ) → mode < 4 → place < 256 → column < 16 → IsThere mode place column
+there zero place column small few low = record { place_is = omega arith; column_is = omega arith }
+there (suc zero) place column small few low = record { place_is = omega arith; column_is = omega arith }
+there (suc (suc zero)) place column small few low = record { place_is = omega arith; column_is = omega arith }
+there (suc (suc (suc zero))) place column small few low = record { place_is = omega arith; column_is = omega arith }
+there (suc (suc (suc (suc more)))) place column small few low = absurd (omega arith)
+
+pub columns-are-words : (mode : ℕ) → mode < 4 → ColumnsAreWords mode
+columns-are-words mode small = record {
+  words = λ bits word bit few low. by_columns-back mode bits word bit small few low;
+  columns = λ bits place column few low. let t = there mode place column small few low in ap₂ bits t.place_is t.column_is;
+}
 
 -- ---- bits filled in one after the other
 

@@ -1,6 +1,6 @@
 -- Read modes of RAMs. In mode m a RAM holds a memory of 256 * 2^m words of 16 / 2^m bits, and each of its 256 words of 16 bits
 -- has the bits of 2^m words of the memory.
-use Rattle.std.specs.Prelude.{ℕ, zero, suc, ◌+◌, ◌*◌, ◌/◌, ◌%◌, ◌^◌, Bool, List, Option, Some, None}
+use Rattle.std.specs.Prelude.{◌≡◌, ℕ, zero, suc, ◌+◌, ◌*◌, ◌/◌, ◌%◌, ◌^◌, ◌<◌, Bool, List, Option, Some, None}
 use Rattle.bit_plane.specs.BitList.{bit_value}
 use Rattle.asc_text.specs.declared.fault.TileXy.{TileXy}
 use Rattle.asc_text.specs.Characters.{character_of}
@@ -71,3 +71,13 @@ column_in mode word bit = address_of mode word bit / 256 * mode_width mode + bit
 -- and its place in that column
 abbrev pub place_in : ℕ → ℕ → ℕ → ℕ
 place_in mode word bit = address_of mode word bit % 256
+
+-- the bits of words from those of columns
+abbrev pub from_columns : ℕ → RamBits → RamBits
+from_columns mode columns word bit = columns (place_in mode word bit) (column_in mode word bit)
+
+-- in a mode the columns of a RAM have each of its bits once: words to columns and back gives the words, and columns to words and back the
+-- columns
+pub record ColumnsAreWords (mode : ℕ) : Type 0 where
+  pub words : (bits : RamBits) (word bit : ℕ) → word < 256 → bit < 16 → from_columns mode (by_columns mode bits) word bit ≡ bits word bit
+  pub columns : (bits : RamBits) (place column : ℕ) → place < 256 → column < 16 → by_columns mode (from_columns mode bits) place column ≡ bits place column

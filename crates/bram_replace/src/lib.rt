@@ -4,12 +4,15 @@
 //! given as files of hexadecimal words. A RAM of the text may hold any bits of any block of 256 words, so each bit of its
 //! words is a column of 256 bits that is looked up among the columns of the first file. Where read modes are followed, the
 //! words are those of the memory that a RAM holds in its mode, of which it may have several blocks.
+//!
+//! [`ram_columns_are_its_words`] is the law that the columns of a RAM and its words are the same bits in two orders.
 #![tactic(auto)]
 
 mod columns;
 mod fault;
 mod hex_file;
 mod hex_words;
+mod law;
 mod modes;
 mod order;
 mod ram;
@@ -17,5 +20,6 @@ mod replacing;
 
 pub use fault::{BramFault, HexFault};
 pub use hex_file::HexFile;
+pub use law::ram_columns_are_its_words;
 pub use modes::ReadModes;
 pub use replacing::{Replaced, replace, replace_with};

@@ -1,6 +1,6 @@
 // The bits of a RAM in the order of its columns, in any read mode.
 ghost use Rattle.std.specs.Prelude.{◌≡◌, ◌<◌, ◌+◌, ◌*◌, ◌^◌, ℕ};
-ghost use Rattle.bram_replace.specs.ReadModes.{address_of, by_columns, column_in, mode_width, place_in, reversed};
+ghost use Rattle.bram_replace.specs.ReadModes.{address_of, by_columns, column_in, from_columns, mode_width, place_in, reversed};
 ghost use Rattle.bram_replace.specs.Rams.{AreAlike, kept_at, listed};
 
 use crate::ram::{RamBits, SIXTEEN};
@@ -26,7 +26,7 @@ pub(crate) fn by_columns(bits: &RamBits, mode: usize) -> RamBits
 /// The bits of a RAM in that mode from the bits of its columns.
 pub(crate) fn from_columns(columns: &RamBits, mode: usize) -> RamBits
     requires { mode < 4 }
-    ensures { AreAlike 256 (listed result) (λ word bit. listed columns.now (place_in mode word bit) (column_in mode word bit)) }
+    ensures { AreAlike 256 (listed result) (from_columns mode (listed columns.now)) }
 {
     let mut bits = [false; RAM_BITS];
     for index in 0..RAM_BITS {

@@ -4,7 +4,7 @@ use Rattle.std.specs.Prelude.{◌≡◌, ℕ, ◌||◌, List, length, Option, No
 use Rattle.std.specs.Prelude.{bytes_eq}
 use Rattle.std.specs.Map.{lookup}
 use Rattle.std.specs.declared.alloc.AllocError.{AllocError}
-use Rattle.text_lines.specs.Feeding.{StandsFor as FeedsTo}
+use Rattle.text_lines.specs.Feeding.{StandsFor as FeedsTo, refusal_of}
 use Rattle.place_search.specs.Places.{or_else}
 use Rattle.pin_file.specs.declared.package_pins.PackagePins.{PackagePins}
 use Rattle.pin_file.specs.declared.pin_lines.PinLines.{PinLines}
@@ -51,3 +51,7 @@ pub record TakesLine (old : PinLines) (line : List ℕ) (new : PinLines) : Type 
 -- a reader stands for a text and the package of a name: that text was fed for it, or there was no memory
 unfoldable pub StandsFor : List ℕ → List ℕ → PinReader → Type 0
 StandsFor name text reader = FeedsTo taken_by refused_with name text reader.lines
+
+-- where a reader had no memory, that it hadn't
+abbrev pub lack_of : PinReader → Option AllocError
+lack_of reader = refusal_of reader.lines

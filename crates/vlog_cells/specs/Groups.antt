@@ -1,5 +1,5 @@
 -- What an event runs: the clocked items whose edge it is, over cells.
-use Rattle.std.specs.Prelude.{◌≡◌, ℕ, ◌&&◌, List, [], ◌∷◌, flat_map, nat_lt, if◌then◌else◌}
+use Rattle.std.specs.Prelude.{◌≡◌, ℕ, ◌<◌, Bool, ◌&&◌, List, [], ◌∷◌, ◌++◌, flat_map, get_or, length, map, nat_lt, slice_set, if◌then◌else◌}
 use Rattle.vlog_plan.specs.declared.event.Event.{Event}
 use Rattle.vlog_plan.specs.declared.plan.Flip.{Flip}
 use Rattle.vlog_plan.specs.declared.plan.Read.{Read}
@@ -24,3 +24,27 @@ pub record IsGroup (event : Event) (first bits words : ℕ) (roots : List ℕ) (
   pub flips : group.flips.items ≡ flat_map (flip_at event first bits words roots) plan.flips.items
   pub reads : group.reads.items ≡ flat_map (read_at event bits words roots) plan.reads.items
   pub writes : group.writes.items ≡ flat_map (write_at event bits words roots) plan.writes.items
+
+-- ---- the groups of all inputs, one behind the other
+
+abbrev pub flips_in : List Group → List (List Flip)
+flips_in groups = map (λ group. group.flips.items) groups
+
+abbrev pub reads_in : List Group → List (List Read)
+reads_in groups = map (λ group. group.reads.items) groups
+
+abbrev pub writes_in : List Group → List (List Write)
+writes_in groups = map (λ group. group.writes.items) groups
+
+-- items are added to the list of an input
+abbrev pub with_items : {A : Type 0} → List (List A) → ℕ → List A → List (List A)
+with_items lists pin items = slice_set lists pin (get_or lists pin [] ++ items)
+
+-- the event of an input that gets this bit
+abbrev pub event_of : ℕ → Bool → Event
+event_of pin bit = record { pin = pin; bit = bit }
+
+-- there is a list for each of so many inputs, and it has what each item gives at that input
+pub record AreParted {A B : Type 0} (given : ℕ → A → List B) (count : ℕ) (items : List A) (lists : List (List B)) : Type 0 where
+  pub count_is : length lists ≡ count
+  pub lists_are : (pin : ℕ) → pin < count → get_or lists pin [] ≡ flat_map (given pin) items

@@ -1,6 +1,6 @@
 // What an event of a clock runs, apart from what other events run.
-ghost use Rattle.std.specs.Prelude.{◌≡◌, ◌<◌, ◌+◌, ◌*◌, ◌++◌, ◌^◌, ℕ, IfOk, OnOk, flat_map, get_or, length};
-ghost use Rattle.vlog_cells.specs.Groups.{IsGroup, flip_at, read_at, write_at};
+ghost use Rattle.std.specs.Prelude.{◌≡◌, ◌<◌, ◌+◌, ◌*◌, ◌++◌, ◌^◌, [], ℕ, IfOk, OnOk, get_or, length, replicate};
+ghost use Rattle.vlog_cells.specs.Groups.{AreParted, IsGroup, event_of, flip_at, flips_in, read_at, reads_in, with_items, write_at, writes_in};
 ghost use Rattle.vlog_cells.specs.declared.groups.Group.{Group as group_of};
 ghost use Rattle.vlog_plan.specs.Steps.{is_edge_of};
 
@@ -28,6 +28,23 @@ impl Group {
     }
 }
 
+/// A group that runs nothing for each of so many inputs. It takes no memory for what it may run.
+fn empty_groups(alloc: Global, pins: usize) -> Result<Vec<Group>, AllocError>
+    ensures flips { IfOk result (λ groups. flips_in groups.items ≡ replicate pins []) }
+    ensures reads { IfOk result (λ groups. reads_in groups.items ≡ replicate pins []) }
+    ensures writes { IfOk result (λ groups. writes_in groups.items ≡ replicate pins []) }
+{
+    let mut groups = Vec::with_capacity(alloc, pins)?;
+    for _ in 0..pins {
+        groups.push(Group {
+            flips: Vec::new(alloc),
+            reads: Vec::new(alloc),
+            writes: Vec::new(alloc),
+        })?;
+    }
+    Ok(groups)
+}
+
 /// Adds a flip-flop, where the event is its edge. One whose register isn't below the first wire does nothing.
 fn push_flip(
     flips: &mut Vec<Flip>,
@@ -47,24 +64,58 @@ fn push_flip(
     Ok(())
 }
 
-/// The flip-flops whose edge an event is.
-fn flips_at(
-    alloc: Global,
-    event: Event,
+/// Adds a flip-flop to the group of the input that clocks it, where that input has its edge when it gets this bit.
+fn add_flip(
+    groups: &mut Vec<Group>,
+    bit: bool,
+    first: usize,
+    bits: usize,
+    words: usize,
+    roots: &[usize],
+    flip: &Flip,
+) -> Result<(), AllocError>
+    requires { bits + 16 * words + 2 < 2 ^ 64 }
+    ensures flips { OnOk result (flips_in groups.new.items ≡ with_items (flips_in groups.old.items) flip.now.edge.pin
+        (flip_at (event_of flip.now.edge.pin bit) first bits words roots.now flip.now)) }
+    ensures reads { OnOk result (reads_in groups.new.items ≡ reads_in groups.old.items) }
+    ensures writes { OnOk result (writes_in groups.new.items ≡ writes_in groups.old.items) }
+{
+    let pin = flip.edge.pin;
+    if pin < groups.len() {
+        let event = Event { pin, bit };
+        push_flip(
+            &mut groups[pin].flips,
+            event,
+            first,
+            bits,
+            words,
+            roots,
+            flip,
+        )?;
+    }
+    Ok(())
+}
+
+/// Adds the flip-flops, each to the group of the input that clocks it, where that input has its edge when it gets this bit.
+fn add_flips(
+    groups: &mut Vec<Group>,
+    bit: bool,
     first: usize,
     bits: usize,
     words: usize,
     roots: &[usize],
     flips: &[Flip],
-) -> Result<Vec<Flip>, AllocError>
+) -> Result<(), AllocError>
     requires { bits + 16 * words + 2 < 2 ^ 64 }
-    ensures { IfOk result (λ found. found.items ≡ flat_map (flip_at event first bits words roots.now) flips.now) }
+    ensures flips { OnOk result ((count : ℕ) → flips_in groups.old.items ≡ replicate count []
+        → AreParted (λ pin. flip_at (event_of pin bit) first bits words roots.now) count flips.now (flips_in groups.new.items)) }
+    ensures reads { OnOk result (reads_in groups.new.items ≡ reads_in groups.old.items) }
+    ensures writes { OnOk result (writes_in groups.new.items ≡ writes_in groups.old.items) }
 {
-    let mut found = Vec::new(alloc);
     for flip in flips {
-        push_flip(&mut found, event, first, bits, words, roots, flip)?;
+        add_flip(groups, bit, first, bits, words, roots, flip)?;
     }
-    Ok(found)
+    Ok(())
 }
 
 /// Adds a read, where the event is its edge.
@@ -85,23 +136,48 @@ fn push_read(
     Ok(())
 }
 
-/// The reads whose edge an event is.
-fn reads_at(
-    alloc: Global,
-    event: Event,
+/// Adds a read to the group of the input that clocks it, where that input has its edge when it gets this bit.
+fn add_read(
+    groups: &mut Vec<Group>,
+    bit: bool,
+    bits: usize,
+    words: usize,
+    roots: &[usize],
+    read: &Read,
+) -> Result<(), AllocError>
+    requires { bits + 16 * words + 2 < 2 ^ 64 }
+    ensures reads { OnOk result (reads_in groups.new.items ≡ with_items (reads_in groups.old.items) read.now.port.edge.pin
+        (read_at (event_of read.now.port.edge.pin bit) bits words roots.now read.now)) }
+    ensures flips { OnOk result (flips_in groups.new.items ≡ flips_in groups.old.items) }
+    ensures writes { OnOk result (writes_in groups.new.items ≡ writes_in groups.old.items) }
+{
+    let pin = read.port.edge.pin;
+    if pin < groups.len() {
+        let event = Event { pin, bit };
+        push_read(&mut groups[pin].reads, event, bits, words, roots, read)?;
+    }
+    Ok(())
+}
+
+/// Adds the reads, each to the group of the input that clocks it, where that input has its edge when it gets this bit.
+fn add_reads(
+    groups: &mut Vec<Group>,
+    bit: bool,
     bits: usize,
     words: usize,
     roots: &[usize],
     reads: &[Read],
-) -> Result<Vec<Read>, AllocError>
+) -> Result<(), AllocError>
     requires { bits + 16 * words + 2 < 2 ^ 64 }
-    ensures { IfOk result (λ found. found.items ≡ flat_map (read_at event bits words roots.now) reads.now) }
+    ensures reads { OnOk result ((count : ℕ) → reads_in groups.old.items ≡ replicate count []
+        → AreParted (λ pin. read_at (event_of pin bit) bits words roots.now) count reads.now (reads_in groups.new.items)) }
+    ensures flips { OnOk result (flips_in groups.new.items ≡ flips_in groups.old.items) }
+    ensures writes { OnOk result (writes_in groups.new.items ≡ writes_in groups.old.items) }
 {
-    let mut found = Vec::new(alloc);
     for read in reads {
-        push_read(&mut found, event, bits, words, roots, read)?;
+        add_read(groups, bit, bits, words, roots, read)?;
     }
-    Ok(found)
+    Ok(())
 }
 
 /// Adds a write, where the event is its edge.
@@ -122,43 +198,48 @@ fn push_write(
     Ok(())
 }
 
-/// The writes whose edge an event is.
-fn writes_at(
-    alloc: Global,
-    event: Event,
+/// Adds a write to the group of the input that clocks it, where that input has its edge when it gets this bit.
+fn add_write(
+    groups: &mut Vec<Group>,
+    bit: bool,
+    bits: usize,
+    words: usize,
+    roots: &[usize],
+    write: &Write,
+) -> Result<(), AllocError>
+    requires { bits + 16 * words + 2 < 2 ^ 64 }
+    ensures writes { OnOk result (writes_in groups.new.items ≡ with_items (writes_in groups.old.items) write.now.port.edge.pin
+        (write_at (event_of write.now.port.edge.pin bit) bits words roots.now write.now)) }
+    ensures flips { OnOk result (flips_in groups.new.items ≡ flips_in groups.old.items) }
+    ensures reads { OnOk result (reads_in groups.new.items ≡ reads_in groups.old.items) }
+{
+    let pin = write.port.edge.pin;
+    if pin < groups.len() {
+        let event = Event { pin, bit };
+        push_write(&mut groups[pin].writes, event, bits, words, roots, write)?;
+    }
+    Ok(())
+}
+
+/// Adds the writes, each to the group of the input that clocks it, where that input has its edge when it gets this bit.
+fn add_writes(
+    groups: &mut Vec<Group>,
+    bit: bool,
     bits: usize,
     words: usize,
     roots: &[usize],
     writes: &[Write],
-) -> Result<Vec<Write>, AllocError>
+) -> Result<(), AllocError>
     requires { bits + 16 * words + 2 < 2 ^ 64 }
-    ensures { IfOk result (λ found. found.items ≡ flat_map (write_at event bits words roots.now) writes.now) }
+    ensures writes { OnOk result ((count : ℕ) → writes_in groups.old.items ≡ replicate count []
+        → AreParted (λ pin. write_at (event_of pin bit) bits words roots.now) count writes.now (writes_in groups.new.items)) }
+    ensures flips { OnOk result (flips_in groups.new.items ≡ flips_in groups.old.items) }
+    ensures reads { OnOk result (reads_in groups.new.items ≡ reads_in groups.old.items) }
 {
-    let mut found = Vec::new(alloc);
     for write in writes {
-        push_write(&mut found, event, bits, words, roots, write)?;
+        add_write(groups, bit, bits, words, roots, write)?;
     }
-    Ok(found)
-}
-
-/// What an event runs.
-fn group_at(
-    alloc: Global,
-    event: Event,
-    first: usize,
-    bits: usize,
-    words: usize,
-    roots: &[usize],
-    plan: &Plan,
-) -> Result<Group, AllocError>
-    requires { bits + 16 * words + 2 < 2 ^ 64 }
-    ensures { IfOk result (IsGroup event first bits words roots.now plan.now) }
-{
-    Ok(Group {
-        flips: flips_at(alloc, event, first, bits, words, roots, &plan.flips)?,
-        reads: reads_at(alloc, event, bits, words, roots, &plan.reads)?,
-        writes: writes_at(alloc, event, bits, words, roots, &plan.writes)?,
-    })
+    Ok(())
 }
 
 /// What the events run that give one of the first so many inputs this bit.
@@ -177,9 +258,9 @@ pub(crate) fn groups_of(
     ensures each { IfOk result (λ groups. (pin : ℕ) (none : group_of) → pin < pins
         → IsGroup (record { pin = pin; bit = bit }) first bits words roots.now plan.now (get_or groups.items pin none)) }
 {
-    let mut groups = Vec::new(alloc);
-    for pin in 0..pins {
-        groups.push(group_at(alloc, Event { pin, bit }, first, bits, words, roots, plan)?)?;
-    }
+    let mut groups = empty_groups(alloc, pins)?;
+    add_flips(&mut groups, bit, first, bits, words, roots, &plan.flips)?;
+    add_reads(&mut groups, bit, bits, words, roots, &plan.reads)?;
+    add_writes(&mut groups, bit, bits, words, roots, &plan.writes)?;
     Ok(groups)
 }

@@ -16,7 +16,7 @@ use fabric_module::memory_name;
 use fabric_wiring::Output;
 use net_extract::{Pin, RamCell, Register};
 use std::alloc::{AllocError, Global};
-use vlog_module::{Item, Port};
+use vlog_module::{Item, Name, Port};
 
 /// The ports of pins.
 pub(crate) fn ports_of(alloc: Global, pins: &[Pin]) -> Result<Vec<Port>, AllocError>
@@ -173,9 +173,10 @@ fn append_start_words(
     requires { place < length design.now.parts.rams.items }
     ensures { OnOk result (EachFabric design.now (λ fabric. items.new.items ≡ items.old.items ++ start_items fabric (place, ram.now))) }
 {
+    let name = memory_name(alloc, ram)?;
     for word in 0..256u16 {
         let k = word as u8;
-        let memory = memory_name(alloc, ram)?;
+        let memory = Name::new(alloc, name.bytes())?;
         let start = design.start_word(place, k);
         items.push(Item::Start {
             memory,

@@ -14,3 +14,5 @@ pub mod ValuesBehind
 pub mod WireReadings
 -- names that are entered stand for the scope with what they declare, read and assign
 pub mod Entering
+-- what is said of a text by its outcome, and by the modules that it spells, is the same
+pub mod Decided

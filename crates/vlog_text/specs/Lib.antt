@@ -5,3 +5,4 @@ pub mod Steps
 pub mod Kept
 pub mod Scopes
 pub mod Seen
+pub mod Decided

@@ -8,6 +8,7 @@ ghost use Rattle.vlog_forms.specs.Outcome.{outcome_of, ports_next, ports_outcome
 ghost use Rattle.vlog_read.specs.Found.{all_found};
 ghost use Rattle.vlog_read.specs.Named.{AreNamed};
 ghost use Rattle.vlog_text.specs.Answers.{RefusesAt, Takes, Tells};
+ghost use Rattle.vlog_text.specs.Decided.{IsDecided};
 ghost use Rattle.vlog_text.specs.Drafts.{so_far};
 
 use crate::draft::{Draft, new_draft};
@@ -20,12 +21,13 @@ use std::alloc::Global;
 use vlog_module::{Module, Name};
 use vlog_read::{Found, name_at};
 
-/// The module that a text spells, or the first fault of the text.
+/// The module that a text spells, or the first fault of the text. A text spells exactly one module, or has exactly one first fault.
 pub fn parse(alloc: Global, bytes: &[u8]) -> Result<Module, VlogFault>
     ensures spells { IfOk result (λ taken. IsSpelling bytes.now taken) }
     ensures takes { (m : Parts) → IsSpelling bytes.now m → Takes m result }
     ensures tells { IfErr result (λ fault. Tells (vlog_fault_of bytes.now) fault) }
     ensures alone { (m n : Parts) → IsSpelling bytes.now m → IsSpelling bytes.now n → m ≡ n }
+    ensures decided { IsDecided bytes.now }
 {
     match parse_module(alloc, bytes) {
         Ok(parsed) => Ok(parsed),

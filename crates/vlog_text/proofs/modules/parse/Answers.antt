@@ -1,6 +1,7 @@
 use Rattle.vlog_forms.proofs.Spelled.{one-module}
 use Rattle.vlog_forms.proofs.Whole.{outcome-spells}
 use Rattle.vlog_text.specs.Seen.{seen_fault}
+use Rattle.vlog_text.proofs.Decided.{decided}
 use Rattle.vlog_text.proofs.Outcomes.{taken, told, not-taken}
 use Rattle.vlog_text.proofs.modules.parse.Goals as goal
 
@@ -24,3 +25,12 @@ returns-in-Err-Fault-clause-alone c = one-module c.args.bytes.now
 
 pub returns-in-Err-Memory-clause-alone : goal.returns-in-Err-Memory-clause-alone
 returns-in-Err-Memory-clause-alone c = one-module c.args.bytes.now
+
+pub returns-in-Ok-clause-decided : goal.returns-in-Ok-clause-decided
+returns-in-Ok-clause-decided c = decided c.args.bytes.now
+
+pub returns-in-Err-Fault-clause-decided : goal.returns-in-Err-Fault-clause-decided
+returns-in-Err-Fault-clause-decided c = decided c.args.bytes.now
+
+pub returns-in-Err-Memory-clause-decided : goal.returns-in-Err-Memory-clause-decided
+returns-in-Err-Memory-clause-decided c = decided c.args.bytes.now

@@ -6,7 +6,7 @@ ghost use Rattle.bram_replace.specs.HexText.{contents_of, hex_fault_of};
 ghost use Rattle.bram_replace.specs.ReadModes.{modes_in};
 ghost use Rattle.bram_replace.specs.Replaced.{bram_fault, replaced};
 ghost use Rattle.tool_run.specs.Needs.{text_of};
-ghost use Rattle.tool_run.specs.Runs.{Does, outside, scene};
+ghost use Rattle.tool_run.specs.Runs.{Does};
 ghost use Rattle.tool_run.specs.Stops.{StopsWith};
 ghost use Rattle.tool_run.specs.Tasks.{Done};
 ghost use Rattle.bitstream_tools.specs.Bram.{TellsWhy, icebram_command, icebram_outcome, icebram_task_by, icebram_task_for, icebram_task_of, modes_wanted, replace_task, replaced_answer};
@@ -16,10 +16,9 @@ use crate::faults::{bram_refusal, hex_refusal};
 use crate::pack::TEXT_LIMIT;
 use bram_replace::{BramFault, HexFault, HexFile, ReadModes, replace_with};
 use clap::{ArgMatches, Command};
-use ice_io::{Files, Sink, Source};
 use std::alloc::{AllocError, Global};
-use tool_parts::{CommandLine, has_flag, long_flag, required, run_tool, value, with};
-use tool_run::{AtOnce, Job, Load, Stop, Tool, answer_at_once, loaded_at, perform};
+use tool_parts::{CommandLine, Words, has_flag, long_flag, required, run_tool, value, with};
+use tool_run::{AtOnce, Host, Job, Load, Stop, Tool, loaded_at};
 
 /// The command line of `icebram`.
 pub const ICEBRAM_USAGE: &str = "icebram [--by-mode] FROM TO";
@@ -188,17 +187,8 @@ fn request_in<'a>(matches: &ArgMatches<'a>) -> Option<Request<'a>>
 }
 
 // Replaces from standard input to standard output.
-fn replace_between<F: Files, I: Source, O: Sink, E: Sink>(
-    alloc: Global,
-    request: Request<'_>,
-    files: &mut F,
-    input: &mut I,
-    output: &mut O,
-    errors: &mut E,
-) -> u8
-    ensures { Does (outside F.contents F.steady F.load_faults F.store_faults I.left I.faults O.held O.faults E.held E.faults)
-        (replace_task request.entry.modes request.entry.from.now request.entry.to.now) result
-        (scene files.old input.old output.old errors.old) (scene files.new input.new output.new errors.new) }
+fn replace_between<H: Host>(alloc: Global, request: Request<'_>, host: &mut H) -> u8
+    ensures { Does H.outside (replace_task request.entry.modes request.entry.from.now request.entry.to.now) result (H.scene host.old) (H.scene host.new) }
 {
     let loads = [
         Load {
@@ -222,29 +212,7 @@ fn replace_between<F: Files, I: Source, O: Sink, E: Sink>(
     let tool = Replacing {
         modes: request.modes,
     };
-    perform(alloc, &tool, &job, files, input, output, errors)
-}
-
-// Does what the arguments ask for.
-fn do_request<F: Files, I: Source, O: Sink, E: Sink>(
-    alloc: Global,
-    request: Option<Request<'_>>,
-    files: &mut F,
-    input: &mut I,
-    output: &mut O,
-    errors: &mut E,
-) -> u8
-    ensures { Does (outside F.contents F.steady F.load_faults F.store_faults I.left I.faults O.held O.faults E.held E.faults)
-        (icebram_task_for request.entry) result
-        (scene files.old input.old output.old errors.old) (scene files.new input.new output.new errors.new) }
-{
-    match request {
-        Some(request) => replace_between(alloc, request, files, input, output, errors),
-        None => {
-            let answer = AtOnce::UsageError(ICEBRAM_USAGE);
-            answer_at_once(alloc, "icebram", answer, files, input, output, errors)
-        }
-    }
+    host.perform(alloc, &tool, &job)
 }
 
 /// `icebram` by its command line.
@@ -257,33 +225,26 @@ impl CommandLine for Icebram {
 
     ghost manual = { icebram };
 
-    fn name(&self) -> &'static str {
-        "icebram"
-    }
-
-    fn usage(&self) -> &'static str {
-        ICEBRAM_USAGE
-    }
-
-    fn help(&self) -> &'static str {
-        ICEBRAM_HELP
+    fn words(&self) -> Words {
+        Words {
+            name: "icebram",
+            usage: ICEBRAM_USAGE,
+            help: ICEBRAM_HELP,
+        }
     }
 
     fn command<'a>(&self, alloc: Global) -> Result<Command<'a>, AllocError> {
         command(alloc)
     }
 
-    fn perform<F: Files, I: Source, O: Sink, E: Sink>(
+    fn perform<H: Host>(
         &self,
         alloc: Global,
         matches: &ArgMatches<'_>,
-        files: &mut F,
-        input: &mut I,
-        output: &mut O,
-        errors: &mut E,
-    ) -> u8 {
-        let request = request_in(matches);
-        do_request(alloc, request, files, input, output, errors)
+        host: &mut H,
+    ) -> Option<u8> {
+        let request = request_in(matches)?;
+        Some(replace_between(alloc, request, host))
     }
 
     ghost simple = { icebram-simple };
@@ -292,17 +253,8 @@ impl CommandLine for Icebram {
 }
 
 /// Runs `icebram` with these arguments, of which the first is its name.
-pub fn run_icebram<F: Files, I: Source, O: Sink, E: Sink>(
-    alloc: Global,
-    args: &[String],
-    files: &mut F,
-    input: &mut I,
-    output: &mut O,
-    errors: &mut E,
-) -> u8
-    ensures { Does (outside F.contents F.steady F.load_faults F.store_faults I.left I.faults O.held O.faults E.held E.faults)
-        (icebram_outcome (map string_bytes args.now)) result
-        (scene files.old input.old output.old errors.old) (scene files.new input.new output.new errors.new) }
+pub fn run_icebram<H: Host>(alloc: Global, args: &[String], host: &mut H) -> u8
+    ensures { Does H.outside (icebram_outcome (map string_bytes args.now)) result (H.scene host.old) (H.scene host.new) }
 {
-    run_tool(alloc, &Icebram, args, files, input, output, errors)
+    run_tool(alloc, &Icebram, args, host)
 }

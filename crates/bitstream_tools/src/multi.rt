@@ -2,20 +2,19 @@
 ghost use Rattle.std.specs.Prelude.{◌≡◌, [], Some, map, option_map, string_bytes, unwrap_or, IfOk};
 ghost use Rattle.clap.specs.Words.{app_of, found_of, rows_of};
 ghost use Rattle.tool_run.specs.Needs.{IsSound, need_of, text_of};
-ghost use Rattle.tool_run.specs.Runs.{Does, outside, scene};
+ghost use Rattle.tool_run.specs.Runs.{Does};
 ghost use Rattle.bitstream_tools.specs.Multi.{LoadsFiles, aligned_by, icemulti_command, icemulti_outcome, icemulti_task_by, icemulti_task_for, image_need, number_given, options_by, options_in, powered_by, short_number};
 
 use crate::faults::multi_refusal;
 use crate::pack::TEXT_LIMIT;
 use clap::{ArgMatches, Command};
-use ice_io::{Files, Sink, Source};
 use multi_boot::{MultiFault, Options, check, join};
 use std::alloc::{AllocError, Global};
 use text_lines::number;
 use tool_parts::{
-    CommandLine, flag, has_flag, run_tool, several, short_option, value, values, with,
+    CommandLine, Words, flag, has_flag, run_tool, several, short_option, value, values, with,
 };
-use tool_run::{AtOnce, Job, Load, Stop, Tool, answer_at_once, give_up, perform};
+use tool_run::{AtOnce, Host, Job, Load, Stop, Tool};
 
 /// The command line of `icemulti`.
 pub const ICEMULTI_USAGE: &str = "icemulti [-c] [-p N] [-a N] [-A N] [-o OUTPUT] [IMAGE ...]";
@@ -228,18 +227,9 @@ fn request_in<'a>(
 }
 
 // Joins the images of a request, or tells why not before anything is loaded.
-fn join_images<F: Files, I: Source, O: Sink, E: Sink>(
-    alloc: Global,
-    request: &MultiRequest<'_>,
-    files: &mut F,
-    input: &mut I,
-    output: &mut O,
-    errors: &mut E,
-) -> u8
+fn join_images<H: Host>(alloc: Global, request: &MultiRequest<'_>, host: &mut H) -> u8
     requires { IsSound (map need_of request.now.loads.items) }
-    ensures { Does (outside F.contents F.steady F.load_faults F.store_faults I.left I.faults O.held O.faults E.held E.faults)
-        (icemulti_task_for (Some request.now)) result
-        (scene files.old input.old output.old errors.old) (scene files.new input.new output.new errors.new) }
+    ensures { Does H.outside (icemulti_task_for (Some request.now)) result (H.scene host.old) (H.scene host.new) }
 {
     let tool_name = "icemulti";
     let loads = request.loads.as_slice();
@@ -253,36 +243,12 @@ fn join_images<F: Files, I: Source, O: Sink, E: Sink>(
                 loads,
                 target: request.output,
             };
-            perform(alloc, &tool, &job, files, input, output, errors)
+            host.perform(alloc, &tool, &job)
         }
         Err(fault) => {
             let answer = AtOnce::Refuses(multi_refusal(fault));
-            answer_at_once(alloc, tool_name, answer, files, input, output, errors)
+            host.answer_at_once(alloc, tool_name, answer)
         }
-    }
-}
-
-// Does what was found in the arguments asks for.
-fn do_found<F: Files, I: Source, O: Sink, E: Sink>(
-    alloc: Global,
-    matches: &ArgMatches<'_>,
-    files: &mut F,
-    input: &mut I,
-    output: &mut O,
-    errors: &mut E,
-) -> u8
-    ensures { Does (outside F.contents F.steady F.load_faults F.store_faults I.left I.faults O.held O.faults E.held E.faults)
-        (icemulti_task_by (rows_of (found_of matches.now))) result
-        (scene files.old input.old output.old errors.old) (scene files.new input.new output.new errors.new) }
-{
-    let name = "icemulti";
-    match request_in(alloc, matches) {
-        Ok(Some(request)) => join_images(alloc, &request, files, input, output, errors),
-        Ok(None) => {
-            let answer = AtOnce::UsageError(ICEMULTI_USAGE);
-            answer_at_once(alloc, name, answer, files, input, output, errors)
-        }
-        Err(AllocError) => give_up(name, files, input, output, errors),
     }
 }
 
@@ -296,32 +262,29 @@ impl CommandLine for Icemulti {
 
     ghost manual = { icemulti };
 
-    fn name(&self) -> &'static str {
-        "icemulti"
-    }
-
-    fn usage(&self) -> &'static str {
-        ICEMULTI_USAGE
-    }
-
-    fn help(&self) -> &'static str {
-        ICEMULTI_HELP
+    fn words(&self) -> Words {
+        Words {
+            name: "icemulti",
+            usage: ICEMULTI_USAGE,
+            help: ICEMULTI_HELP,
+        }
     }
 
     fn command<'a>(&self, alloc: Global) -> Result<Command<'a>, AllocError> {
         command(alloc)
     }
 
-    fn perform<F: Files, I: Source, O: Sink, E: Sink>(
+    fn perform<H: Host>(
         &self,
         alloc: Global,
         matches: &ArgMatches<'_>,
-        files: &mut F,
-        input: &mut I,
-        output: &mut O,
-        errors: &mut E,
-    ) -> u8 {
-        do_found(alloc, matches, files, input, output, errors)
+        host: &mut H,
+    ) -> Option<u8> {
+        match request_in(alloc, matches) {
+            Ok(Some(request)) => Some(join_images(alloc, &request, host)),
+            Ok(None) => None,
+            Err(AllocError) => Some(host.give_up("icemulti")),
+        }
     }
 
     ghost simple = { icemulti-simple };
@@ -330,17 +293,8 @@ impl CommandLine for Icemulti {
 }
 
 /// Runs `icemulti` with these arguments, of which the first is its name.
-pub fn run_icemulti<F: Files, I: Source, O: Sink, E: Sink>(
-    alloc: Global,
-    args: &[String],
-    files: &mut F,
-    input: &mut I,
-    output: &mut O,
-    errors: &mut E,
-) -> u8
-    ensures { Does (outside F.contents F.steady F.load_faults F.store_faults I.left I.faults O.held O.faults E.held E.faults)
-        (icemulti_outcome (map string_bytes args.now)) result
-        (scene files.old input.old output.old errors.old) (scene files.new input.new output.new errors.new) }
+pub fn run_icemulti<H: Host>(alloc: Global, args: &[String], host: &mut H) -> u8
+    ensures { Does H.outside (icemulti_outcome (map string_bytes args.now)) result (H.scene host.old) (H.scene host.new) }
 {
-    run_tool(alloc, &Icemulti, args, files, input, output, errors)
+    run_tool(alloc, &Icemulti, args, host)
 }

@@ -1,8 +1,8 @@
 // `icepack`: the bitstream of a text.
-ghost use Rattle.std.specs.Prelude.{◌≡◌, map, string_bytes, IfOk};
+ghost use Rattle.std.specs.Prelude.{◌≡◌, Some, map, string_bytes, IfOk};
 ghost use Rattle.clap.specs.Words.{app_of, found_of, rows_of};
 ghost use Rattle.tool_run.specs.Needs.{text_of};
-ghost use Rattle.tool_run.specs.Runs.{Does, outside, scene};
+ghost use Rattle.tool_run.specs.Runs.{Does};
 ghost use Rattle.bitstream_tools.specs.Pack.{icepack_command, icepack_outcome, icepack_task_by, icepack_task_for, icepack_task_of, pack_task};
 
 use crate::packing::packed_after;
@@ -10,13 +10,12 @@ use crate::reading::First;
 use crate::unpack::{Names, names_in, unpack_between};
 use asc_text::AscReader;
 use clap::{ArgMatches, Command};
-use ice_io::{Files, Sink, Source};
 use std::alloc::{AllocError, Global};
 use tool_parts::{
-    CommandLine, LAYOUT_LIMIT, Taking, flag, has_flag, long_option, positional, run_tool, with,
-    with_layout,
+    CommandLine, LAYOUT_LIMIT, Taking, Words, flag, has_flag, long_option, positional, run_tool,
+    with, with_layout,
 };
-use tool_run::{AtOnce, Job, Load, PieceTool, Stop, answer_at_once, perform_in_pieces};
+use tool_run::{AtOnce, Host, Job, Load, PieceTool, Stop};
 
 /// The most bytes of a text.
 pub(crate) const TEXT_LIMIT: usize = 16_777_216;
@@ -139,18 +138,8 @@ fn request_in<'a>(matches: &ArgMatches<'a>) -> Option<Request<'a>>
 }
 
 // Packs from a file or standard input to a file or standard output.
-fn pack_between<F: Files, I: Source, O: Sink, E: Sink>(
-    alloc: Global,
-    no_sleep: bool,
-    names: Names<'_>,
-    files: &mut F,
-    input: &mut I,
-    output: &mut O,
-    errors: &mut E,
-) -> u8
-    ensures { Does (outside F.contents F.steady F.load_faults F.store_faults I.left I.faults O.held O.faults E.held E.faults)
-        (pack_task no_sleep (text_of names.entry.layout) (text_of names.entry.input) (text_of names.entry.output)) result
-        (scene files.old input.old output.old errors.old) (scene files.new input.new output.new errors.new) }
+fn pack_between<H: Host>(alloc: Global, no_sleep: bool, names: Names<'_>, host: &mut H) -> u8
+    ensures { Does H.outside (pack_task no_sleep (text_of names.entry.layout) (text_of names.entry.input) (text_of names.entry.output)) result (H.scene host.old) (H.scene host.new) }
 {
     let loads = [
         Load {
@@ -171,34 +160,16 @@ fn pack_between<F: Files, I: Source, O: Sink, E: Sink>(
         loads: with_layout(names.layout, &loads),
         target: names.output,
     };
-    perform_in_pieces(alloc, &tool, &job, files, input, output, errors)
+    host.perform_in_pieces(alloc, &tool, &job)
 }
 
 // Does what the arguments ask for.
-fn do_request<F: Files, I: Source, O: Sink, E: Sink>(
-    alloc: Global,
-    request: Option<Request<'_>>,
-    files: &mut F,
-    input: &mut I,
-    output: &mut O,
-    errors: &mut E,
-) -> u8
-    ensures { Does (outside F.contents F.steady F.load_faults F.store_faults I.left I.faults O.held O.faults E.held E.faults)
-        (icepack_task_for request.entry) result
-        (scene files.old input.old output.old errors.old) (scene files.new input.new output.new errors.new) }
+fn do_request<H: Host>(alloc: Global, request: Request<'_>, host: &mut H) -> u8
+    ensures { Does H.outside (icepack_task_for (Some request.entry)) result (H.scene host.old) (H.scene host.new) }
 {
-    let name = "icepack";
     match request {
-        Some(Request::Pack { no_sleep, names }) => {
-            pack_between(alloc, no_sleep, names, files, input, output, errors)
-        }
-        Some(Request::Unpack(names)) => {
-            unpack_between(alloc, name, names, files, input, output, errors)
-        }
-        None => {
-            let answer = AtOnce::UsageError(ICEPACK_USAGE);
-            answer_at_once(alloc, name, answer, files, input, output, errors)
-        }
+        Request::Pack { no_sleep, names } => pack_between(alloc, no_sleep, names, host),
+        Request::Unpack(names) => unpack_between(alloc, "icepack", names, host),
     }
 }
 
@@ -212,33 +183,26 @@ impl CommandLine for Icepack {
 
     ghost manual = { icepack };
 
-    fn name(&self) -> &'static str {
-        "icepack"
-    }
-
-    fn usage(&self) -> &'static str {
-        ICEPACK_USAGE
-    }
-
-    fn help(&self) -> &'static str {
-        ICEPACK_HELP
+    fn words(&self) -> Words {
+        Words {
+            name: "icepack",
+            usage: ICEPACK_USAGE,
+            help: ICEPACK_HELP,
+        }
     }
 
     fn command<'a>(&self, alloc: Global) -> Result<Command<'a>, AllocError> {
         command(alloc)
     }
 
-    fn perform<F: Files, I: Source, O: Sink, E: Sink>(
+    fn perform<H: Host>(
         &self,
         alloc: Global,
         matches: &ArgMatches<'_>,
-        files: &mut F,
-        input: &mut I,
-        output: &mut O,
-        errors: &mut E,
-    ) -> u8 {
-        let request = request_in(matches);
-        do_request(alloc, request, files, input, output, errors)
+        host: &mut H,
+    ) -> Option<u8> {
+        let request = request_in(matches)?;
+        Some(do_request(alloc, request, host))
     }
 
     ghost simple = { icepack-simple };
@@ -247,17 +211,8 @@ impl CommandLine for Icepack {
 }
 
 /// Runs `icepack` with these arguments, of which the first is its name.
-pub fn run_icepack<F: Files, I: Source, O: Sink, E: Sink>(
-    alloc: Global,
-    args: &[String],
-    files: &mut F,
-    input: &mut I,
-    output: &mut O,
-    errors: &mut E,
-) -> u8
-    ensures { Does (outside F.contents F.steady F.load_faults F.store_faults I.left I.faults O.held O.faults E.held E.faults)
-        (icepack_outcome (map string_bytes args.now)) result
-        (scene files.old input.old output.old errors.old) (scene files.new input.new output.new errors.new) }
+pub fn run_icepack<H: Host>(alloc: Global, args: &[String], host: &mut H) -> u8
+    ensures { Does H.outside (icepack_outcome (map string_bytes args.now)) result (H.scene host.old) (H.scene host.new) }
 {
-    run_tool(alloc, &Icepack, args, files, input, output, errors)
+    run_tool(alloc, &Icepack, args, host)
 }

@@ -4,7 +4,7 @@ ghost use Rattle.clap.specs.Words.{app_of, found_of, rows_of};
 ghost use Rattle.boot_read.specs.Meaning.{placed_of};
 ghost use Rattle.boot_read.specs.Reading.{boot_read_of};
 ghost use Rattle.tool_run.specs.Needs.{text_of};
-ghost use Rattle.tool_run.specs.Runs.{Does, outside, scene};
+ghost use Rattle.tool_run.specs.Runs.{Does};
 ghost use Rattle.tool_run.specs.Stops.{StopsWith};
 ghost use Rattle.tool_run.specs.Tasks.{Done};
 ghost use Rattle.bitstream_tools.specs.Split.{extracted, icesplit_command, icesplit_outcome, icesplit_task_by, icesplit_task_for, icesplit_task_of, split_answer};
@@ -15,10 +15,11 @@ use crate::split_faults::split_stop;
 use bin_stream::encode;
 use boot_read::{BootImage, split};
 use clap::{ArgMatches, Command};
-use ice_io::{Files, Sink, Source};
 use std::alloc::{AllocError, Global};
-use tool_parts::{CommandLine, positional, refusal, required, run_tool, short_option, value, with};
-use tool_run::{AtOnce, Job, Load, Stop, Tool, answer_at_once, decimal, loaded_at, perform, text};
+use tool_parts::{
+    CommandLine, Words, positional, refusal, required, run_tool, short_option, value, with,
+};
+use tool_run::{AtOnce, Host, Job, Load, Stop, Tool, decimal, loaded_at, text};
 
 /// The command line of `icesplit`.
 pub const ICESPLIT_USAGE: &str = "icesplit [-x N] BOOT [OUTPUT]";
@@ -143,17 +144,8 @@ fn request_in<'a>(matches: &ArgMatches<'a>) -> Option<SplitRequest<'a>>
 }
 
 // Splits the boot file of a request.
-fn split_file<F: Files, I: Source, O: Sink, E: Sink>(
-    alloc: Global,
-    request: SplitRequest<'_>,
-    files: &mut F,
-    input: &mut I,
-    output: &mut O,
-    errors: &mut E,
-) -> u8
-    ensures { Does (outside F.contents F.steady F.load_faults F.store_faults I.left I.faults O.held O.faults E.held E.faults)
-        (icesplit_task_for (Some request.entry)) result
-        (scene files.old input.old output.old errors.old) (scene files.new input.new output.new errors.new) }
+fn split_file<H: Host>(alloc: Global, request: SplitRequest<'_>, host: &mut H) -> u8
+    ensures { Does H.outside (icesplit_task_for (Some request.entry)) result (H.scene host.old) (H.scene host.new) }
 {
     let loads = [Load {
         name: Some(request.boot),
@@ -167,29 +159,7 @@ fn split_file<F: Files, I: Source, O: Sink, E: Sink>(
         loads: &loads,
         target: request.output,
     };
-    perform(alloc, &tool, &job, files, input, output, errors)
-}
-
-// Does what the arguments ask for.
-fn do_request<F: Files, I: Source, O: Sink, E: Sink>(
-    alloc: Global,
-    request: Option<SplitRequest<'_>>,
-    files: &mut F,
-    input: &mut I,
-    output: &mut O,
-    errors: &mut E,
-) -> u8
-    ensures { Does (outside F.contents F.steady F.load_faults F.store_faults I.left I.faults O.held O.faults E.held E.faults)
-        (icesplit_task_for request.entry) result
-        (scene files.old input.old output.old errors.old) (scene files.new input.new output.new errors.new) }
-{
-    match request {
-        Some(request) => split_file(alloc, request, files, input, output, errors),
-        None => {
-            let answer = AtOnce::UsageError(ICESPLIT_USAGE);
-            answer_at_once(alloc, "icesplit", answer, files, input, output, errors)
-        }
-    }
+    host.perform(alloc, &tool, &job)
 }
 
 /// `icesplit` by its command line.
@@ -202,33 +172,26 @@ impl CommandLine for Icesplit {
 
     ghost manual = { icesplit };
 
-    fn name(&self) -> &'static str {
-        "icesplit"
-    }
-
-    fn usage(&self) -> &'static str {
-        ICESPLIT_USAGE
-    }
-
-    fn help(&self) -> &'static str {
-        ICESPLIT_HELP
+    fn words(&self) -> Words {
+        Words {
+            name: "icesplit",
+            usage: ICESPLIT_USAGE,
+            help: ICESPLIT_HELP,
+        }
     }
 
     fn command<'a>(&self, alloc: Global) -> Result<Command<'a>, AllocError> {
         command(alloc)
     }
 
-    fn perform<F: Files, I: Source, O: Sink, E: Sink>(
+    fn perform<H: Host>(
         &self,
         alloc: Global,
         matches: &ArgMatches<'_>,
-        files: &mut F,
-        input: &mut I,
-        output: &mut O,
-        errors: &mut E,
-    ) -> u8 {
-        let request = request_in(matches);
-        do_request(alloc, request, files, input, output, errors)
+        host: &mut H,
+    ) -> Option<u8> {
+        let request = request_in(matches)?;
+        Some(split_file(alloc, request, host))
     }
 
     ghost simple = { icesplit-simple };
@@ -237,17 +200,8 @@ impl CommandLine for Icesplit {
 }
 
 /// Runs `icesplit` with these arguments, of which the first is its name.
-pub fn run_icesplit<F: Files, I: Source, O: Sink, E: Sink>(
-    alloc: Global,
-    args: &[String],
-    files: &mut F,
-    input: &mut I,
-    output: &mut O,
-    errors: &mut E,
-) -> u8
-    ensures { Does (outside F.contents F.steady F.load_faults F.store_faults I.left I.faults O.held O.faults E.held E.faults)
-        (icesplit_outcome (map string_bytes args.now)) result
-        (scene files.old input.old output.old errors.old) (scene files.new input.new output.new errors.new) }
+pub fn run_icesplit<H: Host>(alloc: Global, args: &[String], host: &mut H) -> u8
+    ensures { Does H.outside (icesplit_outcome (map string_bytes args.now)) result (H.scene host.old) (H.scene host.new) }
 {
-    run_tool(alloc, &Icesplit, args, files, input, output, errors)
+    run_tool(alloc, &Icesplit, args, host)
 }

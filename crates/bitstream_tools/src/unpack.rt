@@ -1,7 +1,7 @@
 // `iceunpack`, and what `icepack -u` does too: the text of a bitstream.
 ghost use Rattle.std.specs.Prelude.{◌≡◌, codes, map, string_bytes, IfOk};
 ghost use Rattle.clap.specs.Words.{app_of, first_of, found_of, rows_of};
-ghost use Rattle.tool_run.specs.Runs.{Does, outside, scene};
+ghost use Rattle.tool_run.specs.Runs.{Does};
 ghost use Rattle.tool_run.specs.Needs.{text_of};
 ghost use Rattle.bitstream_tools.specs.Unpack.{iceunpack_command, iceunpack_outcome, iceunpack_task_by, unpack_task};
 
@@ -10,12 +10,12 @@ use crate::unpacking::unpacked_after;
 use asc_text::CanonicalText;
 use bin_stream::Decoder;
 use clap::{ArgMatches, Command};
-use ice_io::{Files, Sink, Source};
 use std::alloc::{AllocError, Global};
 use tool_parts::{
-    CommandLine, LAYOUT_LIMIT, Taking, long_option, positional, run_tool, value, with, with_layout,
+    CommandLine, LAYOUT_LIMIT, Taking, Words, long_option, positional, run_tool, value, with,
+    with_layout,
 };
-use tool_run::{Job, Load, PieceTool, Stop, perform_in_pieces};
+use tool_run::{Host, Job, Load, PieceTool, Stop};
 
 /// The command line of `iceunpack`.
 pub const ICEUNPACK_USAGE: &str = "iceunpack [--layout FILE] [INPUT [OUTPUT]]";
@@ -126,18 +126,13 @@ fn command<'a>(alloc: Global) -> Result<Command<'a>, AllocError>
 }
 
 /// Unpacks from a file or standard input to a file or standard output.
-pub(crate) fn unpack_between<F: Files, I: Source, O: Sink, E: Sink>(
+pub(crate) fn unpack_between<H: Host>(
     alloc: Global,
     tool_name: &'static str,
     names: Names<'_>,
-    files: &mut F,
-    input: &mut I,
-    output: &mut O,
-    errors: &mut E,
+    host: &mut H,
 ) -> u8
-    ensures { Does (outside F.contents F.steady F.load_faults F.store_faults I.left I.faults O.held O.faults E.held E.faults)
-        (unpack_task tool_name.now (text_of names.entry.layout) (text_of names.entry.input) (text_of names.entry.output)) result
-        (scene files.old input.old output.old errors.old) (scene files.new input.new output.new errors.new) }
+    ensures { Does H.outside (unpack_task tool_name.now (text_of names.entry.layout) (text_of names.entry.input) (text_of names.entry.output)) result (H.scene host.old) (H.scene host.new) }
 {
     let loads = [
         Load {
@@ -157,24 +152,7 @@ pub(crate) fn unpack_between<F: Files, I: Source, O: Sink, E: Sink>(
         loads: with_layout(names.layout, &loads),
         target: names.output,
     };
-    perform_in_pieces(alloc, &tool, &job, files, input, output, errors)
-}
-
-// Does what was found in the arguments asks for.
-fn do_found<F: Files, I: Source, O: Sink, E: Sink>(
-    alloc: Global,
-    matches: &ArgMatches<'_>,
-    files: &mut F,
-    input: &mut I,
-    output: &mut O,
-    errors: &mut E,
-) -> u8
-    ensures { Does (outside F.contents F.steady F.load_faults F.store_faults I.left I.faults O.held O.faults E.held E.faults)
-        (iceunpack_task_by (rows_of (found_of matches.now))) result
-        (scene files.old input.old output.old errors.old) (scene files.new input.new output.new errors.new) }
-{
-    let names = names_in(matches);
-    unpack_between(alloc, "iceunpack", names, files, input, output, errors)
+    host.perform_in_pieces(alloc, &tool, &job)
 }
 
 /// `iceunpack` by its command line.
@@ -187,32 +165,26 @@ impl CommandLine for Iceunpack {
 
     ghost manual = { iceunpack };
 
-    fn name(&self) -> &'static str {
-        "iceunpack"
-    }
-
-    fn usage(&self) -> &'static str {
-        ICEUNPACK_USAGE
-    }
-
-    fn help(&self) -> &'static str {
-        ICEUNPACK_HELP
+    fn words(&self) -> Words {
+        Words {
+            name: "iceunpack",
+            usage: ICEUNPACK_USAGE,
+            help: ICEUNPACK_HELP,
+        }
     }
 
     fn command<'a>(&self, alloc: Global) -> Result<Command<'a>, AllocError> {
         command(alloc)
     }
 
-    fn perform<F: Files, I: Source, O: Sink, E: Sink>(
+    fn perform<H: Host>(
         &self,
         alloc: Global,
         matches: &ArgMatches<'_>,
-        files: &mut F,
-        input: &mut I,
-        output: &mut O,
-        errors: &mut E,
-    ) -> u8 {
-        do_found(alloc, matches, files, input, output, errors)
+        host: &mut H,
+    ) -> Option<u8> {
+        let names = names_in(matches);
+        Some(unpack_between(alloc, "iceunpack", names, host))
     }
 
     ghost simple = { iceunpack-simple };
@@ -221,17 +193,8 @@ impl CommandLine for Iceunpack {
 }
 
 /// Runs `iceunpack` with these arguments, of which the first is its name.
-pub fn run_iceunpack<F: Files, I: Source, O: Sink, E: Sink>(
-    alloc: Global,
-    args: &[String],
-    files: &mut F,
-    input: &mut I,
-    output: &mut O,
-    errors: &mut E,
-) -> u8
-    ensures { Does (outside F.contents F.steady F.load_faults F.store_faults I.left I.faults O.held O.faults E.held E.faults)
-        (iceunpack_outcome (map string_bytes args.now)) result
-        (scene files.old input.old output.old errors.old) (scene files.new input.new output.new errors.new) }
+pub fn run_iceunpack<H: Host>(alloc: Global, args: &[String], host: &mut H) -> u8
+    ensures { Does H.outside (iceunpack_outcome (map string_bytes args.now)) result (H.scene host.old) (H.scene host.new) }
 {
-    run_tool(alloc, &Iceunpack, args, files, input, output, errors)
+    run_tool(alloc, &Iceunpack, args, host)
 }

@@ -251,7 +251,7 @@ task-target args = by_case (is_taken vlog_command args)
     by_case false = refl
 
 pub promise-kept : {F I O E : Type 0} (by : Outside F I O E) (args : List Text) (status : ℕ) (old new : Scene F I O E) → Does by (vlog_outcome args) status old new
-    → PromisesFabric args status (by.contents old.files) (by.left old.input) (by.held old.output) (by.held new.output)
+    → PromisesFabric by args status old new
 promise-kept by args status old new does done asks =
     let same : asked icebox_vlog args ≡ vlog_outcome args = helped-no vlog_name ICEBOX_VLOG_HELP.now args (asked icebox_vlog args) asks in
     helped-kept (WritesFabric (package_given args) (names_layout args)) by (asked icebox_vlog args) (vlog_outcome args) status old new same (task-writes args) (task-target args) does done

@@ -2,7 +2,6 @@
 use Rattle.std.specs.Prelude.{◌≡◌, ℕ, Bool, false, List, [], map, codes, get_or, is_some, Option, Some, None, Ok}
 use Rattle.std.specs.List.{AllZip}
 use Rattle.clap.specs.Words.{first_of, matches_of}
-use Rattle.ice_io.specs.Files.{FileMap}
 use Rattle.layout_file.specs.declared.layouts.Layouts.{Layouts}
 use Rattle.tool_parts.specs.Layouts.{behind_layout, layouts_for}
 use Rattle.ice_image.specs.Configuration.{Configuration}
@@ -21,6 +20,7 @@ use Rattle.pin_file.specs.Faults.{pin_fault_of, ports_of}
 use Rattle.pin_file.specs.Packages.{Package, package_of}
 use Rattle.named_ports.specs.Named.{named_ports, switched_places}
 use Rattle.named_ports.specs.Matching.{MatchesNamed}
+use Rattle.tool_run.specs.Runs.{Outside, Scene}
 use Rattle.tool_run.specs.Tasks.{asks_for_help}
 use Rattle.tool_parts.specs.Appended.{AppendsFor}
 use Rattle.tool_parts.specs.Databases.{database_read}
@@ -87,8 +87,9 @@ names_layout args = is_some (first_of (codes "layout") (matches_of vlog_command 
 abbrev pub package_given : List (List ℕ) → Option (List ℕ)
 package_given args = first_of (codes "package") (matches_of vlog_command args)
 
--- Where a run of `icebox_vlog` with these arguments has status 0, and isn't asked for help, the bytes that it appended spell the fabric of
--- the database and the image that it loaded.
-abbrev pub PromisesFabric : List (List ℕ) → ℕ → Option FileMap → Option (List ℕ) → Option (List ℕ) → Option (List ℕ) → Type 0
-PromisesFabric args status contents left held new_held =
-    status ≡ 0 → asks_for_help args ≡ false → AppendsFor (WritesFabric (package_given args) (names_layout args)) (vlog_outcome args) contents left held new_held
+-- If a run of `icebox_vlog` with these arguments has status 0, and isn't asked for help, then there are texts of its files and of standard
+-- input for which the bytes that it appended spell the fabric of their database and image. What files and input tell of their contents are
+-- these texts; of real ones nothing is told, and each is within its limit.
+abbrev pub PromisesFabric : {F I O E : Type 0} → Outside F I O E → List (List ℕ) → ℕ → Scene F I O E → Scene F I O E → Type 0
+PromisesFabric by args status old new =
+    status ≡ 0 → asks_for_help args ≡ false → AppendsFor by (WritesFabric (package_given args) (names_layout args)) (vlog_outcome args) old new

@@ -14,7 +14,7 @@ ghost use Rattle.named_ports.specs.Named.{AreAccepted, switched_places};
 ghost use Rattle.tool_run.specs.Collected.{Collects};
 ghost use Rattle.tool_run.specs.Lines.{refusal_text};
 ghost use Rattle.tool_run.specs.Needs.{text_of};
-ghost use Rattle.tool_run.specs.Runs.{Does, outside, scene};
+ghost use Rattle.tool_run.specs.Runs.{Does};
 ghost use Rattle.tool_run.specs.Stops.{StopsWith};
 ghost use Rattle.tool_run.specs.Tasks.{Done};
 ghost use Rattle.design_tools.specs.Pins.{HasPins, StopsForPins, pin_cause_text, pin_fault_text};
@@ -28,13 +28,12 @@ use chipdb_reader::ChipDb;
 use design_parts::design_stop;
 use fabric::{Design, design_with};
 use ice_image::AnyImage;
-use ice_io::{Files, Sink, Source};
 use named_ports::{name_ports, switched_places};
 use net_extract::LutInputs;
 use pin_file::{PackagePins, PinCause, PinFault, PinName, PinPlace, PinReader, pin_names};
 use std::alloc::{AllocError, Global};
 use tool_parts::{DB_LIMIT, DesignInput, IMAGE_LIMIT, LAYOUT_LIMIT, refusal, with_layout};
-use tool_run::{Collected, Job, Load, PieceTool, Refusal, Stop, decimal, perform_in_pieces, text};
+use tool_run::{Collected, Host, Job, Load, PieceTool, Refusal, Stop, decimal, text};
 use vlog_emit::emit;
 use vlog_text::print;
 
@@ -232,18 +231,13 @@ fn pin_stop(fault: PinFault) -> Stop<'static>
 }
 
 /// Writes by the files of a request, with the names of a pin file.
-pub(crate) fn write_named<F: Files, I: Source, O: Sink, E: Sink>(
+pub(crate) fn write_named<H: Host>(
     alloc: Global,
     request: Request<'_>,
     pins: PinRequest<'_>,
-    files: &mut F,
-    input: &mut I,
-    output: &mut O,
-    errors: &mut E,
+    host: &mut H,
 ) -> u8
-    ensures { Does (outside F.contents F.steady F.load_faults F.store_faults I.left I.faults O.held O.faults E.held E.faults)
-        (named_task request.entry.inputs request.entry.name.text.now (pins_named pins.entry) (text_of request.entry.layout) request.entry.db.now (text_of request.entry.image)) result
-        (scene files.old input.old output.old errors.old) (scene files.new input.new output.new errors.new) }
+    ensures { Does H.outside (named_task request.entry.inputs request.entry.name.text.now (pins_named pins.entry) (text_of request.entry.layout) request.entry.db.now (text_of request.entry.image)) result (H.scene host.old) (H.scene host.new) }
 {
     let loads = [
         Load {
@@ -274,5 +268,5 @@ pub(crate) fn write_named<F: Files, I: Source, O: Sink, E: Sink>(
         loads: with_layout(request.layout, &loads),
         target: None,
     };
-    perform_in_pieces(alloc, &tool, &job, files, input, output, errors)
+    host.perform_in_pieces(alloc, &tool, &job)
 }

@@ -6,7 +6,7 @@ ghost use Rattle.chipdb_reader.specs.Database.{Database};
 ghost use Rattle.chipdb_reader.specs.Kept.{database_in};
 ghost use Rattle.vlog_module.specs.Names.{IsName};
 ghost use Rattle.fabric.specs.Design.{IsDesignOf};
-ghost use Rattle.tool_run.specs.Runs.{Does, outside, scene};
+ghost use Rattle.tool_run.specs.Runs.{Does};
 ghost use Rattle.tool_run.specs.Stops.{StopsWith};
 ghost use Rattle.tool_run.specs.Tasks.{Done};
 ghost use Rattle.tool_parts.specs.DesignInput.{TakesInput};
@@ -23,13 +23,13 @@ use clap::{ArgMatches, Command};
 use design_parts::design_stop;
 use fabric::{Design, design_with};
 use ice_image::AnyImage;
-use ice_io::{Files, Sink, Source};
 use net_extract::LutInputs;
 use std::alloc::{AllocError, Global};
 use tool_parts::{
-    CommandLine, DB_LIMIT, DesignInput, IMAGE_LIMIT, LAYOUT_LIMIT, Taking, run_tool, with_layout,
+    CommandLine, DB_LIMIT, DesignInput, IMAGE_LIMIT, LAYOUT_LIMIT, Taking, Words, run_tool,
+    with_layout,
 };
-use tool_run::{AtOnce, Job, Load, PieceTool, Stop, answer_at_once, perform_in_pieces};
+use tool_run::{AtOnce, Host, Job, Load, PieceTool, Stop};
 use vlog_emit::emit;
 use vlog_text::print;
 
@@ -123,17 +123,8 @@ fn module_text(alloc: Global, design: &Design, name: &[u8]) -> Result<Vec<u8>, A
 }
 
 // Writes by the files of a request, without a pin file.
-fn write_plain<F: Files, I: Source, O: Sink, E: Sink>(
-    alloc: Global,
-    request: Request<'_>,
-    files: &mut F,
-    input: &mut I,
-    output: &mut O,
-    errors: &mut E,
-) -> u8
-    ensures { Does (outside F.contents F.steady F.load_faults F.store_faults I.left I.faults O.held O.faults E.held E.faults)
-        (write_task request.entry.inputs request.entry.name.text.now (text_of request.entry.layout) request.entry.db.now (text_of request.entry.image)) result
-        (scene files.old input.old output.old errors.old) (scene files.new input.new output.new errors.new) }
+fn write_plain<H: Host>(alloc: Global, request: Request<'_>, host: &mut H) -> u8
+    ensures { Does H.outside (write_task request.entry.inputs request.entry.name.text.now (text_of request.entry.layout) request.entry.db.now (text_of request.entry.image)) result (H.scene host.old) (H.scene host.new) }
 {
     let loads = [
         Load {
@@ -159,47 +150,16 @@ fn write_plain<F: Files, I: Source, O: Sink, E: Sink>(
         loads: with_layout(request.layout, &loads),
         target: None,
     };
-    perform_in_pieces(alloc, &tool, &job, files, input, output, errors)
+    host.perform_in_pieces(alloc, &tool, &job)
 }
 
 // Writes by the files of a request.
-fn write_files<F: Files, I: Source, O: Sink, E: Sink>(
-    alloc: Global,
-    request: Request<'_>,
-    files: &mut F,
-    input: &mut I,
-    output: &mut O,
-    errors: &mut E,
-) -> u8
-    ensures { Does (outside F.contents F.steady F.load_faults F.store_faults I.left I.faults O.held O.faults E.held E.faults)
-        (vlog_task_for (Some request.entry)) result
-        (scene files.old input.old output.old errors.old) (scene files.new input.new output.new errors.new) }
+fn write_files<H: Host>(alloc: Global, request: Request<'_>, host: &mut H) -> u8
+    ensures { Does H.outside (vlog_task_for (Some request.entry)) result (H.scene host.old) (H.scene host.new) }
 {
     match request.pins {
-        None => write_plain(alloc, request, files, input, output, errors),
-        Some(pins) => write_named(alloc, request, pins, files, input, output, errors),
-    }
-}
-
-// Does what the arguments ask for.
-fn do_request<F: Files, I: Source, O: Sink, E: Sink>(
-    alloc: Global,
-    request: Option<Request<'_>>,
-    files: &mut F,
-    input: &mut I,
-    output: &mut O,
-    errors: &mut E,
-) -> u8
-    ensures { Does (outside F.contents F.steady F.load_faults F.store_faults I.left I.faults O.held O.faults E.held E.faults)
-        (vlog_task_for request.entry) result
-        (scene files.old input.old output.old errors.old) (scene files.new input.new output.new errors.new) }
-{
-    match request {
-        Some(request) => write_files(alloc, request, files, input, output, errors),
-        None => {
-            let answer = AtOnce::UsageError(ICEBOX_VLOG_USAGE);
-            answer_at_once(alloc, "icebox_vlog", answer, files, input, output, errors)
-        }
+        None => write_plain(alloc, request, host),
+        Some(pins) => write_named(alloc, request, pins, host),
     }
 }
 
@@ -213,33 +173,26 @@ impl CommandLine for IceboxVlog {
 
     ghost manual = { icebox_vlog };
 
-    fn name(&self) -> &'static str {
-        "icebox_vlog"
-    }
-
-    fn usage(&self) -> &'static str {
-        ICEBOX_VLOG_USAGE
-    }
-
-    fn help(&self) -> &'static str {
-        ICEBOX_VLOG_HELP
+    fn words(&self) -> Words {
+        Words {
+            name: "icebox_vlog",
+            usage: ICEBOX_VLOG_USAGE,
+            help: ICEBOX_VLOG_HELP,
+        }
     }
 
     fn command<'a>(&self, alloc: Global) -> Result<Command<'a>, AllocError> {
         command(alloc)
     }
 
-    fn perform<F: Files, I: Source, O: Sink, E: Sink>(
+    fn perform<H: Host>(
         &self,
         alloc: Global,
         matches: &ArgMatches<'_>,
-        files: &mut F,
-        input: &mut I,
-        output: &mut O,
-        errors: &mut E,
-    ) -> u8 {
-        let request = request_in(matches);
-        do_request(alloc, request, files, input, output, errors)
+        host: &mut H,
+    ) -> Option<u8> {
+        let request = request_in(matches)?;
+        Some(write_files(alloc, request, host))
     }
 
     ghost simple = { vlog-simple };
@@ -248,18 +201,9 @@ impl CommandLine for IceboxVlog {
 }
 
 /// Runs `icebox_vlog` with these arguments, of which the first is its name.
-pub fn run_icebox_vlog<F: Files, I: Source, O: Sink, E: Sink>(
-    alloc: Global,
-    args: &[String],
-    files: &mut F,
-    input: &mut I,
-    output: &mut O,
-    errors: &mut E,
-) -> u8
-    ensures does { Does (outside F.contents F.steady F.load_faults F.store_faults I.left I.faults O.held O.faults E.held E.faults)
-        (vlog_outcome (map string_bytes args.now)) result
-        (scene files.old input.old output.old errors.old) (scene files.new input.new output.new errors.new) }
-    ensures fabric { PromisesFabric (map string_bytes args.now) result (F.contents files.old) (I.left input.old) (O.held output.old) (O.held output.new) }
+pub fn run_icebox_vlog<H: Host>(alloc: Global, args: &[String], host: &mut H) -> u8
+    ensures does { Does H.outside (vlog_outcome (map string_bytes args.now)) result (H.scene host.old) (H.scene host.new) }
+    ensures fabric { PromisesFabric H.outside (map string_bytes args.now) result (H.scene host.old) (H.scene host.new) }
 {
-    run_tool(alloc, &IceboxVlog, args, files, input, output, errors)
+    run_tool(alloc, &IceboxVlog, args, host)
 }

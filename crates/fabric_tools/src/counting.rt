@@ -4,7 +4,7 @@ ghost use Rattle.clap.specs.Words.{app_of, found_of, rows_of};
 ghost use Rattle.ice_image.specs.Either.{configuration_of};
 ghost use Rattle.chipdb_reader.specs.Kept.{database_in};
 ghost use Rattle.tool_run.specs.Needs.{text_of};
-ghost use Rattle.tool_run.specs.Runs.{Does, outside, scene};
+ghost use Rattle.tool_run.specs.Runs.{Does};
 ghost use Rattle.tool_run.specs.Stops.{StopsWith};
 ghost use Rattle.tool_run.specs.Tasks.{Done};
 ghost use Rattle.tool_parts.specs.DesignInput.{TakesInput};
@@ -15,14 +15,13 @@ use crate::faults::stat_stop;
 use chipdb_reader::ChipDb;
 use clap::{ArgMatches, Command};
 use ice_image::AnyImage;
-use ice_io::{Files, Sink, Source};
 use ice_stat::stat;
 use std::alloc::{AllocError, Global};
 use tool_parts::{
-    CommandLine, DB_LIMIT, DesignInput, IMAGE_LIMIT, LAYOUT_LIMIT, Taking, long_option, positional,
-    required, run_tool, value, with, with_layout,
+    CommandLine, DB_LIMIT, DesignInput, IMAGE_LIMIT, LAYOUT_LIMIT, Taking, Words, long_option,
+    positional, required, run_tool, value, with, with_layout,
 };
-use tool_run::{AtOnce, Job, Load, PieceTool, Stop, answer_at_once, perform_in_pieces};
+use tool_run::{AtOnce, Host, Job, Load, PieceTool, Stop};
 
 /// The command line of `icebox_stat`.
 pub const ICEBOX_STAT_USAGE: &str = "icebox_stat [--layout FILE] DB [IMAGE]";
@@ -181,17 +180,8 @@ fn inputs_in<'a>(matches: &ArgMatches<'a>) -> Option<Inputs<'a>>
 }
 
 // Counts by the files of the arguments.
-fn count_files<F: Files, I: Source, O: Sink, E: Sink>(
-    alloc: Global,
-    inputs: Inputs<'_>,
-    files: &mut F,
-    input: &mut I,
-    output: &mut O,
-    errors: &mut E,
-) -> u8
-    ensures { Does (outside F.contents F.steady F.load_faults F.store_faults I.left I.faults O.held O.faults E.held E.faults)
-        (stat_task_for (Some inputs.entry)) result
-        (scene files.old input.old output.old errors.old) (scene files.new input.new output.new errors.new) }
+fn count_files<H: Host>(alloc: Global, inputs: Inputs<'_>, host: &mut H) -> u8
+    ensures { Does H.outside (stat_task_for (Some inputs.entry)) result (H.scene host.old) (H.scene host.new) }
 {
     let loads = [
         Load {
@@ -215,29 +205,7 @@ fn count_files<F: Files, I: Source, O: Sink, E: Sink>(
         loads: with_layout(inputs.layout, &loads),
         target: None,
     };
-    perform_in_pieces(alloc, &tool, &job, files, input, output, errors)
-}
-
-// Does what the arguments ask for, where they are taken.
-fn do_inputs<F: Files, I: Source, O: Sink, E: Sink>(
-    alloc: Global,
-    inputs: Option<Inputs<'_>>,
-    files: &mut F,
-    input: &mut I,
-    output: &mut O,
-    errors: &mut E,
-) -> u8
-    ensures { Does (outside F.contents F.steady F.load_faults F.store_faults I.left I.faults O.held O.faults E.held E.faults)
-        (stat_task_for inputs.entry) result
-        (scene files.old input.old output.old errors.old) (scene files.new input.new output.new errors.new) }
-{
-    match inputs {
-        Some(inputs) => count_files(alloc, inputs, files, input, output, errors),
-        None => {
-            let answer = AtOnce::UsageError(ICEBOX_STAT_USAGE);
-            answer_at_once(alloc, "icebox_stat", answer, files, input, output, errors)
-        }
-    }
+    host.perform_in_pieces(alloc, &tool, &job)
 }
 
 /// `icebox_stat` by its command line.
@@ -250,33 +218,26 @@ impl CommandLine for IceboxStat {
 
     ghost manual = { icebox_stat };
 
-    fn name(&self) -> &'static str {
-        "icebox_stat"
-    }
-
-    fn usage(&self) -> &'static str {
-        ICEBOX_STAT_USAGE
-    }
-
-    fn help(&self) -> &'static str {
-        ICEBOX_STAT_HELP
+    fn words(&self) -> Words {
+        Words {
+            name: "icebox_stat",
+            usage: ICEBOX_STAT_USAGE,
+            help: ICEBOX_STAT_HELP,
+        }
     }
 
     fn command<'a>(&self, alloc: Global) -> Result<Command<'a>, AllocError> {
         command(alloc)
     }
 
-    fn perform<F: Files, I: Source, O: Sink, E: Sink>(
+    fn perform<H: Host>(
         &self,
         alloc: Global,
         matches: &ArgMatches<'_>,
-        files: &mut F,
-        input: &mut I,
-        output: &mut O,
-        errors: &mut E,
-    ) -> u8 {
-        let inputs = inputs_in(matches);
-        do_inputs(alloc, inputs, files, input, output, errors)
+        host: &mut H,
+    ) -> Option<u8> {
+        let inputs = inputs_in(matches)?;
+        Some(count_files(alloc, inputs, host))
     }
 
     ghost simple = { stat-simple };
@@ -285,17 +246,8 @@ impl CommandLine for IceboxStat {
 }
 
 /// Runs `icebox_stat` with these arguments, of which the first is its name.
-pub fn run_icebox_stat<F: Files, I: Source, O: Sink, E: Sink>(
-    alloc: Global,
-    args: &[String],
-    files: &mut F,
-    input: &mut I,
-    output: &mut O,
-    errors: &mut E,
-) -> u8
-    ensures { Does (outside F.contents F.steady F.load_faults F.store_faults I.left I.faults O.held O.faults E.held E.faults)
-        (stat_outcome (map string_bytes args.now)) result
-        (scene files.old input.old output.old errors.old) (scene files.new input.new output.new errors.new) }
+pub fn run_icebox_stat<H: Host>(alloc: Global, args: &[String], host: &mut H) -> u8
+    ensures { Does H.outside (stat_outcome (map string_bytes args.now)) result (H.scene host.old) (H.scene host.new) }
 {
-    run_tool(alloc, &IceboxStat, args, files, input, output, errors)
+    run_tool(alloc, &IceboxStat, args, host)
 }

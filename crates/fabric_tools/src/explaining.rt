@@ -2,7 +2,7 @@
 ghost use Rattle.std.specs.Prelude.{◌≡◌, [], ℕ, Bool, List, map, string_bytes, IfOk, IfErr, Some};
 ghost use Rattle.chipdb_reader.specs.Kept.{database_in};
 ghost use Rattle.tool_run.specs.Needs.{text_of};
-ghost use Rattle.tool_run.specs.Runs.{Does, outside, scene};
+ghost use Rattle.tool_run.specs.Runs.{Does};
 ghost use Rattle.tool_run.specs.Stops.{StopsWith};
 ghost use Rattle.tool_run.specs.Tasks.{Done};
 ghost use Rattle.tool_parts.specs.DesignInput.{TakesInput};
@@ -16,13 +16,13 @@ use asc_text::TileXy;
 use chipdb_reader::ChipDb;
 use clap::{ArgMatches, Command};
 use ice_image::AnyImage;
-use ice_io::{Files, Sink, Source};
 use std::alloc::{AllocError, Global};
 use tile_bits::{ExplainFault, explain};
 use tool_parts::{
-    CommandLine, DB_LIMIT, DesignInput, IMAGE_LIMIT, LAYOUT_LIMIT, Taking, run_tool, with_layout,
+    CommandLine, DB_LIMIT, DesignInput, IMAGE_LIMIT, LAYOUT_LIMIT, Taking, Words, run_tool,
+    with_layout,
 };
-use tool_run::{AtOnce, Job, Load, PieceTool, Stop, answer_at_once, perform_in_pieces};
+use tool_run::{AtOnce, Host, Job, Load, PieceTool, Stop};
 
 /// Explains an image by a database: one tile, or all. The image is read under the layouts of a file that comes first where one is
 /// named.
@@ -100,17 +100,8 @@ fn text_of(
 }
 
 // Explains by the files of a request.
-fn explain_files<F: Files, I: Source, O: Sink, E: Sink>(
-    alloc: Global,
-    request: Request<'_>,
-    files: &mut F,
-    input: &mut I,
-    output: &mut O,
-    errors: &mut E,
-) -> u8
-    ensures { Does (outside F.contents F.steady F.load_faults F.store_faults I.left I.faults O.held O.faults E.held E.faults)
-        (explain_task_for (Some request.entry)) result
-        (scene files.old input.old output.old errors.old) (scene files.new input.new output.new errors.new) }
+fn explain_files<H: Host>(alloc: Global, request: Request<'_>, host: &mut H) -> u8
+    ensures { Does H.outside (explain_task_for (Some request.entry)) result (H.scene host.old) (H.scene host.new) }
 {
     let loads = [
         Load {
@@ -135,37 +126,7 @@ fn explain_files<F: Files, I: Source, O: Sink, E: Sink>(
         loads: with_layout(request.layout, &loads),
         target: None,
     };
-    perform_in_pieces(alloc, &tool, &job, files, input, output, errors)
-}
-
-// Does what the arguments ask for, where they are taken.
-fn do_request<F: Files, I: Source, O: Sink, E: Sink>(
-    alloc: Global,
-    request: Option<Request<'_>>,
-    files: &mut F,
-    input: &mut I,
-    output: &mut O,
-    errors: &mut E,
-) -> u8
-    ensures { Does (outside F.contents F.steady F.load_faults F.store_faults I.left I.faults O.held O.faults E.held E.faults)
-        (explain_task_for request.entry) result
-        (scene files.old input.old output.old errors.old) (scene files.new input.new output.new errors.new) }
-{
-    match request {
-        Some(request) => explain_files(alloc, request, files, input, output, errors),
-        None => {
-            let answer = AtOnce::UsageError(ICEBOX_EXPLAIN_USAGE);
-            answer_at_once(
-                alloc,
-                "icebox_explain",
-                answer,
-                files,
-                input,
-                output,
-                errors,
-            )
-        }
-    }
+    host.perform_in_pieces(alloc, &tool, &job)
 }
 
 /// `icebox_explain` by its command line.
@@ -178,33 +139,26 @@ impl CommandLine for IceboxExplain {
 
     ghost manual = { icebox_explain };
 
-    fn name(&self) -> &'static str {
-        "icebox_explain"
-    }
-
-    fn usage(&self) -> &'static str {
-        ICEBOX_EXPLAIN_USAGE
-    }
-
-    fn help(&self) -> &'static str {
-        ICEBOX_EXPLAIN_HELP
+    fn words(&self) -> Words {
+        Words {
+            name: "icebox_explain",
+            usage: ICEBOX_EXPLAIN_USAGE,
+            help: ICEBOX_EXPLAIN_HELP,
+        }
     }
 
     fn command<'a>(&self, alloc: Global) -> Result<Command<'a>, AllocError> {
         command(alloc)
     }
 
-    fn perform<F: Files, I: Source, O: Sink, E: Sink>(
+    fn perform<H: Host>(
         &self,
         alloc: Global,
         matches: &ArgMatches<'_>,
-        files: &mut F,
-        input: &mut I,
-        output: &mut O,
-        errors: &mut E,
-    ) -> u8 {
-        let request = request_in(matches);
-        do_request(alloc, request, files, input, output, errors)
+        host: &mut H,
+    ) -> Option<u8> {
+        let request = request_in(matches)?;
+        Some(explain_files(alloc, request, host))
     }
 
     ghost simple = { explain-simple };
@@ -213,17 +167,8 @@ impl CommandLine for IceboxExplain {
 }
 
 /// Runs `icebox_explain` with these arguments, of which the first is its name.
-pub fn run_icebox_explain<F: Files, I: Source, O: Sink, E: Sink>(
-    alloc: Global,
-    args: &[String],
-    files: &mut F,
-    input: &mut I,
-    output: &mut O,
-    errors: &mut E,
-) -> u8
-    ensures { Does (outside F.contents F.steady F.load_faults F.store_faults I.left I.faults O.held O.faults E.held E.faults)
-        (explain_outcome (map string_bytes args.now)) result
-        (scene files.old input.old output.old errors.old) (scene files.new input.new output.new errors.new) }
+pub fn run_icebox_explain<H: Host>(alloc: Global, args: &[String], host: &mut H) -> u8
+    ensures { Does H.outside (explain_outcome (map string_bytes args.now)) result (H.scene host.old) (H.scene host.new) }
 {
-    run_tool(alloc, &IceboxExplain, args, files, input, output, errors)
+    run_tool(alloc, &IceboxExplain, args, host)
 }

@@ -117,7 +117,7 @@ module _ (args : List Text) where
       by_case false = refl
 
   pub run-kept : {F I O E : Type 0} (by : Outside F I O E) (status : ℕ) (old new : Scene F I O E) → Does by (vlogrun_outcome args) status old new
-      → PromisesRun args status (by.contents old.files) (by.left old.input) (by.held old.output) (by.held new.output)
+      → PromisesRun by args status old new
   run-kept by status old new does done asks untold =
       let same : asked vlogrun args ≡ vlogrun_outcome args = helped-no vlogrun_name VLOGRUN_HELP.now args (asked vlogrun args) asks in
       helped-kept (RunsFabric (shows_registers args)) by (asked vlogrun args) (vlogrun_outcome args) status old new same (task-runs untold) task-target does done

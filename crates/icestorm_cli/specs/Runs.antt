@@ -1,7 +1,6 @@
 -- What a run of `vlogrun` promises of a module that is that of a design: it is the run of the design's fabric.
 use Rattle.std.specs.Prelude.{◌≡◌, ℕ, Bool, false, List, [], codes, flat_map, get_or, Option, None, Some}
 use Rattle.clap.specs.Words.{matches_of}
-use Rattle.ice_io.specs.Files.{FileMap}
 use Rattle.ice_image.specs.Configuration.{Configuration}
 use Rattle.chipdb_reader.specs.Database.{Database}
 use Rattle.vlog_module.specs.declared.modules.Port.{Port}
@@ -16,6 +15,7 @@ use Rattle.fabric.specs.Design.{IsDesignOf}
 use Rattle.fabric_module.specs.Written.{module_of, pin_ports}
 use Rattle.pin_file.specs.declared.pin_name.PinName.{PinName}
 use Rattle.named_ports.specs.Named.{AreAccepted, named_module, named_ports}
+use Rattle.tool_run.specs.Runs.{Outside, Scene}
 use Rattle.tool_run.specs.Tasks.{asks_for_help}
 use Rattle.tool_parts.specs.Appended.{AppendsFor}
 use Rattle.tool_parts.specs.Commands.{has_flag}
@@ -62,8 +62,9 @@ shows_registers args = has_flag (codes "registers") (matches_of vlogrun_command 
 abbrev pub tells_waves : List (List ℕ) → Bool
 tells_waves args = has_flag (codes "vcd") (matches_of vlogrun_command args)
 
--- Where a run of `vlogrun` with these arguments has status 0, and isn't asked for help or for waves, and its text spells the module of a
--- design, the bytes that it appended are the lines of the run of the design's fabric.
-abbrev pub PromisesRun : List (List ℕ) → ℕ → Option FileMap → Option (List ℕ) → Option (List ℕ) → Option (List ℕ) → Type 0
-PromisesRun args status contents left held new_held =
-    status ≡ 0 → asks_for_help args ≡ false → tells_waves args ≡ false → AppendsFor (RunsFabric (shows_registers args)) (vlogrun_outcome args) contents left held new_held
+-- If a run of `vlogrun` with these arguments has status 0, and isn't asked for help or for waves, then there are texts of its files and of
+-- standard input for which the bytes that it appended are the lines of the run of a design's fabric, if the first text spells that design's
+-- module. What files and input tell of their contents are these texts; of real ones nothing is told, and each is within its limit.
+abbrev pub PromisesRun : {F I O E : Type 0} → Outside F I O E → List (List ℕ) → ℕ → Scene F I O E → Scene F I O E → Type 0
+PromisesRun by args status old new =
+    status ≡ 0 → asks_for_help args ≡ false → tells_waves args ≡ false → AppendsFor by (RunsFabric (shows_registers args)) (vlogrun_outcome args) old new

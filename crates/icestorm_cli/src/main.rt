@@ -9,22 +9,17 @@ use crate::starting::start;
 use ice_io::{DirFiles, StdSink, StdSource};
 use std::env;
 use std::process::ExitCode;
+use tool_run::FilesAndStreams;
 
 fn main(rt: HostRuntime) -> ExitCode {
-    let mut files = DirFiles::new(&rt);
-    let mut input = StdSource::new(rt.stdin());
-    let mut output = StdSink::new(rt.stdout());
-    let mut errors = StdSink::new(rt.stderr());
+    let mut host = FilesAndStreams {
+        files: DirFiles::new(&rt),
+        input: StdSource::new(rt.stdin()),
+        output: StdSink::new(rt.stdout()),
+        errors: StdSink::new(rt.stderr()),
+    };
     let args = env::args(&rt);
-    let status = start(
-        rt.alloc(),
-        args,
-        &mut files,
-        &mut input,
-        &mut output,
-        &mut errors,
-    );
-    ExitCode::from(status)
+    ExitCode::from(start(rt.alloc(), args, &mut host))
 }
 
 #[cfg(test)]

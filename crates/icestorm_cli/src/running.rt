@@ -1,7 +1,7 @@
 // The top call: arguments, files and streams to a status.
 ghost use Rattle.std.specs.Prelude.{◌≡◌, None, Some, map, string_bytes};
 ghost use Rattle.tool_run.specs.AtOnce.{at_once_answer};
-ghost use Rattle.tool_run.specs.Runs.{Does, outside, scene};
+ghost use Rattle.tool_run.specs.Runs.{Does};
 ghost use Rattle.tool_run.specs.Tasks.{Task, at_once};
 ghost use Rattle.design_tools.specs.Fabric.{PromisesFabric};
 ghost use Rattle.net_extract.specs.Unique.{ExactlyOne};
@@ -13,11 +13,10 @@ use crate::tool::{HELP, Tool, VERSION, tool_of};
 use bitstream_tools::{run_icebram, run_icemulti, run_icepack, run_icesplit, run_iceunpack};
 use design_tools::run_icebox_vlog;
 use fabric_tools::{run_icebox_explain, run_icebox_stat};
-use ice_io::{Files, Sink, Source};
 use job_tools::run_selfrun;
 use module_tools::{run_vlogrun, run_vlogsweep};
 use std::alloc::Global;
-use tool_run::{AtOnce, answer_at_once};
+use tool_run::{AtOnce, Host};
 
 // What the program answers to one word that names no tool.
 fn answer_to(word: &str) -> AtOnce
@@ -46,41 +45,30 @@ fn own_answer(args: &[String]) -> AtOnce
 /// where memory ran out, and 6 where an input has more bytes than its limit. The first that refuses decides, in this order:
 /// the arguments, what is loaded, a layout file first and then in the order of the arguments with standard input last, the tool, the
 /// target.
-pub fn run<F: Files, I: Source, O: Sink, E: Sink>(
-    alloc: Global,
-    args: &[String],
-    files: &mut F,
-    input: &mut I,
-    output: &mut O,
-    errors: &mut E,
-) -> u8
+pub fn run<H: Host>(alloc: Global, args: &[String], host: &mut H) -> u8
     ensures does { (task : Task) → IsOutcome (map string_bytes args.now) task
-        → Does (outside F.contents F.steady F.load_faults F.store_faults I.left I.faults O.held O.faults E.held E.faults)
-        task result
-        (scene files.old input.old output.old errors.old) (scene files.new input.new output.new errors.new) }
+        → Does H.outside task result (H.scene host.old) (H.scene host.new) }
     ensures one_answer { tool_of (map string_bytes args.now) ≡ Some Tool.Selfrun → ExactlyOne (IsSelfrunAnswer (map string_bytes args.now)) }
     ensures written_fabric { tool_of (map string_bytes args.now) ≡ Some Tool.IceboxVlog
-        → PromisesFabric (map string_bytes args.now) result (F.contents files.old) (I.left input.old) (O.held output.old) (O.held output.new) }
+        → PromisesFabric H.outside (map string_bytes args.now) result (H.scene host.old) (H.scene host.new) }
     ensures run_of_fabric { tool_of (map string_bytes args.now) ≡ Some Tool.Vlogrun
-        → PromisesRun (map string_bytes args.now) result (F.contents files.old) (I.left input.old) (O.held output.old) (O.held output.new) }
+        → PromisesRun H.outside (map string_bytes args.now) result (H.scene host.old) (H.scene host.new) }
 {
     match tool_of(args) {
-        Some(Tool::Icepack) => run_icepack(alloc, args, files, input, output, errors),
-        Some(Tool::Iceunpack) => run_iceunpack(alloc, args, files, input, output, errors),
-        Some(Tool::Icemulti) => run_icemulti(alloc, args, files, input, output, errors),
-        Some(Tool::Icesplit) => run_icesplit(alloc, args, files, input, output, errors),
-        Some(Tool::Icebram) => run_icebram(alloc, args, files, input, output, errors),
-        Some(Tool::IceboxExplain) => {
-            run_icebox_explain(alloc, args, files, input, output, errors)
-        }
-        Some(Tool::IceboxStat) => run_icebox_stat(alloc, args, files, input, output, errors),
-        Some(Tool::IceboxVlog) => run_icebox_vlog(alloc, args, files, input, output, errors),
-        Some(Tool::Vlogrun) => run_vlogrun(alloc, args, files, input, output, errors),
-        Some(Tool::Vlogsweep) => run_vlogsweep(alloc, args, files, input, output, errors),
-        Some(Tool::Selfrun) => run_selfrun(alloc, args, files, input, output, errors),
+        Some(Tool::Icepack) => run_icepack(alloc, args, host),
+        Some(Tool::Iceunpack) => run_iceunpack(alloc, args, host),
+        Some(Tool::Icemulti) => run_icemulti(alloc, args, host),
+        Some(Tool::Icesplit) => run_icesplit(alloc, args, host),
+        Some(Tool::Icebram) => run_icebram(alloc, args, host),
+        Some(Tool::IceboxExplain) => { run_icebox_explain(alloc, args, host) }
+        Some(Tool::IceboxStat) => run_icebox_stat(alloc, args, host),
+        Some(Tool::IceboxVlog) => run_icebox_vlog(alloc, args, host),
+        Some(Tool::Vlogrun) => run_vlogrun(alloc, args, host),
+        Some(Tool::Vlogsweep) => run_vlogsweep(alloc, args, host),
+        Some(Tool::Selfrun) => run_selfrun(alloc, args, host),
         None => {
             let answer = own_answer(args);
-            answer_at_once(alloc, "icestorm", answer, files, input, output, errors)
+            host.answer_at_once(alloc, "icestorm", answer)
         }
     }
 }

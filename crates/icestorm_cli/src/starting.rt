@@ -2,14 +2,13 @@
 ghost use Rattle.std.specs.Prelude.{◌≡◌, ◌≢◌, IfErr, IfOk, map, string_bytes};
 ghost use Rattle.std.specs.IoError.{error_kind};
 ghost use Rattle.std.specs.Vec.Iter.{into_iter_items};
-ghost use Rattle.tool_run.specs.Runs.{outside, scene};
 ghost use Rattle.icestorm_cli.specs.Starts.{DoesArgs, Starts};
 
 use crate::running::run;
-use ice_io::{Files, Sink, Source};
 use std::alloc::{AllocError, Global};
 use std::env::Args;
 use std::io::{self, ErrorKind};
+use tool_run::Host;
 
 /// The exit status where there is no memory for the arguments.
 const OUT_OF_MEMORY: u8 = 5;
@@ -40,39 +39,21 @@ fn listed(alloc: Global, args: Args) -> Result<Vec<String>, AllocError>
 }
 
 /// Does what the arguments after the first one ask for.
-fn run_args<F: Files, I: Source, O: Sink, E: Sink>(
-    alloc: Global,
-    args: &[String],
-    files: &mut F,
-    input: &mut I,
-    output: &mut O,
-    errors: &mut E,
-) -> u8
-    ensures { DoesArgs (outside F.contents F.steady F.load_faults F.store_faults I.left I.faults O.held O.faults E.held E.faults)
-        (map string_bytes args.now) result
-        (scene files.old input.old output.old errors.old) (scene files.new input.new output.new errors.new) }
+fn run_args<H: Host>(alloc: Global, args: &[String], host: &mut H) -> u8
+    ensures { DoesArgs H.outside (map string_bytes args.now) result (H.scene host.old) (H.scene host.new) }
 {
     match args {
-        [] => run(alloc, args, files, input, output, errors),
-        [_, args @ ..] => run(alloc, args, files, input, output, errors),
+        [] => run(alloc, args, host),
+        [_, args @ ..] => run(alloc, args, host),
     }
 }
 
 /// Lists the arguments and does what those after the first one ask for.
-fn start_args<F: Files, I: Source, O: Sink, E: Sink>(
-    alloc: Global,
-    args: Args,
-    files: &mut F,
-    input: &mut I,
-    output: &mut O,
-    errors: &mut E,
-) -> u8
-    ensures { Starts (outside F.contents F.steady F.load_faults F.store_faults I.left I.faults O.held O.faults E.held E.faults)
-        (map string_bytes (into_iter_items args)) result
-        (scene files.old input.old output.old errors.old) (scene files.new input.new output.new errors.new) }
+fn start_args<H: Host>(alloc: Global, args: Args, host: &mut H) -> u8
+    ensures { Starts H.outside (map string_bytes (into_iter_items args)) result (H.scene host.old) (H.scene host.new) }
 {
     match listed(alloc, args) {
-        Ok(args) => run_args(alloc, args.as_slice(), files, input, output, errors),
+        Ok(args) => run_args(alloc, args.as_slice(), host),
         Err(AllocError) => OUT_OF_MEMORY,
     }
 }
@@ -80,23 +61,14 @@ fn start_args<F: Files, I: Source, O: Sink, E: Sink>(
 /// Runs the program with what the environment gives as its arguments, the first of which is the program's own name, and answers the exit
 /// status. What the others ask for is done. If there is no memory for them, or if the environment gives an error in place of arguments, nothing
 /// is touched: the status is 5 for out of memory, and 2 for an argument that isn't UTF-8.
-pub fn start<F: Files, I: Source, O: Sink, E: Sink>(
-    alloc: Global,
-    args: io::Result<Args>,
-    files: &mut F,
-    input: &mut I,
-    output: &mut O,
-    errors: &mut E,
-) -> u8
-    ensures given { IfOk args (λ args. Starts (outside F.contents F.steady F.load_faults F.store_faults I.left I.faults O.held O.faults E.held E.faults)
-        (map string_bytes (into_iter_items args)) result
-        (scene files.old input.old output.old errors.old) (scene files.new input.new output.new errors.new)) }
+pub fn start<H: Host>(alloc: Global, args: io::Result<Args>, host: &mut H) -> u8
+    ensures given { IfOk args (λ args. Starts H.outside (map string_bytes (into_iter_items args)) result (H.scene host.old) (H.scene host.new)) }
     ensures memory { IfErr args (λ error. error_kind error ≡ ErrorKind.OutOfMemory → result ≡ 5) }
     ensures other { IfErr args (λ error. error_kind error ≢ ErrorKind.OutOfMemory → result ≡ 2) }
-    ensures untouched { IfErr args (λ error. scene files.new input.new output.new errors.new ≡ scene files.old input.old output.old errors.old) }
+    ensures untouched { IfErr args (λ error. H.scene host.new ≡ H.scene host.old) }
 {
     match args {
-        Ok(args) => start_args(alloc, args, files, input, output, errors),
+        Ok(args) => start_args(alloc, args, host),
         Err(error) => status_without_args(error.kind()),
     }
 }

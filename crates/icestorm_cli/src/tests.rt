@@ -8,6 +8,7 @@ mod turns;
 use crate::running::run;
 use ice_io::{MemFiles, MemSink, MemSource, NamedFile};
 use std::alloc::{AllocError, Global};
+use tool_run::FilesAndStreams;
 
 /// The name and the bytes of a file.
 type Named<'a> = (&'a str, &'a [u8]);
@@ -91,15 +92,12 @@ impl Ended {
 /// Files and streams of a run.
 #[derive(Drop)]
 struct Stage {
-    files: MemFiles,
-    input: MemSource,
-    output: MemSink,
-    errors: MemSink,
+    host: FilesAndStreams<MemFiles, MemSource, MemSink, MemSink>,
 }
 
 impl Stage {
     fn new(alloc: Global, setup: Setup<'_>) -> Result<Stage, AllocError> {
-        Ok(Stage {
+        let host = FilesAndStreams {
             files: files_of(alloc, setup)?,
             input: MemSource::new(
                 setup.input.to_vec(alloc)?,
@@ -108,29 +106,28 @@ impl Stage {
             ),
             output: sink(alloc, OUTPUT_ROOM, setup.part.most(), setup.failing_write)?,
             errors: sink(alloc, 100, 7, setup.failing_line)?,
-        })
+        };
+        Ok(Stage { host })
     }
 
     /// The status of these words.
     fn run(&mut self, alloc: Global, words: &[&str]) -> Result<u8, AllocError> {
         let line = line_of(alloc, words)?;
-        Ok(run(
-            alloc,
-            &line,
-            &mut self.files,
-            &mut self.input,
-            &mut self.output,
-            &mut self.errors,
-        ))
+        Ok(run(alloc, &line, &mut self.host))
     }
 
     /// What is left where that is the status.
     fn left(&self, alloc: Global, status: u8) -> Result<Ended, AllocError> {
         Ok(Ended {
             status,
-            output: self.output.bytes().to_vec(alloc)?,
-            errors: self.errors.bytes().to_vec(alloc)?,
-            stored: self.files.bytes_of("out").unwrap_or(&[]).to_vec(alloc)?,
+            output: self.host.output.bytes().to_vec(alloc)?,
+            errors: self.host.errors.bytes().to_vec(alloc)?,
+            stored: self
+                .host
+                .files
+                .bytes_of("out")
+                .unwrap_or(&[])
+                .to_vec(alloc)?,
         })
     }
 }

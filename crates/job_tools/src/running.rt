@@ -10,7 +10,7 @@ ghost use Rattle.net_extract.specs.Faults.{design_fault};
 ghost use Rattle.net_extract.specs.Steps.{Entry, IsRun};
 ghost use Rattle.net_extract.specs.Unique.{ExactlyOne};
 ghost use Rattle.fabric.specs.Design.{IsDesignOf};
-ghost use Rattle.tool_run.specs.Runs.{Does, outside, scene};
+ghost use Rattle.tool_run.specs.Runs.{Does};
 ghost use Rattle.tool_run.specs.Tasks.{Answer, Done, at_once};
 ghost use Rattle.tool_parts.specs.Databases.{database_read};
 ghost use Rattle.job_tools.specs.Counted.{counts_text, counts_with};
@@ -25,10 +25,9 @@ use design_parts::design_stop;
 use fabric::{Design, design};
 use ice_gen::{chipdb, image};
 use ice_image::AnyImage;
-use ice_io::{Files, Sink, Source};
 use std::alloc::{AllocError, Global};
 use tool_parts::read_database;
-use tool_run::{AtOnce, Job, Stop, Tool, answer_at_once, asks_for_help, give_up, perform};
+use tool_run::{AtOnce, Host, Job, Stop, Tool, asks_for_help};
 
 /// Tells a text that was made.
 #[derive(Clone, Copy, Debug, PartialEq, Eq)]
@@ -155,19 +154,10 @@ fn told(alloc: Global, request: Request) -> Result<Vec<u8>, Stop<'static>>
 }
 
 // Tells what is made of a request.
-fn tell<F: Files, I: Source, O: Sink, E: Sink>(
-    alloc: Global,
-    request: Request,
-    files: &mut F,
-    input: &mut I,
-    output: &mut O,
-    errors: &mut E,
-) -> u8
+fn tell<H: Host>(alloc: Global, request: Request, host: &mut H) -> u8
     requires { has_database request.device ≡ true }
     ensures { (answer : Answer) → IsAnswer request answer
-        → Does (outside F.contents F.steady F.load_faults F.store_faults I.left I.faults O.held O.faults E.held E.faults)
-        (at_once selfrun_name None answer) result
-        (scene files.old input.old output.old errors.old) (scene files.new input.new output.new errors.new) }
+        → Does H.outside (at_once selfrun_name None answer) result (H.scene host.old) (H.scene host.new) }
 {
     let tool_name = "selfrun";
     match told(alloc, request) {
@@ -178,60 +168,42 @@ fn tell<F: Files, I: Source, O: Sink, E: Sink>(
                 target: None,
             };
             let tool = Telling { text: &text };
-            perform(alloc, &tool, &job, files, input, output, errors)
+            host.perform(alloc, &tool, &job)
         }
         Err(Stop::Refused(refusal)) => {
             let answer = AtOnce::Refuses(refusal);
-            answer_at_once(alloc, tool_name, answer, files, input, output, errors)
+            host.answer_at_once(alloc, tool_name, answer)
         }
         Err(Stop::UsageError(_)) => unreachable!(),
-        Err(Stop::Memory) => give_up(tool_name, files, input, output, errors),
+        Err(Stop::Memory) => host.give_up(tool_name),
     }
 }
 
 // Does what the arguments ask for.
-fn do_args<F: Files, I: Source, O: Sink, E: Sink>(
-    alloc: Global,
-    args: &[String],
-    files: &mut F,
-    input: &mut I,
-    output: &mut O,
-    errors: &mut E,
-) -> u8
+fn do_args<H: Host>(alloc: Global, args: &[String], host: &mut H) -> u8
     ensures { (answer : Answer) → IsSelfrunAnswer (map string_bytes args.now) answer
-        → Does (outside F.contents F.steady F.load_faults F.store_faults I.left I.faults O.held O.faults E.held E.faults)
-        (at_once selfrun_name None answer) result
-        (scene files.old input.old output.old errors.old) (scene files.new input.new output.new errors.new) }
+        → Does H.outside (at_once selfrun_name None answer) result (H.scene host.old) (H.scene host.new) }
 {
     let tool_name = "selfrun";
     match request_of(alloc, args) {
-        Ok(Some(request)) => tell(alloc, request, files, input, output, errors),
+        Ok(Some(request)) => tell(alloc, request, host),
         Ok(None) => {
             let answer = AtOnce::UsageError(SELFRUN_USAGE);
-            answer_at_once(alloc, tool_name, answer, files, input, output, errors)
+            host.answer_at_once(alloc, tool_name, answer)
         }
-        Err(AllocError) => give_up(tool_name, files, input, output, errors),
+        Err(AllocError) => host.give_up(tool_name),
     }
 }
 
 /// Runs `selfrun` with these arguments, of which the first is its name.
-pub fn run_selfrun<F: Files, I: Source, O: Sink, E: Sink>(
-    alloc: Global,
-    args: &[String],
-    files: &mut F,
-    input: &mut I,
-    output: &mut O,
-    errors: &mut E,
-) -> u8
+pub fn run_selfrun<H: Host>(alloc: Global, args: &[String], host: &mut H) -> u8
     ensures one_answer { ExactlyOne (IsSelfrunAnswer (map string_bytes args.now)) }
     ensures does { (answer : Answer) → IsSelfrunAnswer (map string_bytes args.now) answer
-        → Does (outside F.contents F.steady F.load_faults F.store_faults I.left I.faults O.held O.faults E.held E.faults)
-        (selfrun_outcome (map string_bytes args.now) answer) result
-        (scene files.old input.old output.old errors.old) (scene files.new input.new output.new errors.new) }
+        → Does H.outside (selfrun_outcome (map string_bytes args.now) answer) result (H.scene host.old) (H.scene host.new) }
 {
     if asks_for_help(args) {
         let answer = AtOnce::Tells(SELFRUN_HELP);
-        return answer_at_once(alloc, "selfrun", answer, files, input, output, errors);
+        return host.answer_at_once(alloc, "selfrun", answer);
     }
-    do_args(alloc, args, files, input, output, errors)
+    do_args(alloc, args, host)
 }

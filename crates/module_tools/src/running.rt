@@ -1,6 +1,6 @@
 // `vlogrun`: runs a module over a list of events.
 ghost use Rattle.std.specs.Prelude.{◌≡◌, map, string_bytes, IfOk, IfErr, Some};
-ghost use Rattle.tool_run.specs.Runs.{Does, outside, scene};
+ghost use Rattle.tool_run.specs.Runs.{Does};
 ghost use Rattle.tool_run.specs.Stops.{StopsWith};
 ghost use Rattle.tool_run.specs.Tasks.{Done};
 ghost use Rattle.vlog_cycle.specs.Events.{event_fault};
@@ -13,10 +13,9 @@ use crate::request::{Request, VLOGRUN_HELP, VLOGRUN_USAGE, command, request_in};
 use crate::told::Told;
 use crate::tracing::Tracing;
 use clap::{ArgMatches, Command};
-use ice_io::{Files, Sink, Source};
 use std::alloc::{AllocError, Global};
-use tool_parts::{CommandLine, run_tool};
-use tool_run::{AtOnce, Job, Load, Stop, Tool, answer_at_once, loaded_at, perform};
+use tool_parts::{CommandLine, Words, run_tool};
+use tool_run::{AtOnce, Host, Job, Load, Stop, Tool, loaded_at};
 use vlog_cycle::{EventFault, read_events, run_text};
 use vlog_text::{Module, VlogFault, parse};
 
@@ -89,17 +88,8 @@ fn run_module(
 }
 
 // Runs by the files of a request.
-fn run_files<F: Files, I: Source, O: Sink, E: Sink>(
-    alloc: Global,
-    request: Request<'_>,
-    files: &mut F,
-    input: &mut I,
-    output: &mut O,
-    errors: &mut E,
-) -> u8
-    ensures { Does (outside F.contents F.steady F.load_faults F.store_faults I.left I.faults O.held O.faults E.held E.faults)
-        (vlogrun_task_for (Some request.entry)) result
-        (scene files.old input.old output.old errors.old) (scene files.new input.new output.new errors.new) }
+fn run_files<H: Host>(alloc: Global, request: Request<'_>, host: &mut H) -> u8
+    ensures { Does H.outside (vlogrun_task_for (Some request.entry)) result (H.scene host.old) (H.scene host.new) }
 {
     let loads = [
         Load {
@@ -119,31 +109,9 @@ fn run_files<F: Files, I: Source, O: Sink, E: Sink>(
     match request.told {
         Told::Lines { registers } => {
             let tool = Running { registers };
-            perform(alloc, &tool, &job, files, input, output, errors)
+            host.perform(alloc, &tool, &job)
         }
-        Told::Waves => perform(alloc, &Tracing, &job, files, input, output, errors),
-    }
-}
-
-// Does what the arguments ask for.
-fn do_request<F: Files, I: Source, O: Sink, E: Sink>(
-    alloc: Global,
-    request: Option<Request<'_>>,
-    files: &mut F,
-    input: &mut I,
-    output: &mut O,
-    errors: &mut E,
-) -> u8
-    ensures { Does (outside F.contents F.steady F.load_faults F.store_faults I.left I.faults O.held O.faults E.held E.faults)
-        (vlogrun_task_for request.entry) result
-        (scene files.old input.old output.old errors.old) (scene files.new input.new output.new errors.new) }
-{
-    match request {
-        Some(request) => run_files(alloc, request, files, input, output, errors),
-        None => {
-            let answer = AtOnce::UsageError(VLOGRUN_USAGE);
-            answer_at_once(alloc, "vlogrun", answer, files, input, output, errors)
-        }
+        Told::Waves => host.perform(alloc, &Tracing, &job),
     }
 }
 
@@ -157,33 +125,26 @@ impl CommandLine for Vlogrun {
 
     ghost manual = { vlogrun };
 
-    fn name(&self) -> &'static str {
-        "vlogrun"
-    }
-
-    fn usage(&self) -> &'static str {
-        VLOGRUN_USAGE
-    }
-
-    fn help(&self) -> &'static str {
-        VLOGRUN_HELP
+    fn words(&self) -> Words {
+        Words {
+            name: "vlogrun",
+            usage: VLOGRUN_USAGE,
+            help: VLOGRUN_HELP,
+        }
     }
 
     fn command<'a>(&self, alloc: Global) -> Result<Command<'a>, AllocError> {
         command(alloc)
     }
 
-    fn perform<F: Files, I: Source, O: Sink, E: Sink>(
+    fn perform<H: Host>(
         &self,
         alloc: Global,
         matches: &ArgMatches<'_>,
-        files: &mut F,
-        input: &mut I,
-        output: &mut O,
-        errors: &mut E,
-    ) -> u8 {
-        let request = request_in(matches);
-        do_request(alloc, request, files, input, output, errors)
+        host: &mut H,
+    ) -> Option<u8> {
+        let request = request_in(matches)?;
+        Some(run_files(alloc, request, host))
     }
 
     ghost simple = { vlogrun-simple };
@@ -192,17 +153,8 @@ impl CommandLine for Vlogrun {
 }
 
 /// Runs `vlogrun` with these arguments, of which the first is its name.
-pub fn run_vlogrun<F: Files, I: Source, O: Sink, E: Sink>(
-    alloc: Global,
-    args: &[String],
-    files: &mut F,
-    input: &mut I,
-    output: &mut O,
-    errors: &mut E,
-) -> u8
-    ensures { Does (outside F.contents F.steady F.load_faults F.store_faults I.left I.faults O.held O.faults E.held E.faults)
-        (vlogrun_outcome (map string_bytes args.now)) result
-        (scene files.old input.old output.old errors.old) (scene files.new input.new output.new errors.new) }
+pub fn run_vlogrun<H: Host>(alloc: Global, args: &[String], host: &mut H) -> u8
+    ensures { Does H.outside (vlogrun_outcome (map string_bytes args.now)) result (H.scene host.old) (H.scene host.new) }
 {
-    run_tool(alloc, &Vlogrun, args, files, input, output, errors)
+    run_tool(alloc, &Vlogrun, args, host)
 }

@@ -2,7 +2,7 @@
 ghost use Rattle.std.specs.Prelude.{◌≡◌, ◌≤◌, ◌<◌, ◌+◌, ◌++◌, ◌∷◌, [], All, drop, flat_map, length, map, string_bytes, vec_items, IfOk, IfErr, None, OnOk, Some};
 ghost use Rattle.clap.specs.Words.{found_of, rows_of};
 ghost use Rattle.tool_run.specs.Needs.{IsSound, need_of};
-ghost use Rattle.tool_run.specs.Runs.{Does, outside, scene};
+ghost use Rattle.tool_run.specs.Runs.{Does};
 ghost use Rattle.tool_run.specs.Stops.{StopsWith};
 ghost use Rattle.tool_run.specs.Tasks.{Done};
 ghost use Rattle.vlog_forms.specs.Outcome.{outcome_of};
@@ -14,10 +14,9 @@ use crate::faults::{file_refusal, vlog_refusal};
 use crate::running::MODULE_LIMIT;
 use crate::sweep_request::{SweepRequest, VLOGSWEEP_HELP, VLOGSWEEP_USAGE, command, request_in};
 use clap::{ArgMatches, Command};
-use ice_io::{Files, Sink, Source};
 use std::alloc::{AllocError, Global};
-use tool_parts::{CommandLine, run_tool};
-use tool_run::{AtOnce, Job, Load, Stop, Tool, answer_at_once, give_up, loaded_at, perform};
+use tool_parts::{CommandLine, Words, run_tool};
+use tool_run::{AtOnce, Host, Job, Load, Stop, Tool, loaded_at};
 use vlog_cycle::{EventFault, read_events};
 use vlog_sweep::{EventList, sweep};
 use vlog_text::{Module, VlogFault, parse};
@@ -183,73 +182,30 @@ fn loads_of<'a>(
 }
 
 // Runs over what these loads are, the module and then the lists of the tool's names.
-fn sweep_loads<F: Files, I: Source, O: Sink, E: Sink>(
-    alloc: Global,
-    tool: &Sweeping<'_>,
-    loads: &[Load<'_>],
-    files: &mut F,
-    input: &mut I,
-    output: &mut O,
-    errors: &mut E,
-) -> u8
+fn sweep_loads<H: Host>(alloc: Global, tool: &Sweeping<'_>, loads: &[Load<'_>], host: &mut H) -> u8
     requires { IsSound (map need_of loads.now) }
-    ensures { Does (outside F.contents F.steady F.load_faults F.store_faults I.left I.faults O.held O.faults E.held E.faults)
-        (task_over (map need_of loads.now) (names_of tool.now.names.items)) result
-        (scene files.old input.old output.old errors.old) (scene files.new input.new output.new errors.new) }
+    ensures { Does H.outside (task_over (map need_of loads.now) (names_of tool.now.names.items)) result (H.scene host.old) (H.scene host.new) }
 {
     let job = Job {
         tool_name: "vlogsweep",
         loads,
         target: None,
     };
-    perform(alloc, tool, &job, files, input, output, errors)
+    host.perform(alloc, tool, &job)
 }
 
 // Runs by the files of a request.
-fn sweep_files<F: Files, I: Source, O: Sink, E: Sink>(
-    alloc: Global,
-    request: SweepRequest<'_>,
-    files: &mut F,
-    input: &mut I,
-    output: &mut O,
-    errors: &mut E,
-) -> u8
+fn sweep_files<H: Host>(alloc: Global, request: SweepRequest<'_>, host: &mut H) -> u8
     requires { length request.names.items ≤ 64 }
-    ensures { Does (outside F.contents F.steady F.load_faults F.store_faults I.left I.faults O.held O.faults E.held E.faults)
-        (vlogsweep_task_for (Some request.entry)) result
-        (scene files.old input.old output.old errors.old) (scene files.new input.new output.new errors.new) }
+    ensures { Does H.outside (vlogsweep_task_for (Some request.entry)) result (H.scene host.old) (H.scene host.new) }
 {
     let SweepRequest { module, names } = request;
     match loads_of(alloc, module, &names) {
         Ok(loads) => {
             let tool = Sweeping { names };
-            sweep_loads(alloc, &tool, &loads, files, input, output, errors)
+            sweep_loads(alloc, &tool, &loads, host)
         }
-        Err(AllocError) => give_up("vlogsweep", files, input, output, errors),
-    }
-}
-
-// Does what was found in the arguments asks for.
-fn do_found<F: Files, I: Source, O: Sink, E: Sink>(
-    alloc: Global,
-    matches: &ArgMatches<'_>,
-    files: &mut F,
-    input: &mut I,
-    output: &mut O,
-    errors: &mut E,
-) -> u8
-    ensures { Does (outside F.contents F.steady F.load_faults F.store_faults I.left I.faults O.held O.faults E.held E.faults)
-        (vlogsweep_task_by (rows_of (found_of matches.now))) result
-        (scene files.old input.old output.old errors.old) (scene files.new input.new output.new errors.new) }
-{
-    let tool_name = "vlogsweep";
-    match request_in(alloc, matches) {
-        Ok(Some(request)) => sweep_files(alloc, request, files, input, output, errors),
-        Ok(None) => {
-            let answer = AtOnce::UsageError(VLOGSWEEP_USAGE);
-            answer_at_once(alloc, tool_name, answer, files, input, output, errors)
-        }
-        Err(AllocError) => give_up(tool_name, files, input, output, errors),
+        Err(AllocError) => host.give_up("vlogsweep"),
     }
 }
 
@@ -263,32 +219,29 @@ impl CommandLine for Vlogsweep {
 
     ghost manual = { vlogsweep };
 
-    fn name(&self) -> &'static str {
-        "vlogsweep"
-    }
-
-    fn usage(&self) -> &'static str {
-        VLOGSWEEP_USAGE
-    }
-
-    fn help(&self) -> &'static str {
-        VLOGSWEEP_HELP
+    fn words(&self) -> Words {
+        Words {
+            name: "vlogsweep",
+            usage: VLOGSWEEP_USAGE,
+            help: VLOGSWEEP_HELP,
+        }
     }
 
     fn command<'a>(&self, alloc: Global) -> Result<Command<'a>, AllocError> {
         command(alloc)
     }
 
-    fn perform<F: Files, I: Source, O: Sink, E: Sink>(
+    fn perform<H: Host>(
         &self,
         alloc: Global,
         matches: &ArgMatches<'_>,
-        files: &mut F,
-        input: &mut I,
-        output: &mut O,
-        errors: &mut E,
-    ) -> u8 {
-        do_found(alloc, matches, files, input, output, errors)
+        host: &mut H,
+    ) -> Option<u8> {
+        match request_in(alloc, matches) {
+            Ok(Some(request)) => Some(sweep_files(alloc, request, host)),
+            Ok(None) => None,
+            Err(AllocError) => Some(host.give_up("vlogsweep")),
+        }
     }
 
     ghost simple = { vlogsweep-simple };
@@ -297,17 +250,8 @@ impl CommandLine for Vlogsweep {
 }
 
 /// Runs `vlogsweep` with these arguments, of which the first is its name.
-pub fn run_vlogsweep<F: Files, I: Source, O: Sink, E: Sink>(
-    alloc: Global,
-    args: &[String],
-    files: &mut F,
-    input: &mut I,
-    output: &mut O,
-    errors: &mut E,
-) -> u8
-    ensures { Does (outside F.contents F.steady F.load_faults F.store_faults I.left I.faults O.held O.faults E.held E.faults)
-        (vlogsweep_outcome (map string_bytes args.now)) result
-        (scene files.old input.old output.old errors.old) (scene files.new input.new output.new errors.new) }
+pub fn run_vlogsweep<H: Host>(alloc: Global, args: &[String], host: &mut H) -> u8
+    ensures { Does H.outside (vlogsweep_outcome (map string_bytes args.now)) result (H.scene host.old) (H.scene host.new) }
 {
-    run_tool(alloc, &Vlogsweep, args, files, input, output, errors)
+    run_tool(alloc, &Vlogsweep, args, host)
 }

@@ -1,4 +1,4 @@
--- What a task appends to standard output.
+-- What a run of a task appends to standard output.
 use Rattle.std.proofs.Common.{◌≡◌, ℕ, List, subst, sym}
 use Rattle.std.specs.Prelude.{Option}
 use Rattle.tool_run.specs.Effects.{Delivers}
@@ -15,7 +15,7 @@ module _ (P : List (List ℕ) → List ℕ → Type 0) where
   -- a task that is done appends what it makes of texts
   done-appends : {F I O E : Type 0} (by : Outside F I O E) (task : Task) (status : ℕ) (old new : Scene F I O E) → Gives P task → task.target ≡ None
       → Does by task status old new → status ≡ 0
-      → AppendsFor P task (by.contents old.files) (by.left old.input) (by.held old.output) (by.held new.output)
+      → AppendsFor by P task old new
   done-appends by task status old new gives target does done =
       let made = does.whole done in
       let goes : Option (List ℕ) → Type 0 = λ to. Delivers to made.0 (by.contents old.files) (by.contents new.files) (by.held old.output) (by.held new.output) in (
@@ -29,7 +29,6 @@ module _ (P : List (List ℕ) → List ℕ → Type 0) where
   -- the same for another task that is this one
   pub helped-kept : {F I O E : Type 0} (by : Outside F I O E) (task other : Task) (status : ℕ) (old new : Scene F I O E) → task ≡ other → Gives P task → task.target ≡ None
       → Does by other status old new → status ≡ 0
-      → AppendsFor P other (by.contents old.files) (by.left old.input) (by.held old.output) (by.held new.output)
+      → AppendsFor by P other old new
   helped-kept by task other status old new same gives target does done =
-      let appends : Task → Type 0 = λ one. AppendsFor P one (by.contents old.files) (by.left old.input) (by.held old.output) (by.held new.output) in
-      subst appends same (done-appends by task status old new gives target (Does-same by other task status old new (sym same) does) done)
+      subst (λ one. AppendsFor by P one old new) same (done-appends by task status old new gives target (Does-same by other task status old new (sym same) does) done)

@@ -1,6 +1,6 @@
 //! What the tools share: their command lines, what they read, and what they say of a fault of that.
 //!
-//! A tool is a `CommandLine`: its name, its usage line, its help, its command, and what it does with what was found in the arguments.
+//! A tool is a `CommandLine`: its words, its command, and what it does with what was found in the arguments.
 //! `run_tool` runs any of them, and has one clause: the run does what the arguments ask for (`outcome` in `specs/Outcomes.antt`). A tool
 //! builds its `Command` of the arguments here, and reads what was found by an argument's name. `specs/Commands.antt` says the
 //! same of the arguments alone: `command` is the command, `is_taken` whether the arguments are taken, and `has_flag`, `first_of` and
@@ -30,5 +30,5 @@ pub use faults::{asc_refusal, bin_cause, bin_refusal};
 pub use image::{IMAGE_LIMIT, read_image};
 pub use layouts::{LAYOUT_LIMIT, behind_layout, layouts_for, with_layout};
 pub use refusals::{refusal, whole};
-pub use running::{CommandLine, run_tool};
+pub use running::{CommandLine, Words, run_tool};
 pub use taking::{Taking, TextTaker};

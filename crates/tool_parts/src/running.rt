@@ -1,49 +1,45 @@
 // A run of a tool, whatever the tool is.
-ghost use Rattle.std.specs.Prelude.{◌≡◌, true, List, map, string_bytes, IfOk};
-ghost use Rattle.clap.specs.Words.{Row, app_of, found_of, is_simple_and_free, rows_of};
-ghost use Rattle.tool_run.specs.Runs.{Does, outside, scene};
-ghost use Rattle.tool_parts.specs.Outcomes.{Finds, Manual, asked, outcome};
+ghost use Rattle.std.specs.Prelude.{◌≡◌, true, ℕ, List, None, map, string_bytes, IfOk, IfSome};
+ghost use Rattle.clap.specs.Words.{Row, Text, app_of, found_of, is_simple_and_free, rows_of};
+ghost use Rattle.tool_run.specs.Runs.{Does};
+ghost use Rattle.tool_parts.specs.Outcomes.{Finds, Manual, asked, outcome, untaken};
 
 use crate::commands::parse;
 use clap::{ArgMatches, Command};
-use ice_io::{Files, Sink, Source};
 use std::alloc::{AllocError, Global};
-use tool_run::{AtOnce, answer_at_once, asks_for_help, give_up};
+use tool_run::{AtOnce, Host, asks_for_help};
+
+/// What is told of a tool.
+#[derive(Clone, Copy, Debug, PartialEq, Eq)]
+pub struct Words {
+    /// The name that begins each of its lines.
+    pub name: &'static str,
+    /// The command line that it takes.
+    pub usage: &'static str,
+    /// Its help, at most 80 columns wide.
+    pub help: &'static str,
+}
 
 /// A tool by its command line.
 pub trait CommandLine {
-    /// Its texts, its command, and the task of what is found in the arguments.
+    /// Its words, its command, and the task of what is found in the arguments.
     ghost manual: { Manual };
 
-    /// The name that begins each of its lines.
-    fn name(&self) -> &'static str
-        ensures { result.now ≡ manual.name };
-
-    /// The command line that it takes.
-    fn usage(&self) -> &'static str
-        ensures { result.now ≡ manual.usage };
-
-    /// Its help, at most 80 columns wide.
-    fn help(&self) -> &'static str
-        ensures { result.now ≡ manual.help };
+    /// Its words.
+    fn words(&self) -> Words
+        ensures name { result.name.now ≡ manual.name }
+        ensures usage { result.usage.now ≡ manual.usage }
+        ensures help { result.help.now ≡ manual.help };
 
     /// The command line as `clap` reads it.
     fn command<'a>(&self, alloc: Global) -> Result<Command<'a>, AllocError>
         ensures { IfOk result (λ command. app_of command ≡ manual.app) };
 
-    /// Does what is asked for by what was found.
-    fn perform<F: Files, I: Source, O: Sink, E: Sink>(
-        &self,
-        alloc: Global,
-        matches: &ArgMatches<'_>,
-        files: &mut F,
-        input: &mut I,
-        output: &mut O,
-        errors: &mut E,
-    ) -> u8
-        ensures { Does (outside F.contents F.steady F.load_faults F.store_faults I.left I.faults O.held O.faults E.held E.faults)
-            (manual.task (rows_of (found_of matches.now))) result
-            (scene files.old input.old output.old errors.old) (scene files.new input.new output.new errors.new) };
+    /// Does what is asked for by what was found, and answers the exit status; or nothing, where the arguments aren't taken after all.
+    fn perform<H: Host>(&self, alloc: Global, matches: &ArgMatches<'_>, host: &mut H) -> Option<u8>
+        ensures does { IfSome result (λ status. Does H.outside (manual.task (rows_of (found_of matches.now))) status (H.scene host.old) (H.scene host.new)) }
+        ensures untaken { result ≡ None → manual.task (rows_of (found_of matches.now)) ≡ untaken manual }
+        ensures untouched { result ≡ None → host.new ≡ host.old };
 
     ghost simple: { is_simple_and_free manual.app ≡ true };
 
@@ -62,48 +58,57 @@ fn found<'a, T: CommandLine>(
     parse(command, args)
 }
 
-// Runs a tool that isn't asked for its help.
+// Does what is asked for by what was found, where the command took the arguments.
 #[tactic(auto, unfolding(crate::specs::Outcomes::asked))]
-fn run_asked<T: CommandLine, F: Files, I: Source, O: Sink, E: Sink>(
+fn perform_found<T: CommandLine, H: Host>(
     alloc: Global,
     tool: &T,
-    args: &[String],
-    files: &mut F,
-    input: &mut I,
-    output: &mut O,
-    errors: &mut E,
-) -> u8
-    ensures { Does (outside F.contents F.steady F.load_faults F.store_faults I.left I.faults O.held O.faults E.held E.faults)
-        (asked T.manual (map string_bytes args.now)) result
-        (scene files.old input.old output.old errors.old) (scene files.new input.new output.new errors.new) }
+    found: Option<ArgMatches<'_>>,
+    host: &mut H,
+) -> Option<u8>
+    ensures does { IfSome result (λ status. (args : List Text) → Finds T.manual args found.entry → Does H.outside (asked T.manual args) status (H.scene host.old) (H.scene host.new)) }
+    ensures untaken { result ≡ None → (args : List Text) → Finds T.manual args found.entry → asked T.manual args ≡ untaken T.manual }
+    ensures untouched { result ≡ None → host.new ≡ host.old }
 {
-    match found(alloc, tool, args) {
-        Ok(Some(matches)) => tool.perform(alloc, &matches, files, input, output, errors),
-        Ok(None) => {
-            let answer = AtOnce::UsageError(tool.usage());
-            answer_at_once(alloc, tool.name(), answer, files, input, output, errors)
+    match found {
+        Some(matches) => tool.perform(alloc, &matches, host),
+        None => None,
+    }
+}
+
+// The same, and answers that the arguments aren't taken where they aren't. No other function answers this.
+fn run_found<T: CommandLine, H: Host>(
+    alloc: Global,
+    tool: &T,
+    found: Option<ArgMatches<'_>>,
+    host: &mut H,
+) -> u8
+    ensures { (args : List Text) → Finds T.manual args found.entry → Does H.outside (asked T.manual args) result (H.scene host.old) (H.scene host.new) }
+{
+    match perform_found(alloc, tool, found, host) {
+        Some(status) => status,
+        None => {
+            let words = tool.words();
+            host.answer_at_once(alloc, words.name, AtOnce::UsageError(words.usage))
         }
-        Err(AllocError) => give_up(tool.name(), files, input, output, errors),
     }
 }
 
 /// Runs a tool with these arguments, of which the first is its name.
-pub fn run_tool<T: CommandLine, F: Files, I: Source, O: Sink, E: Sink>(
+pub fn run_tool<T: CommandLine, H: Host>(
     alloc: Global,
     tool: &T,
     args: &[String],
-    files: &mut F,
-    input: &mut I,
-    output: &mut O,
-    errors: &mut E,
+    host: &mut H,
 ) -> u8
-    ensures { Does (outside F.contents F.steady F.load_faults F.store_faults I.left I.faults O.held O.faults E.held E.faults)
-        (outcome T.manual (map string_bytes args.now)) result
-        (scene files.old input.old output.old errors.old) (scene files.new input.new output.new errors.new) }
+    ensures { Does H.outside (outcome T.manual (map string_bytes args.now)) result (H.scene host.old) (H.scene host.new) }
 {
+    let words = tool.words();
     if asks_for_help(args) {
-        let answer = AtOnce::Tells(tool.help());
-        return answer_at_once(alloc, tool.name(), answer, files, input, output, errors);
+        return host.answer_at_once(alloc, words.name, AtOnce::Tells(words.help));
     }
-    run_asked(alloc, tool, args, files, input, output, errors)
+    match found(alloc, tool, args) {
+        Ok(found) => run_found(alloc, tool, found, host),
+        Err(AllocError) => host.give_up(words.name),
+    }
 }

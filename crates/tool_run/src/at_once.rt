@@ -43,7 +43,7 @@ impl Tool for AtOnce {
 }
 
 /// Delivers an answer that is known from the command line alone.
-pub fn answer_at_once<F: Files, I: Source, O: Sink, E: Sink>(
+pub(crate) fn answer_at_once<F: Files, I: Source, O: Sink, E: Sink>(
     alloc: Global,
     tool_name: &'static str,
     answer: AtOnce,

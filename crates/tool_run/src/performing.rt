@@ -121,7 +121,7 @@ fn tell_stop<E: Sink>(errors: &mut E, tool_name: &str, stop: LoadStop<'_>) -> u8
 /// does, before the first byte goes out. The status is 0 where all was done, 1 where the tool refuses what it was given,
 /// 2 where it doesn't take the command line, 3 where a read failed, 4 where a write failed, 5 where memory ran out, and 6
 /// where an input has more bytes than its limit.
-pub fn perform<T: Tool, F: Files, I: Source, O: Sink, E: Sink>(
+pub(crate) fn perform<T: Tool, F: Files, I: Source, O: Sink, E: Sink>(
     alloc: Global,
     tool: &T,
     job: &Job<'_>,
@@ -144,7 +144,7 @@ pub fn perform<T: Tool, F: Files, I: Source, O: Sink, E: Sink>(
 /// Performs the job as `perform` does, but the tool takes its loads in pieces, as they are read, and its answer is made while it
 /// is written. The tool refuses, if it does, after its last load was read to the end and before the first byte goes out, so the
 /// statuses are the same.
-pub fn perform_in_pieces<T: PieceTool, F: Files, I: Source, O: Sink, E: Sink>(
+pub(crate) fn perform_in_pieces<T: PieceTool, F: Files, I: Source, O: Sink, E: Sink>(
     alloc: Global,
     tool: &T,
     job: &Job<'_>,
@@ -165,7 +165,7 @@ pub fn perform_in_pieces<T: PieceTool, F: Files, I: Source, O: Sink, E: Sink>(
 }
 
 /// Says that memory ran out before the command line could be read, whatever it asks for.
-pub fn give_up<F: Files, I: Source, O: Sink, E: Sink>(
+pub(crate) fn give_up<F: Files, I: Source, O: Sink, E: Sink>(
     tool_name: &'static str,
     files: &mut F,
     input: &mut I,

@@ -1,4 +1,4 @@
-// Images: bits of tiles, words, planes, extra bits, comments and settings, with places that are known from outside.
+// Images: bits of tiles, words, planes, comments and settings, with places that are known from outside.
 ghost use Rattle.std.specs.Prelude.{◌≡◌, IsTrue, All};
 ghost use Rattle.plane_map.specs.Layout.{columns_at};
 ghost use Rattle.ice_image.specs.Contents.{IsBitOfTile};
@@ -191,29 +191,6 @@ fn planes_hold_bits(alloc: Global) -> Result<bool, AllocError> {
 #[test]
 fn planes_hold_bits_of_places_and_words(rt: HostRuntime) {
     assert!(rt; planes_hold_bits(rt.alloc()) == Ok(true));
-}
-
-// ---- extra bits
-
-/// Sets an extra bit, where no tile has the place.
-fn set_extra(image: &mut AnyImage, place: Place) {
-    let (bank, px, py) = (place.bank, place.px, place.py);
-    if let Some(at) = image.extra_place(u32::from(bank), u32::from(px), u32::from(py)) {
-        image.set_extra_bit(at, true);
-    }
-}
-
-/// Whether an image of the HX1K with two extra bits has them in their order.
-fn has_extras(alloc: Global, first: Place, second: Place) -> Result<bool, AllocError> {
-    let mut image = AnyImage::zeroed(alloc, DeviceName::K1)?;
-    set_extra(&mut image, second);
-    set_extra(&mut image, first);
-    Ok(image.extra_bits(alloc)?.as_slice() == [first, second].as_slice())
-}
-
-#[test]
-fn extra_bits_come_in_order(rt: HostRuntime) {
-    assert!(rt; has_extras(rt.alloc(), at(0, 331, 5), at(1, 330, 0)) == Ok(true));
 }
 
 // ---- comments and settings

@@ -12,4 +12,4 @@ loop-word-preserved c fabric kept =
     each-step (start_item c.args.ram.now (get_or fabric.start c.args.place [])) c.loop-word.word c.args.items.now.items c.loop-word.items.items c.push.new.self.items _
     (c.loop-word.invariant fabric kept) c.in_ok-push.ensures.items
     (start-is fabric c.args.design.now kept c.args.ram.now c.args.place c.loop-word.word c.requires (omega arith) c.in_ok-memory.memory c.start_word-start.result
-    (c.in_ok-memory.ensures ∙ c.bytes-name.ensures.bytes ∙ c.in_ok-name.ensures) c.start_word-start.ensures)
+    (c.in_ok-memory.ensures ∙ c.bytes.ensures.bytes ∙ c.in_ok-name.ensures) c.start_word-start.ensures)

@@ -1,6 +1,6 @@
 -- What a run of a task appends to standard output.
 use Rattle.std.proofs.Common.{◌≡◌, ℕ, List, subst, sym}
-use Rattle.std.specs.Prelude.{Option}
+use Rattle.std.specs.Prelude.{Option, None}
 use Rattle.tool_run.specs.Effects.{Delivers}
 use Rattle.tool_run.specs.Runs.{Does, Outside, Scene}
 use Rattle.tool_run.specs.Tasks.{Done, Task}
@@ -21,9 +21,7 @@ module _ (P : List (List ℕ) → List ℕ → Type 0) where
       let goes : Option (List ℕ) → Type 0 = λ to. Delivers to made.0 (by.contents old.files) (by.contents new.files) (by.held old.output) (by.held new.output) in (
         made.0,
         (subst goes target made.1).1,
-        made.3.0,
-        made.3.1,
-        gives made.3.0 made.0 made.3.2,
+        (made.3.0, made.3.1, gives made.3.0 made.0 made.3.2),
       )
 
   -- the same for another task that is this one

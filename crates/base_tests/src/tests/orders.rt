@@ -6,7 +6,7 @@ ghost use Rattle.tool_run.specs.Stops.{StopsWith};
 use ice_io::{Failed, Files, MemFiles, MemSink, MemSource, NamedFile, StoreFault, TakeFault};
 use std::alloc::{AllocError, Global};
 use std::test::Fail;
-use tool_run::{Job, Load, PieceTool, Refusal, Stop, Tool, perform, perform_in_pieces, text};
+use tool_run::{FilesAndStreams, Host, Job, Load, PieceTool, Refusal, Stop, Tool, text};
 
 /// Files that note each call: `l` for a load, `p` for the first part of one in pieces and `s` for a store, and the name. They
 /// have the three calls alone that are required of files.
@@ -117,11 +117,11 @@ impl PieceTool for Stamp {
     }
 }
 
-/// A file with this name, of two bytes.
+/// A file with this name, of 24 bytes.
 fn file(alloc: Global, name: &str) -> Result<NamedFile, AllocError> {
     Ok(NamedFile {
         name: String::from_str(alloc, name)?,
-        bytes: b"ab".to_vec(alloc)?,
+        bytes: b"twenty-four bytes in all".to_vec(alloc)?,
     })
 }
 
@@ -131,7 +131,7 @@ fn watched_files(alloc: Global, room: usize) -> Result<Watched<MemFiles>, AllocE
     files.push(file(alloc, "a")?)?;
     files.push(file(alloc, "b")?)?;
     Ok(Watched {
-        files: MemFiles::new(alloc, files, "out", room, 9, Vec::new(alloc))?,
+        files: MemFiles::new(alloc, files, "out", room, 99, Vec::new(alloc))?,
         calls: Vec::new(alloc),
     })
 }
@@ -155,14 +155,16 @@ fn calls_are(
     status: u8,
     calls: &str,
 ) -> Result<bool, AllocError> {
-    let mut files = watched_files(alloc, run.room)?;
-    let mut input = MemSource::new(Vec::new(alloc), 1, Vec::new(alloc));
-    let mut output = MemSink::new(alloc, 0, 1, Vec::new(alloc))?;
-    let mut errors = MemSink::new(alloc, 80, 80, Vec::new(alloc))?;
+    let mut host = FilesAndStreams {
+        files: watched_files(alloc, run.room)?,
+        input: MemSource::new(Vec::new(alloc), 1, Vec::new(alloc)),
+        output: MemSink::new(alloc, 0, 1, Vec::new(alloc))?,
+        errors: MemSink::new(alloc, 80, 80, Vec::new(alloc))?,
+    };
     let loads = [
         Load {
             name: Some(run.first),
-            limit: 9,
+            limit: 99,
         },
         Load {
             name: Some(run.second),
@@ -178,38 +180,49 @@ fn calls_are(
         refuses: run.refuses,
     };
     let done = if in_pieces {
-        perform_in_pieces(
-            alloc,
-            &tool,
-            &job,
-            &mut files,
-            &mut input,
-            &mut output,
-            &mut errors,
-        )
+        host.perform_in_pieces(alloc, &tool, &job)
     } else {
-        perform(
-            alloc,
-            &tool,
-            &job,
-            &mut files,
-            &mut input,
-            &mut output,
-            &mut errors,
-        )
+        host.perform(alloc, &tool, &job)
     };
-    Ok(done == status && files.calls.as_slice() == calls.as_bytes())
+    Ok(done == status && host.files.calls.as_slice() == calls.as_bytes())
 }
 
 #[test]
 fn files_are_loaded_in_their_order_and_stored_once(rt: HostRuntime) -> Result<(), Fail> {
     for (first, second, limit, refuses, room, status, whole, in_pieces) in [
-        ("a", "b", 9, false, 9, 0, " l a l b s out", " p a p b s out"),
-        ("a", "a", 9, false, 9, 0, " l a l a s out", " p a p a s out"),
-        ("a", "x", 9, false, 9, 3, " l a l x", " p a p x"),
-        ("a", "b", 1, false, 9, 6, " l a l b", " p a p b"),
-        ("a", "b", 9, true, 9, 1, " l a l b", " p a p b"),
-        ("a", "b", 9, false, 0, 4, " l a l b s out", " p a p b s out"),
+        (
+            "a",
+            "b",
+            99,
+            false,
+            99,
+            0,
+            " l a l b s out",
+            " p a p b s out",
+        ),
+        (
+            "a",
+            "a",
+            99,
+            false,
+            99,
+            0,
+            " l a l a s out",
+            " p a p a s out",
+        ),
+        ("a", "x", 99, false, 99, 3, " l a l x", " p a p x"),
+        ("a", "b", 1, false, 99, 6, " l a l b", " p a p b"),
+        ("a", "b", 99, true, 99, 1, " l a l b", " p a p b"),
+        (
+            "a",
+            "b",
+            99,
+            false,
+            0,
+            4,
+            " l a l b s out",
+            " p a p b s out",
+        ),
     ] {
         let run = Run {
             first,

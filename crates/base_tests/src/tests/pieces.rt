@@ -6,7 +6,7 @@ ghost use Rattle.tool_run.specs.Stops.{StopsWith};
 use ice_io::{MemFiles, MemSink, MemSource, NamedFile};
 use std::alloc::{AllocError, Global};
 use std::test::Fail;
-use tool_run::{Job, Load, PieceTool, Refusal, Stop, perform_in_pieces, text};
+use tool_run::{FilesAndStreams, Host, Job, Load, PieceTool, Refusal, Stop, text};
 
 /// Counts the bytes of its needs, by 256, and refuses a byte 0 among them.
 struct Counting;
@@ -101,10 +101,12 @@ fn is_counted(
     failing: &[u64],
     want: Outcome<'_>,
 ) -> Result<bool, AllocError> {
-    let mut files = files_with(alloc, bytes, failing)?;
-    let mut input = MemSource::new(bytes.to_vec(alloc)?, 3, failing.to_vec(alloc)?);
-    let mut output = MemSink::new(alloc, 1, 1, Vec::new(alloc))?;
-    let mut errors = MemSink::new(alloc, 80, 80, Vec::new(alloc))?;
+    let mut host = FilesAndStreams {
+        files: files_with(alloc, bytes, failing)?,
+        input: MemSource::new(bytes.to_vec(alloc)?, 3, failing.to_vec(alloc)?),
+        output: MemSink::new(alloc, 1, 1, Vec::new(alloc))?,
+        errors: MemSink::new(alloc, 80, 80, Vec::new(alloc))?,
+    };
     let loads = [Load {
         name: way.from,
         limit: 8,
@@ -114,20 +116,12 @@ fn is_counted(
         loads: &loads,
         target: way.to,
     };
-    let done = perform_in_pieces(
-        alloc,
-        &Counting,
-        &job,
-        &mut files,
-        &mut input,
-        &mut output,
-        &mut errors,
-    );
+    let done = host.perform_in_pieces(alloc, &Counting, &job);
     let is_written = match way.to {
-        None => output.bytes() == want.written,
-        Some(name) => files.bytes_of(name).unwrap_or(&[]) == want.written,
+        None => host.output.bytes() == want.written,
+        Some(name) => host.files.bytes_of(name).unwrap_or(&[]) == want.written,
     };
-    Ok(done == want.status && is_written && errors.bytes() == want.said.as_bytes())
+    Ok(done == want.status && is_written && host.errors.bytes() == want.said.as_bytes())
 }
 
 #[test]

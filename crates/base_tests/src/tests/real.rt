@@ -56,6 +56,29 @@ fn a_real_file_is_read_at_any_place(rt: HostRuntime) -> Result<(), Fail> {
     Ok(())
 }
 
+#[test]
+fn files_with_names_of_one_length_are_told_apart(rt: HostRuntime) -> Result<(), Fail> {
+    let (first, second) = ("ice_io_first_of_two", "ice_io_other_of_two");
+    let mut files = DirFiles::new(&rt);
+    assert_eq!(rt; files.store(first, b"abcdef"), Ok(()));
+    assert_eq!(rt; files.store(second, b"uvwxyz"), Ok(()));
+    assert_eq!(rt;
+        part_at(&mut files, first, 0, &mut [0; 3]),
+        Ok(b"abc".as_slice())
+    );
+    assert_eq!(rt;
+        part_at(&mut files, second, 3, &mut [0; 3]),
+        Ok(b"xyz".as_slice())
+    );
+    assert_eq!(rt;
+        part_at(&mut files, first, 3, &mut [0; 3]),
+        Ok(b"def".as_slice())
+    );
+    fs::remove_file(&rt, first)?;
+    fs::remove_file(&rt, second)?;
+    Ok(())
+}
+
 /// A pipe with these bytes, which no one writes to any more.
 fn pipe_with<R: rt::Files>(rt: &R, bytes: &[u8]) -> Result<PipeReader, Error> {
     let (reader, mut writer) = io::pipe(rt)?;

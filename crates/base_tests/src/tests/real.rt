@@ -62,18 +62,17 @@ fn files_with_names_of_one_length_are_told_apart(rt: HostRuntime) -> Result<(), 
     let mut files = DirFiles::new(&rt);
     assert_eq!(rt; files.store(first, b"abcdef"), Ok(()));
     assert_eq!(rt; files.store(second, b"uvwxyz"), Ok(()));
-    assert_eq!(rt;
-        part_at(&mut files, first, 0, &mut [0; 3]),
-        Ok(b"abc".as_slice())
-    );
-    assert_eq!(rt;
-        part_at(&mut files, second, 3, &mut [0; 3]),
-        Ok(b"xyz".as_slice())
-    );
-    assert_eq!(rt;
-        part_at(&mut files, first, 3, &mut [0; 3]),
-        Ok(b"def".as_slice())
-    );
+    for (name, at, want) in [
+        (first, 0, b"abc".as_slice()),
+        (second, 3, b"xyz".as_slice()),
+        (first, 3, b"def".as_slice()),
+    ] {
+        assert_eq!(rt;
+            part_at(&mut files, name, at, &mut [0; 3]),
+            Ok(want),
+            "{name}"
+        );
+    }
     fs::remove_file(&rt, first)?;
     fs::remove_file(&rt, second)?;
     Ok(())

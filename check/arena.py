@@ -3,7 +3,7 @@
 
 Usage: check/arena.py
 
-It runs the tests of crates/name_arena while one request for memory is refused. With request 64 refused the test that pushes 65,536
+It runs the tests of crates/base_tests while one request for memory is refused. With request 64 refused the test that pushes 65,536
 bytes 64 times must fail, since each of these names takes a chunk: a vector that grows would ask less often. With request 100 refused
 the test that pushes one byte 1,000 times must pass: names in memory of their own would ask more often. Nothing is proved here.
 
@@ -17,7 +17,7 @@ import sys
 from modules.programs import TOP
 from modules.tries import Tally
 
-CRATE = TOP / "crates/name_arena"
+CRATE = TOP / "crates/base_tests"
 LONG = "names_of_a_chunk_each_are_got_again"
 SHORT = "names_of_one_byte_are_got_again"
 

@@ -45,26 +45,11 @@ fn keeps_names(alloc: Global, count: u32, bytes: usize) -> Result<bool, AllocErr
     Ok(names.len() == count as usize && ids.len() == names.len() && is_each(&names, &ids, &name))
 }
 
-/// Whether names of no byte, of as many as a chunk has room for, of one more and of one are got again.
-fn keeps_lengths(alloc: Global) -> Result<bool, AllocError> {
-    let whole = some_bytes(alloc, CHUNK)?;
-    let longer = some_bytes(alloc, CHUNK + 1)?;
-    let mut names = NameArena::new(alloc);
-    let first = names.push(b"")?;
-    let second = names.push(&whole)?;
-    let third = names.push(&longer)?;
-    let fourth = names.push(b"x")?;
-    Ok(
-        names.get(first) == b"".as_slice()
-            && names.get(second) == whole.as_slice()
-            && names.get(third) == longer.as_slice()
-            && names.get(fourth) == b"x".as_slice(),
-    )
-}
-
 #[test]
 fn names_of_each_length_are_got_again(rt: HostRuntime) {
-    assert!(rt; keeps_lengths(rt.alloc()) == Ok(true));
+    for bytes in [0, CHUNK, CHUNK + 1] {
+        assert!(rt; keeps_names(rt.alloc(), 3, bytes) == Ok(true));
+    }
 }
 
 #[test]

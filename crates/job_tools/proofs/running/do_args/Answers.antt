@@ -23,4 +23,4 @@ returns-in-Ok-None g c answer given =
     Does-same _ _ _ _ _ _ (ap (at_once selfrun_name None) (sym same)) c.answer_at_once.ensures
 
 pub returns-in-Err : goal.returns-in-Err
-returns-in-Err g c answer given = c.give_up.ensures.does (at_once selfrun_name None answer) refl
+returns-in-Err g c answer given = c.give_up.ensures (at_once selfrun_name None answer) refl

@@ -23,4 +23,4 @@ returns-in-Err-Refused g c answer given =
     Does-same _ _ _ _ _ _ task c.answer_at_once.ensures
 
 pub returns-in-Err-Memory : goal.returns-in-Err-Memory
-returns-in-Err-Memory g c answer given = c.give_up.ensures.does (at_once selfrun_name None answer) refl
+returns-in-Err-Memory g c answer given = c.give_up.ensures (at_once selfrun_name None answer) refl

@@ -12,4 +12,4 @@ returns-in-Ok g c =
     Does-same _ _ _ _ _ _ (ap (λ needs. task_over needs (names_of c.args.request.names.items)) needs) c.sweep_loads.ensures
 
 pub returns-in-Err : goal.returns-in-Err
-returns-in-Err g c = c.give_up.ensures.does (vlogsweep_task_for (Some c.args.request)) refl
+returns-in-Err g c = c.give_up.ensures (vlogsweep_task_for (Some c.args.request)) refl

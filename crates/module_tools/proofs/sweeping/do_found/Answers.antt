@@ -1,9 +1,0 @@
-use Rattle.clap.specs.Words.{found_of, rows_of}
-use Rattle.module_tools.specs.Laws.{vlogsweep-speaks}
-use Rattle.module_tools.specs.Vlogsweep.{vlogsweep_task_by}
-use Rattle.module_tools.proofs.sweeping.do_found.Goals as goal
-
-pub returns-in-Err : goal.returns-in-Err
-returns-in-Err g c =
-    let rows = rows_of (found_of c.args.matches.now) in
-    c.give_up.ensures.does (vlogsweep_task_by rows) (vlogsweep-speaks rows)

@@ -18,7 +18,7 @@ use bram_replace::{BramFault, HexFault, HexFile, ReadModes, replace_with};
 use clap::{ArgMatches, Command};
 use std::alloc::{AllocError, Global};
 use tool_parts::{CommandLine, Words, has_flag, long_flag, required, run_tool, value, with};
-use tool_run::{AtOnce, Host, Job, Load, Stop, Tool, loaded_at};
+use tool_run::{Host, Job, Load, Stop, Tool, loaded_at};
 
 /// The command line of `icebram`.
 pub const ICEBRAM_USAGE: &str = "icebram [--by-mode] FROM TO";

@@ -15,7 +15,7 @@ use tool_parts::{
     CommandLine, LAYOUT_LIMIT, Taking, Words, flag, has_flag, long_option, positional, run_tool,
     with, with_layout,
 };
-use tool_run::{AtOnce, Host, Job, Load, PieceTool, Stop};
+use tool_run::{Host, Job, Load, PieceTool, Stop};
 
 /// The most bytes of a text.
 pub(crate) const TEXT_LIMIT: usize = 16_777_216;

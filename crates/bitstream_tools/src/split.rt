@@ -19,7 +19,7 @@ use std::alloc::{AllocError, Global};
 use tool_parts::{
     CommandLine, Words, positional, refusal, required, run_tool, short_option, value, with,
 };
-use tool_run::{AtOnce, Host, Job, Load, Stop, Tool, decimal, loaded_at, text};
+use tool_run::{Host, Job, Load, Stop, Tool, decimal, loaded_at, text};
 
 /// The command line of `icesplit`.
 pub const ICESPLIT_USAGE: &str = "icesplit [-x N] BOOT [OUTPUT]";

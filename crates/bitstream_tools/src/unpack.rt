@@ -3,7 +3,7 @@ ghost use Rattle.std.specs.Prelude.{◌≡◌, codes, map, string_bytes, IfOk};
 ghost use Rattle.clap.specs.Words.{app_of, first_of, found_of, rows_of};
 ghost use Rattle.tool_run.specs.Runs.{Does};
 ghost use Rattle.tool_run.specs.Needs.{text_of};
-ghost use Rattle.bitstream_tools.specs.Unpack.{iceunpack_command, iceunpack_outcome, iceunpack_task_by, unpack_task};
+ghost use Rattle.bitstream_tools.specs.Unpack.{iceunpack_command, iceunpack_outcome, unpack_task};
 
 use crate::reading::First;
 use crate::unpacking::unpacked_after;

@@ -29,7 +29,7 @@ use tool_parts::{
     CommandLine, DB_LIMIT, DesignInput, IMAGE_LIMIT, LAYOUT_LIMIT, Taking, Words, run_tool,
     with_layout,
 };
-use tool_run::{AtOnce, Host, Job, Load, PieceTool, Stop};
+use tool_run::{Host, Job, Load, PieceTool, Stop};
 use vlog_emit::emit;
 use vlog_text::print;
 

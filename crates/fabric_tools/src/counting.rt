@@ -21,7 +21,7 @@ use tool_parts::{
     CommandLine, DB_LIMIT, DesignInput, IMAGE_LIMIT, LAYOUT_LIMIT, Taking, Words, long_option,
     positional, required, run_tool, value, with, with_layout,
 };
-use tool_run::{AtOnce, Host, Job, Load, PieceTool, Stop};
+use tool_run::{Host, Job, Load, PieceTool, Stop};
 
 /// The command line of `icebox_stat`.
 pub const ICEBOX_STAT_USAGE: &str = "icebox_stat [--layout FILE] DB [IMAGE]";

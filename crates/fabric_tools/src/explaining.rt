@@ -22,7 +22,7 @@ use tool_parts::{
     CommandLine, DB_LIMIT, DesignInput, IMAGE_LIMIT, LAYOUT_LIMIT, Taking, Words, run_tool,
     with_layout,
 };
-use tool_run::{AtOnce, Host, Job, Load, PieceTool, Stop};
+use tool_run::{Host, Job, Load, PieceTool, Stop};
 
 /// Explains an image by a database: one tile, or all. The image is read under the layouts of a file that comes first where one is
 /// named.

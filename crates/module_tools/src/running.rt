@@ -15,7 +15,7 @@ use crate::tracing::Tracing;
 use clap::{ArgMatches, Command};
 use std::alloc::{AllocError, Global};
 use tool_parts::{CommandLine, Words, run_tool};
-use tool_run::{AtOnce, Host, Job, Load, Stop, Tool, loaded_at};
+use tool_run::{Host, Job, Load, Stop, Tool, loaded_at};
 use vlog_cycle::{EventFault, read_events, run_text};
 use vlog_text::{Module, VlogFault, parse};
 

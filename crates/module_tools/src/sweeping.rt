@@ -1,6 +1,5 @@
 // `vlogsweep`: runs a module over several lists of events.
 ghost use Rattle.std.specs.Prelude.{◌≡◌, ◌≤◌, ◌<◌, ◌+◌, ◌++◌, ◌∷◌, [], All, drop, flat_map, length, map, string_bytes, vec_items, IfOk, IfErr, None, OnOk, Some};
-ghost use Rattle.clap.specs.Words.{found_of, rows_of};
 ghost use Rattle.tool_run.specs.Needs.{IsSound, need_of};
 ghost use Rattle.tool_run.specs.Runs.{Does};
 ghost use Rattle.tool_run.specs.Stops.{StopsWith};
@@ -8,7 +7,7 @@ ghost use Rattle.tool_run.specs.Tasks.{Done};
 ghost use Rattle.vlog_forms.specs.Outcome.{outcome_of};
 ghost use Rattle.vlog_plan.specs.Run.{input_names};
 ghost use Rattle.vlog_sweep.specs.Sweep.{list_text};
-ghost use Rattle.module_tools.specs.Vlogsweep.{TellsRefusal, file_refusal, file_text, files_of, first_refusal, heading_of, names_of, sweep_needs, sweep_of, sweep_over, task_over, vlogsweep_outcome, vlogsweep_task_by, vlogsweep_task_for};
+ghost use Rattle.module_tools.specs.Vlogsweep.{TellsRefusal, file_refusal, file_text, files_of, first_refusal, heading_of, names_of, sweep_needs, sweep_of, sweep_over, task_over, vlogsweep_outcome, vlogsweep_task_for};
 
 use crate::faults::{file_refusal, vlog_refusal};
 use crate::running::MODULE_LIMIT;
@@ -16,7 +15,7 @@ use crate::sweep_request::{SweepRequest, VLOGSWEEP_HELP, VLOGSWEEP_USAGE, comman
 use clap::{ArgMatches, Command};
 use std::alloc::{AllocError, Global};
 use tool_parts::{CommandLine, Words, run_tool};
-use tool_run::{AtOnce, Host, Job, Load, Stop, Tool, loaded_at};
+use tool_run::{Host, Job, Load, Stop, Tool, loaded_at};
 use vlog_cycle::{EventFault, read_events};
 use vlog_sweep::{EventList, sweep};
 use vlog_text::{Module, VlogFault, parse};

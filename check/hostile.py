@@ -210,7 +210,7 @@ def module(ports, items):
 
 
 def modules(count):
-    """Modules that are long in one thing each."""
+    """Modules that are long in one thing each, or in two together."""
     numbers = range(count)
     names = ["p_%d" % k for k in numbers]
     yield "inputs", module(names, ("".join("  input %s;\n" % name for name in names), ""))
@@ -219,6 +219,10 @@ def modules(count):
     yield "registers", module([], ("".join("  reg r_%d = 1'b0;\n" % k for k in numbers), "".join(
         "  always @(posedge a) if (1'b1) begin if (1'b0) r_%d <= 1'b0; else r_%d <= 16'h5555 >> {1'b0, 1'b0, 1'b0, r_%d}; end\n"
         % (k, k, k) for k in numbers)))
+    yield "inputs with a register each", module(names, (
+        "".join("  input %s;\n" % name for name in names) + "".join("  reg r_%d = 1'b0;\n" % k for k in numbers),
+        "".join("  always @(posedge p_%d) if (1'b1) begin if (1'b0) r_%d <= 1'b0; else r_%d <= 16'h5555 >> {1'b0, 1'b0, 1'b0, r_%d}; end\n"
+                % (k, k, k, k) for k in numbers)))
     yield "memories", module([], ("".join("  reg [15:0] m_%d [0:255];\n" % k for k in numbers[:count // 100]), "".join(
         "  initial m_%d[%d] = 16'h0001;\n" % (k // 100, k % 100) for k in numbers[:count // 100 * 100])))
     yield "a long name", module([], ("  wire %s = a;\n" % ("n" * 20 * count), ""))
@@ -228,7 +232,7 @@ def modules(count):
 
 
 def databases(count):
-    """Chip databases that are long in one thing each."""
+    """Chip databases that are long in one thing each, or in two together."""
     numbers = range(count)
     head = ".device 1k 14 18 %d\n.logic_tile 1 1\n" % (count + 2)
     yield "names of one net", head + ".net 0\n" + "".join("1 1 name_%d\n" % k for k in numbers)
@@ -238,6 +242,7 @@ def databases(count):
     yield "equal lines of one buffer", head + ".buffer 1 1 0 B0[0] B0[1]\n" + "01 1\n" * count
     yield "buffers", head + "".join(".buffer 1 1 %d B0[0]\n1 %d\n" % (k, k + 1) for k in numbers)
     yield "routings", head + "".join(".routing 1 1 %d B0[0]\n1 %d\n" % (k, k + 1) for k in numbers)
+    yield "nets with a name and a link each", head + "".join(".net %d\n1 1 name_%d\n.buffer 1 1 %d B0[0]\n1 %d\n" % (k, k, k, k + 1) for k in numbers)
     yield "functions", head + ".logic_tile_bits 54 16\n" + "".join("function_%d B0[0]\n" % k for k in numbers)
     yield "one function many times", head + ".logic_tile_bits 54 16\n" + "LC_0 B0[0]\n" * count
     yield "extra bits", head + ".extra_bits\n" + "".join("extra_%d 0 330 143\n" % k for k in numbers)

@@ -1,6 +1,6 @@
 // A database read from a source or from a file.
 ghost use Rattle.std.specs.Prelude.{◌≡◌, ◌+◌, ◌^◌, ◌<◌, ◌≤◌, ℕ, List, length, IfOk, IfErr, IsErrOf, IsTrue};
-ghost use Rattle.ice_io.specs.Faults.{Rose};
+ghost use Rattle.ice_io.specs.Faults.{Rose, RoseBy};
 ghost use Rattle.ice_io.specs.Files.{HasFile, HasMore, LacksFile};
 ghost use Rattle.ice_io.specs.Taken.{TakesAll, TakesAtMost, TakesCount};
 ghost use Rattle.chipdb_reader.specs.Faults.{DbMeans, db_fault_of};
@@ -66,7 +66,7 @@ pub fn read_from<S: Source>(
     }
 }
 
-/// What a database says that the file of a name has, or why it isn't read.
+/// What a database says that the file of a name has, or why it isn't read. `TooLong` leaves `limit + 1` bytes read.
 pub fn read_file<F: Files>(
     alloc: Global,
     files: &mut F,
@@ -79,6 +79,7 @@ pub fn read_file<F: Files>(
     ensures refused { IfErr result (ForDb (λ fault. (bytes : List ℕ) × HasFile (F.contents files.old) name.now bytes
         × (length bytes ≤ limit) × TellsFault (db_fault_of bytes) fault)) }
     ensures too_long { IsErrOf result SourceDbFault.TooLong → HasMore (F.contents files.old) name.now limit }
+    ensures read_past { IsErrOf result SourceDbFault.TooLong → RoseBy (limit + 1) (F.bytes_read files.old) (F.bytes_read files.new) }
     ensures lacks { IsErrOf result SourceDbFault.Failed → IsTrue (F.steady files.old) → LacksFile (F.contents files.old) name.now }
     ensures failed { IsErrOf result SourceDbFault.Failed → Rose (F.load_faults files.old) (F.load_faults files.new) }
     ensures same_contents { F.contents files.new ≡ F.contents files.old }

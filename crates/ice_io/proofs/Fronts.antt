@@ -1,4 +1,4 @@
--- The first bytes of a file, and what comes behind them.
+-- The first bytes of a file, and what follows them.
 use Rattle.std.proofs.Common.{arith, ◌≡◌, ◌∙◌, ℕ, ◌+◌, ◌<◌, ◌≤◌, List, [], ◌++◌, Option, Some, None, length, drop, refl, sym, ap, append_assoc, append-nil, length-append}
 use Rattle.std.proofs.Math.Seq.{drop-append_seam}
 use Rattle.std.proofs.lemmas.List.{nil_from_length}
@@ -44,17 +44,17 @@ pub HasFront-none : (files : Option FileMap) (name : List ℕ) → HasFront file
 HasFront-none None name = tt
 HasFront-none (Some files) name = begins-none (get files name)
 
--- the front of a file, and what it has behind
+-- the front of a file, and what follows it
 pub HasFront-more : (files : Option FileMap) (name bytes piece : List ℕ) (at : ℕ) → length bytes ≡ at → HasFront files name bytes → HasPart files name at piece → HasFront files name (bytes ++ piece)
 HasFront-more None name bytes piece at here front part = tt
 HasFront-more (Some files) name bytes piece at here front part = begins-more (get files name) bytes piece at here front part
 
--- the front of a file that has no byte behind it is the file
+-- the front of a file that has no byte after it is the file
 pub HasFront-all : (files : Option FileMap) (name bytes : List ℕ) (at : ℕ) → length bytes ≡ at → HasFront files name bytes → EndsBefore files name at → HasFile files name bytes
 HasFront-all None name bytes at here front ends = tt
 HasFront-all (Some files) name bytes at here front ends = begins-all (get files name) bytes at here front ends
 
--- a front and what is behind it are more than a limit
+-- a front and what follows it are more than a limit
 pub HasFront-long : (files : Option FileMap) (name bytes piece : List ℕ) (at limit : ℕ) → length bytes ≡ at → limit < at + length piece → HasFront files name bytes → HasPart files name at piece → HasMore files name limit
 HasFront-long None name bytes piece at limit here more front part = tt
 HasFront-long (Some files) name bytes piece at limit here more front part = begins-long (get files name) bytes piece at limit here more front part

@@ -35,7 +35,7 @@ front_given left bytes into old at k is_left fits is_into =
     let whole : take k left ++ drop k left ≡ left = take-append-drop k left in
     cc
 
--- a read from memory gives the front of what was left, and nothing only where nothing was
+-- a read from memory gives the front of what was left, and nothing only if nothing was
 pub front_read : (left bytes into old : List ℕ) (at most k : ℕ) → left ≡ drop at bytes → 1 ≤ most → at ≤ length bytes
     → k ≡ min most (min (length (take (length bytes - at) (drop at bytes))) (length old))
     → into ≡ take k (take (length bytes - at) (drop at bytes)) ++ drop k old → length into ≡ length old

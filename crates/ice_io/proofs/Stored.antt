@@ -33,7 +33,7 @@ find_past name files i file within is other =
     find_next name files i file within is
     ∙ ap (λ b. cond b (Some file.bytes.items) (find (slice_cmp nat_cmp) name (map entry_of (drop (i + 1) files)))) other
 
--- what is found where something was stored under one name
+-- what is found if something was stored under one name
 get_inserted : (files : FileMap) (target bytes name : List ℕ) (b : Bool) → bytes_eq name target ≡ b
     → get (insert files target bytes) name ≡ cond b (Some bytes) (get files name)
 get_inserted files target bytes name b is =
@@ -51,7 +51,7 @@ pub get_other : (files : FileMap) (target bytes name : List ℕ) (stored : Bool)
 get_other files target bytes name false other = refl
 get_other files target bytes name true other = get_inserted files target bytes name false other
 
--- where nothing was stored, all is as it was
+-- if nothing was stored, all is as it was
 pub get_unstored : (files : FileMap) (target bytes name : List ℕ) (stored : Bool) → stored ≡ false
     → get (stored_over files target stored bytes) name ≡ get files name
 get_unstored files target bytes name stored is = ap (λ b. get (stored_over files target b bytes) name) is

@@ -1,27 +1,32 @@
--- The real files: how often they failed, and what was read from a file of the system or written to one.
+-- The real files: how often they failed, how much was read, and what was read from a file of the system or written to one.
 use Rattle.std.specs.Prelude.{◌≡◌, ℕ, ◌<◌, List, Option, ⊤, true, false, length, take}
 use Rattle.std.specs.Io.KnownBytes.{Appends, Consumes, IsAtEnd}
-use Rattle.ice_io.specs.Faults.{counted}
+use Rattle.ice_io.specs.Faults.{counted, counted_by}
 use Rattle.ice_io.specs.Taken.{TakesAll, TakesCount}
 use Rattle.ice_io.specs.declared.files.StoreFault.{StoreFault}
 use Rattle.ice_io.specs.declared.files.StoreFault.TheVariants.{Failed}
 use Rattle.ice_io.specs.declared.files.ContentFault.{ContentFault}
 use Rattle.ice_io.specs.declared.files.ContentFault.TheVariants.{Store, Memory}
 
--- how many loads and how many stores have failed
-pub record FileFaults : Type 0 where
+-- how many loads and how many stores have failed, and how many bytes were read
+pub record FileCounts : Type 0 where
   pub load_faults : ℕ
   pub store_faults : ℕ
+  pub bytes_read : ℕ
 
 -- the counts after a load that failed
-abbrev pub after_load_fault : FileFaults → FileFaults
+abbrev pub after_load_fault : FileCounts → FileCounts
 after_load_fault s = record s { load_faults = counted s.load_faults }
 
 -- the counts after a store that failed
-abbrev pub after_store_fault : FileFaults → FileFaults
+abbrev pub after_store_fault : FileCounts → FileCounts
 after_store_fault s = record s { store_faults = counted s.store_faults }
 
--- where a store failed after its file was opened, as many of the bytes as the fault says were appended, and not all
+-- the counts after so many bytes were read
+abbrev pub after_bytes : FileCounts → ℕ → FileCounts
+after_bytes s n = record s { bytes_read = counted_by s.bytes_read n }
+
+-- if a store failed after its file was opened, as many of the bytes as the fault says were appended, and not all
 abbrev pub AppendsPart : Option (List ℕ) → Option (List ℕ) → List ℕ → StoreFault → Type 0
 AppendsPart old new bytes (Failed true written) = Appends old new (take written bytes) × (written < length bytes)
 AppendsPart old new bytes (Failed false written) = ⊥
@@ -43,12 +48,12 @@ WereRead {File} remaining into n = (before : File) × (after : File) × Consumes
 abbrev pub WereWritten : {File : Type 0} → (File → Option (List ℕ)) → List ℕ → Type 0
 WereWritten {File} contents bytes = (before : File) × (after : File) × Appends (contents before) (contents after) bytes
 
--- where a store failed after its file was opened, as many of the bytes as the fault says were appended to some file
+-- if a store failed after its file was opened, as many of the bytes as the fault says were appended to some file
 abbrev pub WerePartWritten : {File : Type 0} → (File → Option (List ℕ)) → List ℕ → StoreFault → Type 0
 WerePartWritten contents bytes (Failed true written) = WereWritten contents (take written bytes)
 WerePartWritten contents bytes (Failed false written) = ⊤
 
--- the same of storing content, which never lacks memory
+-- and if storing content failed, which needs no memory
 abbrev pub WereContentWritten : {File : Type 0} → (File → Option (List ℕ)) → List ℕ → ContentFault → Type 0
 WereContentWritten contents bytes (Store fault) = WerePartWritten contents bytes fault
 WereContentWritten contents bytes (Memory e) = ⊥

@@ -1,4 +1,4 @@
--- Counts of failed calls.
+-- Counts of failed calls, and of bytes.
 use Rattle.std.specs.Prelude.{ℕ, ◌+◌, ◌-◌, ◌^◌, ◌≤◌, min}
 
 -- the greatest count, at which a counter stays
@@ -9,6 +9,14 @@ last_count = 2 ^ 64 - 1
 abbrev pub counted : ℕ → ℕ
 counted n = min (n + 1) last_count
 
+-- so many more, up to the last count
+abbrev pub counted_by : ℕ → ℕ → ℕ
+counted_by count more = min (count + more) last_count
+
 -- a count is greater after than before, or stands at the last count
 abbrev pub Rose : ℕ → ℕ → Type 0
 Rose old new = counted old ≤ new
+
+-- a count is greater by so many, or stands at the last count
+abbrev pub RoseBy : ℕ → ℕ → ℕ → Type 0
+RoseBy more old new = (counted_by old more ≤ new) × (new ≤ old + more)

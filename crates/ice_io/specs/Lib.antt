@@ -7,4 +7,5 @@ pub mod Files
 pub mod Room
 pub mod MemFiles
 pub mod DirFiles
+pub mod KeptFile
 pub mod Real

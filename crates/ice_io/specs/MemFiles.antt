@@ -3,12 +3,13 @@ use Rattle.std.specs.Prelude.{◌≡◌, ◌≢◌, ◌⊎◌, ℕ, ◌-◌, min
 use Rattle.std.specs.FinMap as map_of
 use Rattle.std.specs.FinMap.{get, insert, from_entries}
 use Rattle.std.specs.Coded.{Coded, code_by, coded×, coded_ℕ, coded_list}
-use Rattle.ice_io.specs.Faults.{counted}
+use Rattle.ice_io.specs.Faults.{counted, counted_by}
 use Rattle.ice_io.specs.Files.{FileMap}
 use Rattle.ice_io.specs.declared.named_file.NamedFile.{NamedFile}
 
 -- the files, the one name that may be stored, how many bytes it may have, the greatest size of a copy, the numbers of
--- the calls that fail, counted from 1, how many calls there were, and how many loads and stores have failed
+-- the calls that fail, counted from 1, how many calls there were, how many loads and stores have failed, and how many bytes were
+-- read
 pub record FilesState : Type 0 where
   pub files : FileMap
   pub target : List ℕ
@@ -18,21 +19,22 @@ pub record FilesState : Type 0 where
   pub calls : ℕ
   pub load_faults : ℕ
   pub store_faults : ℕ
+  pub bytes_read : ℕ
 
 -- it is stored as the tuple of its fields
 abbrev pub files_code : Coded FilesState
 files_code =
-    code_by (FileMap × (List ℕ × (ℕ × (ℕ × (List ℕ × (ℕ × (ℕ × ℕ)))))))
-    (coded× (map_of.code (coded_list coded_ℕ) (coded_list coded_ℕ)) (coded× (coded_list coded_ℕ) (coded× coded_ℕ (coded× coded_ℕ (coded× (coded_list coded_ℕ) (coded× coded_ℕ (coded× coded_ℕ coded_ℕ)))))))
-    (λ s. (s.files, (s.target, (s.room, (s.most, (s.failing, (s.calls, (s.load_faults, s.store_faults))))))))
-    (λ p. record { files = p.0; target = p.1.0; room = p.1.1.0; most = p.1.1.1.0; failing = p.1.1.1.1.0; calls = p.1.1.1.1.1.0; load_faults = p.1.1.1.1.1.1.0; store_faults = p.1.1.1.1.1.1.1 })
+    code_by (FileMap × (List ℕ × (ℕ × (ℕ × (List ℕ × (ℕ × (ℕ × (ℕ × ℕ))))))))
+    (coded× (map_of.code (coded_list coded_ℕ) (coded_list coded_ℕ)) (coded× (coded_list coded_ℕ) (coded× coded_ℕ (coded× coded_ℕ (coded× (coded_list coded_ℕ) (coded× coded_ℕ (coded× coded_ℕ (coded× coded_ℕ coded_ℕ))))))))
+    (λ s. (s.files, (s.target, (s.room, (s.most, (s.failing, (s.calls, (s.load_faults, (s.store_faults, s.bytes_read)))))))))
+    (λ p. record { files = p.0; target = p.1.0; room = p.1.1.0; most = p.1.1.1.0; failing = p.1.1.1.1.0; calls = p.1.1.1.1.1.0; load_faults = p.1.1.1.1.1.1.0; store_faults = p.1.1.1.1.1.1.1.0; bytes_read = p.1.1.1.1.1.1.1.1 })
     (λ _. refl)
 
 -- a file's name and its bytes
 abbrev pub entry_of : NamedFile → List ℕ × List ℕ
 entry_of file = (string_bytes file.name, file.bytes.items)
 
--- the map of these files. Where a name stands twice, the first counts
+-- the map of these files. If a name stands twice, the first counts
 abbrev pub files_of : List NamedFile → FileMap
 files_of files = from_entries (map entry_of files)
 
@@ -53,9 +55,13 @@ StoreFails s name = Contains s.failing (counted s.calls) ⊎ (name ≢ s.target)
 abbrev pub part_size : FilesState → List ℕ → ℕ → ℕ → ℕ
 part_size s bytes at len = min s.most (min (length bytes - at) len)
 
--- the files after a load that didn't fail
-abbrev pub after_load : FilesState → FilesState
-after_load s = record s { calls = counted s.calls }
+-- the files after a load that didn't fail, and read so many bytes
+abbrev pub after_load : FilesState → ℕ → FilesState
+after_load s n = record s { calls = counted s.calls; bytes_read = counted_by s.bytes_read n }
+
+-- the files after a load for which there was no memory
+abbrev pub after_refused_load : FilesState → FilesState
+after_refused_load s = record s { calls = counted s.calls }
 
 -- the files after a load that failed
 abbrev pub after_failed_load : FilesState → FilesState

@@ -7,6 +7,6 @@ use Rattle.ice_io.specs.declared.sink.PutFault.TheVariants.{Failed}
 abbrev pub written_before : PutFault → ℕ
 written_before (Failed written) = written
 
--- where writing failed, P holds of how many bytes had been written
+-- if writing failed, P holds of how many bytes had been written
 abbrev pub ForWritten : {T : Type 0} → Result T PutFault → (ℕ → Type 0) → Type 0
 ForWritten result P = IfErr result (λ fault. P (written_before fault))

@@ -1,4 +1,4 @@
--- What reading takes from a source, where its bytes are known.
+-- What reading takes from a source, if its bytes are known.
 use Rattle.std.specs.Prelude.{◌≡◌, ℕ, ◌≤◌, List, Option, length}
 use Rattle.std.specs.Io.KnownBytes.{Consumes, IsAtEnd}
 

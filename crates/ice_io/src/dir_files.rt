@@ -2,7 +2,7 @@
 // that name, and was emptied before, is the system's part.
 ghost use Rattle.std.specs.Prelude.{◌≡◌, ◌+◌, ◌<◌, ◌≤◌, ◌^◌, None, true, false, length, vec_len, IfOk, IfErr, OnOk, OnErr, IsErrOf};
 ghost use Rattle.std.specs.Io.KnownBytes.{Appends};
-ghost use Rattle.ice_io.specs.DirFiles.{after_load_fault, after_store_fault, AppendsPart, WereInFile, WereTaken, WereRead, WereWritten, WereContentWritten, WerePartWritten};
+ghost use Rattle.ice_io.specs.DirFiles.{after_bytes, after_load_fault, after_store_fault, AppendsPart, WereInFile, WereTaken, WereRead, WereWritten, WereContentWritten, WerePartWritten};
 ghost use Rattle.ice_io.specs.Faults.{Rose};
 ghost use Rattle.ice_io.specs.Files.{LeavesContent, LeavesPart};
 ghost use Rattle.ice_io.specs.Real.{read_faults, reader_of};
@@ -14,40 +14,49 @@ use crate::kept_file::{KeptFile, read_part};
 use crate::real::{StdSink, StdSource};
 use crate::sink::{PutFault, Sink};
 use crate::source::{Failed, TakeFault, read_expected};
-use std::alloc::Global;
+use std::alloc::{AllocError, Global};
 use std::fs::OpenFile;
 use std::io::Read;
 use std::marker::Model;
 use std::{fs, rt};
 
-/// The files of the system. A contract sees only how many loads and stores have failed.
+/// The files of the system. A contract sees only how many loads and stores have failed, and how many bytes were read.
 #[derive(Drop)]
 pub struct DirFiles<'a, R: rt::Files> {
     rt: &'a R,
     kept: KeptFile<R::File>,
     load_faults: u64,
     store_faults: u64,
+    bytes_read: u64,
 }
 
 impl<'a, R: rt::Files> Model for DirFiles<'a, R> {
-    ghost use Rattle.ice_io.specs.DirFiles.{FileFaults};
+    ghost use Rattle.ice_io.specs.DirFiles.{FileCounts};
 
-    ghost Value = { FileFaults };
+    ghost Value = { FileCounts };
 
-    ghost view = { λ s. record { load_faults = s.load_faults; store_faults = s.store_faults } };
+    ghost view = { λ s. record { load_faults = s.load_faults; store_faults = s.store_faults; bytes_read = s.bytes_read } };
 }
 
 impl<'a, R: rt::Files> DirFiles<'a, R> {
-    /// The files that this runtime reaches, with no failure counted yet.
+    /// The files that this runtime reaches, with nothing counted yet.
     pub fn new(rt: &'a R) -> DirFiles<'a, R>
-        ensures { result ≡ record { load_faults = 0; store_faults = 0 } }
+        ensures { result ≡ record { load_faults = 0; store_faults = 0; bytes_read = 0 } }
     {
         DirFiles {
             rt,
             kept: KeptFile::new(),
             load_faults: 0,
             store_faults: 0,
+            bytes_read: 0,
         }
+    }
+
+    // Counts bytes that were read.
+    fn count_bytes(&mut self, count: usize)
+        ensures { self.new ≡ after_bytes self.old count }
+    {
+        self.bytes_read = self.bytes_read.saturating_add(count as u64);
     }
 
     // Stores the content, and counts a failure.
@@ -55,6 +64,7 @@ impl<'a, R: rt::Files> DirFiles<'a, R> {
         ensures part { IfErr result (LeavesPart None None name.now (C.bytes content)) }
         ensures never_falls { self.old.store_faults ≤ self.new.store_faults }
         ensures same_load_faults { self.new.load_faults ≡ self.old.load_faults }
+        ensures same_bytes_read { self.new.bytes_read ≡ self.old.bytes_read }
         ensures same { OnOk result (self.new ≡ self.old) }
         ensures failed { OnErr result (self.new ≡ after_store_fault self.old) }
         ensures whole { OnOk result (WereWritten R.File.contents (C.bytes content)) }
@@ -74,9 +84,11 @@ impl<R: rt::Files> Files for DirFiles<'_, R> {
 
     ghost steady = { λ _. false };
 
-    ghost load_faults = { λ faults. faults.load_faults };
+    ghost load_faults = { λ counts. counts.load_faults };
 
-    ghost store_faults = { λ faults. faults.store_faults };
+    ghost store_faults = { λ counts. counts.store_faults };
+
+    ghost bytes_read = { λ counts. counts.bytes_read };
 
     fn load(&mut self, alloc: Global, name: &str, limit: usize) -> Result<Vec<u8>, TakeFault>
         requires { limit < 2 ^ 32 }
@@ -84,19 +96,31 @@ impl<R: rt::Files> Files for DirFiles<'_, R> {
         ensures never_falls { self.old.load_faults ≤ self.new.load_faults }
         ensures same_store_faults { self.new.store_faults ≡ self.old.store_faults }
 
-        ensures same { (IsErrOf result TakeFault.Failed → ⊥) → self.new ≡ self.old }
+        ensures read { IfOk result (λ bytes. self.new ≡ after_bytes self.old (vec_len bytes)) }
+        ensures read_past { IsErrOf result TakeFault.TooLong → self.new ≡ after_bytes self.old (limit + 1) }
         ensures failed { IsErrOf result TakeFault.Failed → self.new ≡ after_load_fault self.old }
+        ensures same { (e : AllocError) → IsErrOf result (TakeFault.Memory e) → self.new ≡ self.old }
 
-        // `Ok` has all bytes of a file, and `TooLong` comes only where more than the limit were read from one.
+        // `Ok` has all bytes of a file, and `TooLong` comes only if one byte past the limit was read from one.
         ensures whole { IfOk result (λ bytes. WereInFile R.File.remaining bytes.items) }
         ensures longer { IsErrOf result TakeFault.TooLong → WereTaken R.File.remaining (limit + 1) }
     {
         self.kept.close();
-        let loaded = load_from(self.rt, alloc, name, limit);
-        if let Err(TakeFault::Failed) = loaded {
-            self.load_faults = self.load_faults.saturating_add(1);
+        match load_from(self.rt, alloc, name, limit) {
+            Ok(bytes) => {
+                self.count_bytes(bytes.len());
+                Ok(bytes)
+            }
+            Err(TakeFault::TooLong) => {
+                self.count_bytes(limit + 1);
+                Err(TakeFault::TooLong)
+            }
+            Err(TakeFault::Failed) => {
+                self.load_faults = self.load_faults.saturating_add(1);
+                Err(TakeFault::Failed)
+            }
+            Err(TakeFault::Memory(e)) => Err(TakeFault::Memory(e)),
         }
-        loaded
     }
 
     fn read_at(&mut self, name: &str, at: u64, into: &mut [u8]) -> Result<usize, Failed>
@@ -104,23 +128,29 @@ impl<R: rt::Files> Files for DirFiles<'_, R> {
         ensures never_falls { self.old.load_faults ≤ self.new.load_faults }
         ensures same_store_faults { self.new.store_faults ≡ self.old.store_faults }
 
-        ensures same { OnOk result (self.new ≡ self.old) }
+        ensures counted { IfOk result (λ n. self.new ≡ after_bytes self.old n) }
         ensures failed { OnErr result (self.new ≡ after_load_fault self.old) }
 
         // `Ok` has read these bytes from a file, and 0 for a buffer that isn't empty comes only at its end.
         ensures read { IfOk result (WereRead R.File.remaining into.new) }
     {
-        let read = read_part(self.rt, &mut self.kept, name, at, into);
-        if read.is_err() {
-            self.load_faults = self.load_faults.saturating_add(1);
+        match read_part(self.rt, &mut self.kept, name, at, into) {
+            Ok(count) => {
+                self.count_bytes(count);
+                Ok(count)
+            }
+            Err(Failed) => {
+                self.load_faults = self.load_faults.saturating_add(1);
+                Err(Failed)
+            }
         }
-        read
     }
 
     fn store(&mut self, name: &str, bytes: &[u8]) -> Result<(), StoreFault>
         ensures part { IfErr result (LeavesPart None None name.now bytes.now) }
         ensures never_falls { self.old.store_faults ≤ self.new.store_faults }
         ensures same_load_faults { self.new.load_faults ≡ self.old.load_faults }
+        ensures same_bytes_read { self.new.bytes_read ≡ self.old.bytes_read }
 
         ensures same { OnOk result (self.new ≡ self.old) }
         ensures failed { OnErr result (self.new ≡ after_store_fault self.old) }
@@ -141,6 +171,7 @@ impl<R: rt::Files> Files for DirFiles<'_, R> {
         ensures part { IfErr result (LeavesContent None None name.now (C.bytes content)) }
         ensures never_falls { self.old.store_faults ≤ self.new.store_faults }
         ensures same_load_faults { self.new.load_faults ≡ self.old.load_faults }
+        ensures same_bytes_read { self.new.bytes_read ≡ self.old.bytes_read }
 
         ensures same { OnOk result (self.new ≡ self.old) }
         ensures failed { OnErr result (self.new ≡ after_store_fault self.old) }

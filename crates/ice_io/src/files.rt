@@ -1,6 +1,6 @@
 // Files, loaded whole or read in parts, and stored.
 ghost use Rattle.std.specs.Prelude.{◌≡◌, ◌+◌, ◌<◌, ◌≤◌, ◌^◌, ℕ, List, Bool, Option, length, take, vec_len, IfOk, IfErr, OnOk, OnErr, IsErrOf, IsTrue};
-ghost use Rattle.ice_io.specs.Faults.{Rose};
+ghost use Rattle.ice_io.specs.Faults.{Rose, RoseBy};
 ghost use Rattle.ice_io.specs.Files.{CountsStore, EndsBefore, FileMap, HasFile, HasMore, HasPart, LacksFile, LeavesContent, LeavesPart, TakesFrontOf, with_file};
 ghost use Rattle.ice_io.specs.Takers.{TakesMore};
 
@@ -28,7 +28,7 @@ pub enum ContentFault {
 
 /// Files by name, loaded whole or read in parts, and stored.
 pub trait Files {
-    /// The bytes of each name, where they are known.
+    /// The bytes of each name, if they are known.
     ghost contents: { Self → Option FileMap };
 
     /// Whether a load of a known name never fails.
@@ -40,6 +40,9 @@ pub trait Files {
     /// How many stores have failed. It never falls, and stays at `u64::MAX`.
     ghost store_faults: { Self → ℕ };
 
+    /// How many bytes have been read. It never falls, and stays at `u64::MAX`.
+    ghost bytes_read: { Self → ℕ };
+
     /// All bytes of a file, if there are at most `limit`.
     fn load(&mut self, alloc: Global, name: &str, limit: usize) -> Result<Vec<u8>, TakeFault>
         requires { limit < 2 ^ 32 }
@@ -47,6 +50,8 @@ pub trait Files {
         ensures bytes { IfOk result (λ bytes. HasFile (contents self.old) name.now bytes.items) }
         ensures within { IfOk result (λ bytes. vec_len bytes ≤ limit) }
         ensures too_long { IsErrOf result TakeFault.TooLong → HasMore (contents self.old) name.now limit }
+        ensures read { IfOk result (λ bytes. RoseBy (vec_len bytes) (bytes_read self.old) (bytes_read self.new)) }
+        ensures read_past { IsErrOf result TakeFault.TooLong → RoseBy (limit + 1) (bytes_read self.old) (bytes_read self.new) }
         ensures lacks { IsErrOf result TakeFault.Failed → IsTrue (steady self.old) → LacksFile (contents self.old) name.now }
         ensures failed { IsErrOf result TakeFault.Failed → Rose (load_faults self.old) (load_faults self.new) }
 
@@ -55,12 +60,14 @@ pub trait Files {
         ensures never_falls { load_faults self.old ≤ load_faults self.new }
         ensures same_store_faults { store_faults self.new ≡ store_faults self.old };
 
-    /// Reads bytes of a file from the place `at` on into the front of the buffer, and returns how many. It returns 0 only where
+    /// Reads bytes of a file from the place `at` on into the front of the buffer, and returns how many. It returns 0 only if
     /// the file has no byte from there on, or for an empty buffer. It allocates nothing.
     fn read_at(&mut self, name: &str, at: u64, into: &mut [u8]) -> Result<usize, Failed>
         ensures count { IfOk result (λ n. n ≤ length into.new) }
         ensures bytes { IfOk result (λ n. HasPart (contents self.old) name.now at (take n into.new)) }
         ensures end { IfOk result (λ n. n ≡ 0 → 0 < length into.new → EndsBefore (contents self.old) name.now at) }
+        ensures read { IfOk result (λ n. RoseBy n (bytes_read self.old) (bytes_read self.new)) }
+        ensures unread { OnErr result (bytes_read self.new ≡ bytes_read self.old) }
         ensures lacks { OnErr result (IsTrue (steady self.old) → LacksFile (contents self.old) name.now) }
         ensures failed { OnErr result (Rose (load_faults self.old) (load_faults self.new)) }
 
@@ -78,9 +85,10 @@ pub trait Files {
 
         ensures same_steady { steady self.new ≡ steady self.old }
         ensures never_falls { store_faults self.old ≤ store_faults self.new }
+        ensures same_bytes_read { bytes_read self.new ≡ bytes_read self.old }
         ensures same_load_faults { load_faults self.new ≡ load_faults self.old };
 
-    /// Creates the file or replaces it, as `store` does, with bytes that are made while they are written. Where an impl leaves
+    /// Creates the file or replaces it, as `store` does, with bytes that are made while they are written. If an impl leaves
     /// this out, all bytes are made before the first is stored.
     fn store_content<C: Content>(
         &mut self,
@@ -94,6 +102,7 @@ pub trait Files {
 
         ensures same_steady { steady self.new ≡ steady self.old }
         ensures never_falls { store_faults self.old ≤ store_faults self.new }
+        ensures same_bytes_read { bytes_read self.new ≡ bytes_read self.old }
         ensures same_load_faults { load_faults self.new ≡ load_faults self.old }
     {
         match gathered(alloc, content) {
@@ -108,6 +117,9 @@ pub trait Files {
 
 /// Gives all bytes of a file to a taker, in pieces of at most 65,536 bytes, if there are at most `limit`. A taker that was given
 /// some bytes before a refusal has taken the first of the file.
+///
+/// # Errors
+/// `TooLong` after `limit + 1` bytes were read, `Failed` if a read failed, and `Memory` if memory is out.
 pub fn load_into<F: Files, T: Taker>(
     alloc: Global,
     files: &mut F,
@@ -122,6 +134,7 @@ pub fn load_into<F: Files, T: Taker>(
         × (length bytes ≤ limit) × TakesMore T.has_taken taker.old taker.new bytes) }
     ensures part { OnErr result (TakesFrontOf (F.contents files.old) name.now T.has_taken taker.old taker.new) }
     ensures too_long { IsErrOf result TakeFault.TooLong → HasMore (F.contents files.old) name.now limit }
+    ensures read_past { IsErrOf result TakeFault.TooLong → RoseBy (limit + 1) (F.bytes_read files.old) (F.bytes_read files.new) }
     ensures lacks { IsErrOf result TakeFault.Failed → IsTrue (F.steady files.old) → LacksFile (F.contents files.old) name.now }
     ensures failed { IsErrOf result TakeFault.Failed → Rose (F.load_faults files.old) (F.load_faults files.new) }
 

@@ -8,7 +8,7 @@ use crate::sink::Sink;
 use crate::source::Failed;
 use std::alloc::{AllocError, Global};
 
-/// A sink over memory that grows. A write fails only where there is no more of it.
+/// A sink over memory that grows. A write fails only if memory is out.
 #[derive(Drop)]
 struct Gathering {
     bytes: Vec<u8>,

@@ -1,6 +1,7 @@
 // The file of the system that was read last, which stays open.
-ghost use Rattle.std.specs.Prelude.{◌≡◌, ◌<◌, ◌≤◌, length, IfOk};
+ghost use Rattle.std.specs.Prelude.{◌≡◌, ◌<◌, ◌≤◌, None, Some, length, IfNone, IfOk, IfSome};
 ghost use Rattle.ice_io.specs.DirFiles.{WereRead};
+ghost use Rattle.ice_io.specs.KeptFile.{IsKept};
 
 use crate::pieces::copy_front;
 use crate::real::StdSource;
@@ -24,7 +25,9 @@ pub(crate) struct KeptFile<F: Read + Drop> {
 
 impl<F: Read + Drop> KeptFile<F> {
     /// No file is open.
-    pub(crate) fn new() -> KeptFile<F> {
+    pub(crate) fn new() -> KeptFile<F>
+        ensures { result.file ≡ None }
+    {
         KeptFile {
             file: None,
             name: [0; NAME_ROOM],
@@ -34,19 +37,28 @@ impl<F: Read + Drop> KeptFile<F> {
     }
 
     /// Closes the file.
-    pub(crate) fn close(&mut self) {
+    pub(crate) fn close(&mut self)
+        ensures { self.new.file ≡ None }
+    {
         self.file = None;
     }
 
     // The file, if it was opened by this name, and that place was reached.
-    fn take(&mut self, name: &str, place: u64) -> Option<StdSource<F>> {
+    fn take(&mut self, name: &str, place: u64) -> Option<StdSource<F>>
+        ensures closed { self.new.file ≡ None }
+        ensures kept { IfSome result (λ file. IsKept self.old name.now (Some place) file) }
+        ensures other { IfNone result ((file : StdSource F) → IsKept self.old name.now (Some place) file → ⊥) }
+    {
         let file = self.file.take();
         let is_here = self.place == Some(place) && &self.name[..self.name_len] == name.as_bytes();
         if is_here { file } else { None }
     }
 
-    // Keeps a file, with its name and the place that was reached in it, or closes it where the name doesn't fit.
-    fn keep(&mut self, file: StdSource<F>, name: &str, place: Option<u64>) {
+    // Keeps a file, with its name and the place that was reached in it, or closes it if the name doesn't fit.
+    fn keep(&mut self, file: StdSource<F>, name: &str, place: Option<u64>)
+        ensures kept { length name.now ≤ NAME_ROOM → IsKept self.new name.now place file }
+        ensures long { NAME_ROOM < length name.now → self.new ≡ self.old }
+    {
         if name.len() > self.name.len() {
             return;
         }
@@ -56,8 +68,8 @@ impl<F: Read + Drop> KeptFile<F> {
     }
 }
 
-/// Reads bytes of a file from a place on: of the file that is kept, where it was read up to there, and else of one that is
-/// opened anew. At its end the file is closed.
+/// Reads bytes of a file from a place on: of the file that is kept, if it was read up to there, and else of one that is opened
+/// anew. At its end the file is closed.
 pub(crate) fn read_part<R: rt::Files>(
     rt: &R,
     kept: &mut KeptFile<R::File>,

@@ -1,7 +1,7 @@
 //! Input and output: sources of bytes, sinks for bytes, and files by name. Each counts its failures.
 //!
 //! The sources, sinks and files in memory know their bytes, and fail at the calls that you choose. `StdSource`, `StdSink` and
-//! `DirFiles` stand over the standard library. They promise that all bytes were read or written, and an exact count where not;
+//! `DirFiles` stand over the standard library. They promise that all bytes were read or written, and an exact count if not;
 //! what lies in a file of the system, only the system knows.
 #![tactic(auto)]
 

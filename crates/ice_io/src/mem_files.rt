@@ -3,8 +3,9 @@ ghost use Rattle.std.specs.Prelude.{◌≡◌, ◌⊎◌, ◌↔◌, ◌+◌, �
 ghost use Rattle.std.specs.Ordering.{nat_cmp};
 ghost use Rattle.std.specs.Cmp.Lexicographic.{slice_cmp};
 ghost use Rattle.std.specs.FinMap.{get, find};
+ghost use Rattle.ice_io.specs.Faults.{counted_by};
 ghost use Rattle.ice_io.specs.Files.{EndsBefore, HasPart};
-ghost use Rattle.ice_io.specs.MemFiles.{entry_of, files_of, part_size, LoadFails, StoreFails, after_load, after_failed_load, after_store, after_part_store, after_failed_store};
+ghost use Rattle.ice_io.specs.MemFiles.{entry_of, files_of, part_size, LoadFails, StoreFails, after_load, after_refused_load, after_failed_load, after_store, after_part_store, after_failed_store};
 
 use crate::content::Content;
 use crate::files::{ContentFault, Files, StoreFault};
@@ -27,6 +28,7 @@ pub struct MemFiles {
     calls: u64,
     load_faults: u64,
     store_faults: u64,
+    bytes_read: u64,
 }
 
 impl Model for MemFiles {
@@ -46,6 +48,7 @@ impl Model for MemFiles {
       calls = s.calls;
       load_faults = s.load_faults;
       store_faults = s.store_faults;
+      bytes_read = s.bytes_read;
     } };
 
     ghost invariant = { λ s. 1 ≤ s.most };
@@ -64,7 +67,7 @@ impl MemFiles {
         failing: Vec<u64>,
     ) -> Result<MemFiles, AllocError>
         requires { 1 ≤ most }
-        ensures { IfOk result (λ all. all ≡ record { files = files_of files.items; target = target.now; room = room; most = most; failing = failing.items; calls = 0; load_faults = 0; store_faults = 0 }) }
+        ensures { IfOk result (λ all. all ≡ record { files = files_of files.items; target = target.now; room = room; most = most; failing = failing.items; calls = 0; load_faults = 0; store_faults = 0; bytes_read = 0 }) }
     {
         Ok(MemFiles {
             files,
@@ -76,6 +79,7 @@ impl MemFiles {
             calls: 0,
             load_faults: 0,
             store_faults: 0,
+            bytes_read: 0,
         })
     }
 
@@ -99,6 +103,13 @@ impl MemFiles {
             return None;
         }
         self.bytes_of(name)
+    }
+
+    // Counts bytes that were read.
+    fn count_bytes(&mut self, count: usize)
+        ensures { self.new ≡ record self.old { bytes_read = counted_by self.old.bytes_read count } }
+    {
+        self.bytes_read = self.bytes_read.saturating_add(count as u64);
     }
 
     // Stores the content under the name that may be stored, as far as there is room.
@@ -142,24 +153,36 @@ impl Files for MemFiles {
 
     ghost store_faults = { λ s. s.store_faults };
 
+    ghost bytes_read = { λ s. s.bytes_read };
+
     fn load(&mut self, alloc: Global, name: &str, limit: usize) -> Result<Vec<u8>, TakeFault>
+        requires { limit < 2 ^ 32 }
         ensures never_falls { self.old.load_faults ≤ self.new.load_faults }
 
         ensures fails { IsErrOf result TakeFault.Failed ↔ LoadFails self.old name.now }
         ensures too_long { IsErrOf result TakeFault.TooLong → IsSomeAnd (get self.old.files name.now) (λ bytes. limit < length bytes) }
         ensures bytes { IfOk result (λ bytes. get self.old.files name.now ≡ Some bytes.items) }
         ensures within { IfOk result (λ bytes. vec_len bytes ≤ limit) }
-        ensures after { (IsErrOf result TakeFault.Failed → ⊥) → self.new ≡ after_load self.old }
+        ensures after { IfOk result (λ bytes. self.new ≡ after_load self.old (vec_len bytes)) }
+        ensures after_too_long { IsErrOf result TakeFault.TooLong → self.new ≡ after_load self.old (limit + 1) }
+        ensures after_memory { (e : AllocError) → IsErrOf result (TakeFault.Memory e) → self.new ≡ after_refused_load self.old }
         ensures after_failed { IsErrOf result TakeFault.Failed → self.new ≡ after_failed_load self.old }
     {
         self.calls = self.calls.saturating_add(1);
         match copied(alloc, self.file_to_load(name), limit) {
-            Ok(bytes) => Ok(bytes),
+            Ok(bytes) => {
+                self.count_bytes(bytes.len());
+                Ok(bytes)
+            }
+            Err(TakeFault::TooLong) => {
+                self.count_bytes(limit + 1);
+                Err(TakeFault::TooLong)
+            }
             Err(TakeFault::Failed) => {
                 self.load_faults = self.load_faults.saturating_add(1);
                 Err(TakeFault::Failed)
             }
-            Err(fault) => Err(fault),
+            Err(TakeFault::Memory(e)) => Err(TakeFault::Memory(e)),
         }
     }
 
@@ -171,12 +194,16 @@ impl Files for MemFiles {
         ensures fails { IsErr result ↔ LoadFails self.old name.now }
         ensures size { IfOk result (λ n. IsSomeAnd (get self.old.files name.now) (λ all. n ≡ part_size self.old all at (length into.new))) }
         ensures front { IfOk result (λ n. IsSomeAnd (get self.old.files name.now) (λ all. take n into.new ≡ take n (drop at all))) }
-        ensures after { OnOk result (self.new ≡ after_load self.old) }
+        ensures after { IfOk result (λ n. self.new ≡ after_load self.old n) }
         ensures after_failed { OnErr result (self.new ≡ after_failed_load self.old) }
     {
         self.calls = self.calls.saturating_add(1);
         match self.file_to_load(name) {
-            Some(bytes) => Ok(copy_front(from_place(bytes, at), self.most, into)),
+            Some(bytes) => {
+                let count = copy_front(from_place(bytes, at), self.most, into);
+                self.count_bytes(count);
+                Ok(count)
+            }
             None => {
                 self.load_faults = self.load_faults.saturating_add(1);
                 Err(Failed)

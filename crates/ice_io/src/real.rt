@@ -1,4 +1,4 @@
-// Sources and sinks over the readers and writers of the standard library. They know the bytes where those do: in memory, but
+// Sources and sinks over the readers and writers of the standard library. They know the bytes if those do: in memory, but
 // not in a file, at a terminal or in a pipe.
 ghost use Rattle.std.specs.Prelude.{◌≡◌, ◌≢◌, ◌<◌, ◌≤◌, ℕ, length, IfOk, IfErr, OnOk, OnErr};
 ghost use Rattle.std.specs.Fs.{metadata_len};
@@ -12,7 +12,7 @@ use std::fs::{Metadata, OpenFile};
 use std::io;
 use std::io::{Error, ErrorKind, Read, Write};
 
-/// A source over a reader. It reads again where a read is interrupted.
+/// A source over a reader. It reads again if a read is interrupted.
 #[derive(Drop)]
 pub struct StdSource<R: Read> {
     inner: R,
@@ -38,7 +38,7 @@ impl<R: Read + OpenFile> StdSource<R> {
     }
 }
 
-// The length that the system tells, or 0 where it tells none.
+// The length that the system gives, or 0 if it gives none.
 fn length_in(told: io::Result<Metadata>) -> usize
     ensures told { IfOk told (λ metadata. result ≡ metadata_len metadata) }
     ensures untold { OnErr told (result ≡ 0) }
@@ -74,7 +74,7 @@ impl<R: Read> Source for StdSource<R> {
     }
 }
 
-/// A sink over a writer. It writes again where a write is interrupted.
+/// A sink over a writer. It writes again if a write is interrupted.
 #[derive(Drop)]
 pub struct StdSink<W: Write> {
     inner: W,

@@ -10,7 +10,7 @@ use crate::source::Failed;
 use std::alloc::{AllocError, Global};
 use std::marker::Model;
 
-/// A sink over memory that was allocated beforehand. A write fails only where that memory is full.
+/// A sink over memory that was allocated beforehand. A write fails only if that memory is full.
 #[derive(Drop)]
 pub(crate) struct Room {
     bytes: Vec<u8>,

@@ -8,7 +8,7 @@ use crate::source::Failed;
 
 /// A writer of bytes, in order.
 pub trait Sink {
-    /// The bytes written so far, where they are known.
+    /// The bytes written so far, if they are known.
     ghost held: { Self → Option (List ℕ) };
 
     /// How many writes have failed. It never falls, and stays at `u64::MAX`.
@@ -32,6 +32,9 @@ pub enum PutFault {
 }
 
 /// Writes all the bytes, in as many writes as it takes. It allocates nothing.
+///
+/// # Errors
+/// `Failed` if a write failed, with the count of bytes that were written before it.
 pub fn write_whole<K: Sink>(sink: &mut K, bytes: &[u8]) -> Result<(), PutFault>
     ensures whole { OnOk result (Appends (K.held sink.old) (K.held sink.new) bytes.now) }
     ensures part { ForWritten result (λ written. Appends (K.held sink.old) (K.held sink.new) (take written bytes.now)) }

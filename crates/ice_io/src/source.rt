@@ -12,7 +12,7 @@ pub struct Failed;
 
 /// A reader of bytes, in order.
 pub trait Source {
-    /// The bytes not yet read, where they are known.
+    /// The bytes not yet read, if they are known.
     ghost left: { Self → Option (List ℕ) };
 
     /// How many reads have failed. It never falls, and stays at `u64::MAX`.
@@ -61,7 +61,10 @@ impl From<Failed> for TakeFault {
 /// For how many bytes room is made at a time, at most.
 const TURN: usize = 65536;
 
-/// Reads all bytes up to the end, if there are at most `limit`. `TooLong` leaves `limit + 1` bytes read.
+/// Reads all bytes up to the end, if there are at most `limit`.
+///
+/// # Errors
+/// `TooLong` after `limit + 1` bytes were read, `Failed` if a read failed, and `Memory` if memory is out.
 pub fn read_all<S: Source>(
     alloc: Global,
     source: &mut S,
@@ -102,7 +105,7 @@ pub(crate) fn read_expected<S: Source>(
     let mut filled = 0;
     loop {
         make_room(&mut bytes, filled, limit)?;
-        let count = read_behind(source, &mut bytes, filled)?;
+        let count = read_after(source, &mut bytes, filled)?;
         if count == 0 {
             bytes.truncate(filled);
             return Ok(bytes);
@@ -123,7 +126,7 @@ fn first_room(alloc: Global, expected: usize, limit: usize) -> Result<Vec<u8>, A
     Vec::with_capacity(alloc, expected.min(limit) + 1)
 }
 
-// Makes room behind the first bytes, where there is none. After a refusal the bytes are as before.
+// Makes room after the first bytes, if there is none. After a refusal the bytes are as before.
 fn make_room(bytes: &mut Vec<u8>, filled: usize, limit: usize) -> Result<(), AllocError>
     requires small { limit < 2 ^ 32 }
     requires below { filled ≤ limit }
@@ -142,7 +145,7 @@ fn make_room(bytes: &mut Vec<u8>, filled: usize, limit: usize) -> Result<(), All
     bytes.resize(filled + room, 0)
 }
 
-// For how many bytes room is made, where there is memory for so many more.
+// For how many bytes room is made, if the vector has memory for so many more.
 fn turn(spare: usize) -> usize
     ensures some { 0 < result }
     ensures most { result ≤ 65536 }
@@ -150,8 +153,8 @@ fn turn(spare: usize) -> usize
     if spare == 0 { TURN } else { spare.min(TURN) }
 }
 
-// One read into the room behind the first bytes.
-fn read_behind<S: Source>(
+// One read into the room after the first bytes.
+fn read_after<S: Source>(
     source: &mut S,
     bytes: &mut Vec<u8>,
     filled: usize,

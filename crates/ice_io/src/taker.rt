@@ -18,7 +18,7 @@ pub trait Taker {
     /// How many bytes count towards the most that it takes.
     ghost fed: { Self → ℕ };
 
-    /// Takes a piece, of at most 65,536 bytes, behind those before.
+    /// Takes the next piece, of at most 65,536 bytes.
     fn take(&mut self, piece: &[u8])
         requires few { fed self.old + length piece.now < 2 ^ 32 }
         requires short { length piece.now ≤ 65536 }
@@ -30,8 +30,11 @@ pub trait Taker {
 const PIECE: usize = 65536;
 
 /// Gives all bytes up to the end of the source to a taker, in pieces of at most 65,536 bytes, if there are at most `limit`.
-/// `TooLong` leaves `limit + 1` bytes read. A taker that was given some bytes before a refusal has taken the first that were
-/// read, and where a read failed all of them.
+/// A taker that was given some bytes before a refusal has taken the first of those that were read, and all of them if a read
+/// failed.
+///
+/// # Errors
+/// `TooLong` after `limit + 1` bytes were read, `Failed` if a read failed, and `Memory` if memory is out.
 pub fn feed_all<S: Source, T: Taker>(
     alloc: Global,
     source: &mut S,

@@ -35,6 +35,8 @@ impl<F: Files> Files for Watched<F> {
 
     ghost store_faults = { λ watched. F.store_faults watched.files };
 
+    ghost bytes_read = { λ watched. F.bytes_read watched.files };
+
     fn load(&mut self, alloc: Global, name: &str, limit: usize) -> Result<Vec<u8>, TakeFault> {
         self.note(" l ", name);
         self.files.load(alloc, name, limit)

@@ -4,7 +4,7 @@ use Rattle.ice_io.proofs.Fronts.{HasFront-all, HasFront-long, HasFront-more, Has
 use Rattle.ice_io.proofs.Takers.{TakesMore-none, TakesMore-trans}
 use Rattle.ice_io.proofs.files.load_into.Goals as goal
 
--- a fact, where the call failed
+-- a fact, if the call failed
 on_err : {T E P : Type 0} (r : Result T E) → P → OnErr r P
 on_err (Ok x) p = tt
 on_err (Err e) p = p
@@ -19,6 +19,7 @@ loop-buffer-init g c = record {
   within = omega arith;
   room = omega arith;
   most = omega arith;
+  read = (omega arith, omega arith);
   faults = omega arith;
   same_contents = refl;
   same_steady = refl;
@@ -63,6 +64,12 @@ returns-then-taken-count-clause-too_long g c = λ _.
     HasFront-long (g.F.Files.contents c.args.files.now) name taken.0 piece c.loop-buffer.taken c.args.limit taken.2
     (omega (arith, c.in_ok-count.ensures.count, length-take {A = ℕ})) taken.1 has
 
+pub returns-then-taken-count-clause-read_past : goal.returns-then-taken-count-clause-read_past
+returns-then-taken-count-clause-read_past g c = λ _.
+    let i = c.loop-buffer.invariant in
+    let e = c.in_ok-count.ensures in
+    (omega (arith, i.read.0, e.read.0, e.count, i.within), omega (arith, i.read.1, e.read.1, e.count, i.within))
+
 pub take-requires-clause-short : goal.take-requires-clause-short
 take-requires-clause-short g c = omega (arith, c.loop-buffer.invariant.most, length-take {A = ℕ})
 
@@ -87,6 +94,7 @@ loop-buffer-preserved g c =
       within = omega (arith, c.if-taken-count.false);
       room = i.room;
       most = i.most;
+      read = (omega (arith, i.read.0, e.read.0), omega (arith, i.read.1, e.read.1));
       faults = omega (arith, i.faults, e.never_falls);
       same_contents = e.same_contents ∙ i.same_contents;
       same_steady = e.same_steady ∙ i.same_steady;

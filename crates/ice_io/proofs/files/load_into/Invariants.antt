@@ -1,4 +1,5 @@
 use Rattle.std.proofs.Common.{◌≡◌, ℕ, List, length, vec_len, ◌-◌, ◌+◌, ◌≤◌}
+use Rattle.ice_io.specs.Faults.{RoseBy}
 use Rattle.ice_io.specs.Files.{HasFront}
 use Rattle.ice_io.specs.Takers.{TakesMore}
 use Rattle.ice_io.proofs.files.load_into.Given as goal
@@ -14,6 +15,7 @@ invariant-loop-buffer g l =
       within : l.taken ≤ l.limit;
       room : 1 ≤ vec_len l.buffer;
       most : vec_len l.buffer ≤ 65536;
+      read : RoseBy l.taken (F.bytes_read l.initial.files) (F.bytes_read l.files);
       faults : F.load_faults l.initial.files ≤ F.load_faults l.files;
       same_contents : F.contents l.files ≡ F.contents l.initial.files;
       same_steady : F.steady l.files ≡ F.steady l.initial.files;

@@ -1,8 +1,8 @@
 -- A stop that tells the fault of a boot file.
 use Rattle.std.proofs.Common.{ℕ, List, sym, ap, ◌∙◌}
 use Rattle.std.specs.Prelude.{Option}
-use Rattle.boot_read.specs.Faults.{split_fault}
-use Rattle.boot_read.specs.Reading.{IsDecided, boot_read_of}
+use Rattle.boot_file.specs.Faults.{split_fault}
+use Rattle.boot_file.specs.Reading.{IsDecided, boot_read_of}
 use Rattle.tool_run.specs.Stops.{StopsWith}
 use Rattle.tool_run.specs.Tasks.{Refused as Refuses}
 use Rattle.tool_run.specs.declared.tool.Stop.{Stop}

@@ -5,8 +5,8 @@ use Rattle.bram_replace.specs.declared.fault.HexFault.{HexFault}
 use Rattle.bram_replace.specs.declared.fault.HexFault.TheVariants.{Digit, Width, Depth, Memory as HexMemory}
 use Rattle.bram_replace.specs.declared.fault.BramFault.{BramFault}
 use Rattle.bram_replace.specs.declared.fault.BramFault.TheVariants.{Shape, SameColumns, Asc, Memory as BramMemory}
-use Rattle.multi_boot.specs.declared.fault.MultiFault.{MultiFault}
-use Rattle.multi_boot.specs.declared.fault.MultiFault.TheVariants.{NoImage, TooMany, Align, PowerOn, Address, Memory as OutOfMemory}
+use Rattle.boot_file.specs.declared.multi_fault.MultiFault.{MultiFault}
+use Rattle.boot_file.specs.declared.multi_fault.MultiFault.TheVariants.{NoImage, TooMany, Align, PowerOn, Address, Memory as OutOfMemory}
 use Rattle.tool_parts.specs.Faults.{asc_fault_text}
 
 -- ---- a fault of images that are joined

@@ -2,9 +2,9 @@
 use Rattle.std.specs.Prelude.{◌≡◌, Bool, true, false, List, codes, length, map, refl, Option, None, Some}
 use Rattle.clap.specs.Words.{Row, Text, first_of, is_simple_and_free}
 use Rattle.clap.proofs.OnLiterals.{clap_on_literals}
-use Rattle.multi_boot.specs.declared.options.Options.{Options}
-use Rattle.multi_boot.specs.declared.fault.MultiFault.{MultiFault}
-use Rattle.multi_boot.specs.Refusals.{check_fault}
+use Rattle.boot_file.specs.declared.options.Options.{Options}
+use Rattle.boot_file.specs.declared.multi_fault.MultiFault.{MultiFault}
+use Rattle.boot_file.specs.Refusals.{check_fault}
 use Rattle.tool_run.specs.Needs.{Need}
 use Rattle.tool_parts.specs.Commands.{has_flag, values_of}
 use Rattle.bitstream_tools.specs.Bram.{icebram_command, icebram_name, icebram_task_by, icebram_task_of}

@@ -2,10 +2,10 @@
 use Rattle.std.specs.Prelude.{ℕ, Bool, true, false, not, ◌&&◌, ◌==◌, List, [], ◌∷◌, codes, length, map, nat_le, if◌then◌else◌, Option, None, Some, option_map}
 use Rattle.clap.specs.Words.{App, Row, Text, first_of}
 use Rattle.text_lines.specs.Words.{number_of}
-use Rattle.multi_boot.specs.declared.options.Options.{Options}
-use Rattle.multi_boot.specs.declared.fault.MultiFault.{MultiFault}
-use Rattle.multi_boot.specs.BootFile.{boot_file}
-use Rattle.multi_boot.specs.Refusals.{check_fault, join_fault}
+use Rattle.boot_file.specs.declared.options.Options.{Options}
+use Rattle.boot_file.specs.declared.multi_fault.MultiFault.{MultiFault}
+use Rattle.boot_file.specs.BootFile.{boot_file}
+use Rattle.boot_file.specs.Refusals.{check_fault, join_fault}
 use Rattle.tool_run.specs.Needs.{IsSound, Need, need_of, text_of}
 use Rattle.tool_run.specs.Tasks.{Answer, Done, Refused, Task, at_once, usage_error}
 use Rattle.tool_parts.specs.Outcomes.{Manual, outcome}

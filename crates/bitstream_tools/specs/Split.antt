@@ -4,9 +4,9 @@ use Rattle.clap.specs.Words.{App, Row, Text, first_of}
 use Rattle.place_search.specs.Places.{gathered_below}
 use Rattle.plane_map.specs.DeviceWords.{device_word}
 use Rattle.bin_stream.specs.CanonicalBytes.{canonical_bytes}
-use Rattle.boot_read.specs.declared.fault.SplitFault.{SplitFault}
-use Rattle.boot_read.specs.Meaning.{Boot, PlacedImage}
-use Rattle.boot_read.specs.Reading.{boot_read_of}
+use Rattle.boot_file.specs.declared.split_fault.SplitFault.{SplitFault}
+use Rattle.boot_file.specs.Meaning.{Boot, PlacedImage}
+use Rattle.boot_file.specs.Reading.{boot_read_of}
 use Rattle.tool_run.specs.Needs.{Need, text_of}
 use Rattle.tool_run.specs.Tasks.{Answer, Done, Refused, Task, usage_error}
 use Rattle.tool_parts.specs.Outcomes.{Manual, outcome}

@@ -1,8 +1,8 @@
 -- What is said of a fault of a boot file.
 use Rattle.std.specs.Prelude.{◌≡◌, ℕ, List, ◌++◌, codes, decimal, Option, Some}
 use Rattle.bin_stream.specs.declared.fault.BinFault.TheVariants.{At, Memory as StreamMemory}
-use Rattle.boot_read.specs.declared.fault.SplitFault.{SplitFault}
-use Rattle.boot_read.specs.declared.fault.SplitFault.TheVariants.{Short, Header, Address, PowerOn, Image, Memory}
+use Rattle.boot_file.specs.declared.split_fault.SplitFault.{SplitFault}
+use Rattle.boot_file.specs.declared.split_fault.SplitFault.TheVariants.{Short, Header, Address, PowerOn, Image, Memory}
 use Rattle.tool_run.specs.Lines.{refusal_text}
 use Rattle.tool_run.specs.declared.tool.Stop.{Stop}
 use Rattle.tool_run.specs.declared.tool.Stop.TheVariants.{Refused, UsageError, Memory as StopsMemory}

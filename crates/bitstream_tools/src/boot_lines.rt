@@ -1,9 +1,9 @@
 // The lines that tell what a boot file has.
 ghost use Rattle.std.specs.Prelude.{◌≡◌, ◌++◌, map, IfOk, OnOk};
-ghost use Rattle.boot_read.specs.Meaning.{boot_of, placed_of};
+ghost use Rattle.boot_file.specs.Meaning.{boot_of, placed_of};
 ghost use Rattle.bitstream_tools.specs.Split.{cold_line, image_line, image_lines, listed, power_line};
 
-use boot_read::{BootFile, BootImage};
+use boot_file::{BootFile, BootImage};
 use itoa::Buffer;
 use std::alloc::{AllocError, Global};
 

@@ -4,8 +4,8 @@ ghost use Rattle.tool_run.specs.Lines.{phrase_text, refusal_text};
 ghost use Rattle.bitstream_tools.specs.Faults.{bram_fault_text, hex_fault_text, multi_fault_text};
 
 use asc_text::AscFault;
+use boot_file::MultiFault;
 use bram_replace::{BramFault, HexFault};
-use multi_boot::MultiFault;
 use tool_parts::{asc_refusal, refusal, whole};
 use tool_run::{Phrase, Refusal, decimal, text};
 

@@ -7,8 +7,8 @@ ghost use Rattle.bitstream_tools.specs.Multi.{LoadsFiles, aligned_by, icemulti_c
 
 use crate::faults::multi_refusal;
 use crate::pack::TEXT_LIMIT;
+use boot_file::{MultiFault, Options, check, join};
 use clap::{ArgMatches, Command};
-use multi_boot::{MultiFault, Options, check, join};
 use std::alloc::{AllocError, Global};
 use text_lines::number;
 use tool_parts::{

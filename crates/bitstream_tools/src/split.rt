@@ -1,8 +1,8 @@
 // `icesplit`: the images of a boot file.
 ghost use Rattle.std.specs.Prelude.{◌≡◌, None, Some, map, slice_get, string_bytes, IfOk, IfErr};
 ghost use Rattle.clap.specs.Words.{app_of, found_of, rows_of};
-ghost use Rattle.boot_read.specs.Meaning.{placed_of};
-ghost use Rattle.boot_read.specs.Reading.{boot_read_of};
+ghost use Rattle.boot_file.specs.Meaning.{placed_of};
+ghost use Rattle.boot_file.specs.Reading.{boot_read_of};
 ghost use Rattle.tool_run.specs.Needs.{text_of};
 ghost use Rattle.tool_run.specs.Runs.{Does};
 ghost use Rattle.tool_run.specs.Stops.{StopsWith};
@@ -13,7 +13,7 @@ use crate::boot_lines::listed;
 use crate::multi::number_given;
 use crate::split_faults::split_stop;
 use bin_stream::encode;
-use boot_read::{BootImage, split};
+use boot_file::{BootImage, split};
 use clap::{ArgMatches, Command};
 use std::alloc::{AllocError, Global};
 use tool_parts::{

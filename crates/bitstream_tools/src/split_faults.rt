@@ -1,11 +1,11 @@
 // What is said of a fault of a boot file.
 ghost use Rattle.std.specs.Prelude.{◌≡◌, Option};
-ghost use Rattle.boot_read.specs.declared.fault.SplitFault.{SplitFault as Fault};
-ghost use Rattle.boot_read.specs.Reading.{Tells};
+ghost use Rattle.boot_file.specs.declared.split_fault.SplitFault.{SplitFault as Fault};
+ghost use Rattle.boot_file.specs.Reading.{Tells};
 ghost use Rattle.tool_run.specs.Lines.{refusal_text};
 ghost use Rattle.bitstream_tools.specs.SplitFaults.{StopsSplit, split_fault_text};
 
-use boot_read::{BinFault, SplitFault};
+use boot_file::{BinFault, SplitFault};
 use tool_parts::{bin_cause, refusal, whole};
 use tool_run::{Refusal, Stop, decimal, text};
 

@@ -17,9 +17,9 @@ use Rattle.pin_file.specs.declared.pin_name.PinName.{PinName}
 use Rattle.pin_file.specs.declared.fault.PinFault.{PinFault}
 use Rattle.pin_file.specs.Faults.{pin_fault_of, ports_of}
 use Rattle.pin_file.specs.Packages.{Package, package_of}
-use Rattle.named_ports.specs.Named.{AreAccepted, named_module, named_output, named_port, named_ports, switched_places}
-use Rattle.named_ports.specs.Law.{RunsNamed}
-use Rattle.named_ports.proofs.IsFabric.{named-is-fabric}
+use Rattle.port_names.specs.Named.{AreAccepted, named_module, named_output, named_port, named_ports, switched_places}
+use Rattle.port_names.specs.NamedLaw.{RunsNamed}
+use Rattle.port_names.proofs.IsFabric.{named-is-fabric}
 use Rattle.vlog_forms.specs.Printed.{printed}
 use Rattle.vlog_forms.proofs.PrintedTokens.{printed-spells}
 use Rattle.vlog_forms.proofs.Spelled.{one-module}

@@ -21,7 +21,7 @@ use Rattle.pin_file.specs.declared.fault.PinFault.{PinFault}
 use Rattle.pin_file.specs.declared.fault.PinFault.TheVariants.{At, Memory as OutOfMemory}
 use Rattle.pin_file.specs.Faults.{Tells, pin_fault_of, ports_of}
 use Rattle.pin_file.specs.Packages.{Package}
-use Rattle.named_ports.specs.Named.{named_module, switched_places}
+use Rattle.port_names.specs.Named.{named_module, switched_places}
 use Rattle.tool_run.specs.declared.tool.Stop.{Stop}
 use Rattle.tool_run.specs.declared.tool.Stop.TheVariants.{Refused, UsageError, Memory}
 use Rattle.tool_run.specs.Stops.{StopsWith}

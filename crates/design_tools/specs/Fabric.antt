@@ -18,8 +18,8 @@ use Rattle.pin_file.specs.declared.pin_name.PinName.{PinName}
 use Rattle.net_extract.specs.declared.pin.Pin.{Pin}
 use Rattle.pin_file.specs.Faults.{pin_fault_of, ports_of}
 use Rattle.pin_file.specs.Packages.{Package, package_of}
-use Rattle.named_ports.specs.Named.{named_ports, switched_places}
-use Rattle.named_ports.specs.Matching.{MatchesNamed}
+use Rattle.port_names.specs.Named.{named_ports, switched_places}
+use Rattle.port_names.specs.Matching.{MatchesNamed}
 use Rattle.tool_run.specs.Runs.{Outside, Scene}
 use Rattle.tool_run.specs.Tasks.{asks_for_help}
 use Rattle.tool_parts.specs.Appended.{AppendsFor}

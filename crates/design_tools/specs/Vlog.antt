@@ -30,7 +30,7 @@ use Rattle.pin_file.specs.declared.fault.PinFault.{PinFault}
 use Rattle.pin_file.specs.declared.pin_name.PinName.{PinName}
 use Rattle.pin_file.specs.Faults.{pin_fault_of, ports_of}
 use Rattle.pin_file.specs.Packages.{Package, package_of}
-use Rattle.named_ports.specs.Named.{named_module, switched_places}
+use Rattle.port_names.specs.Named.{named_module, switched_places}
 use Rattle.design_parts.specs.Order.{write_order}
 use Rattle.design_parts.specs.Faults.{design_fault_text}
 

@@ -17,8 +17,8 @@ use Rattle.fabric_module.specs.Names.{output_name, port_name}
 use Rattle.fabric_module.specs.Written.{module_of, pin_ports}
 use Rattle.fabric_module.proofs.Design.{design-is-module}
 use Rattle.pin_file.specs.declared.pin_name.PinName.{PinName}
-use Rattle.named_ports.specs.Named.{named_module, named_output, named_port}
-use Rattle.named_ports.proofs.IsFabric.{named-is-fabric}
+use Rattle.port_names.specs.Named.{named_module, named_output, named_port}
+use Rattle.port_names.proofs.IsFabric.{named-is-fabric}
 use Rattle.tool_run.specs.Runs.{Does, Outside, Scene}
 use Rattle.tool_run.specs.Tasks.{Done, Task, usage_error}
 use Rattle.tool_parts.specs.Commands.{is_taken}

@@ -14,7 +14,7 @@ use Rattle.fabric.specs.Kept.{Kept}
 use Rattle.fabric.specs.Design.{IsDesignOf}
 use Rattle.fabric_module.specs.Written.{module_of, pin_ports}
 use Rattle.pin_file.specs.declared.pin_name.PinName.{PinName}
-use Rattle.named_ports.specs.Named.{AreAccepted, named_module, named_ports}
+use Rattle.port_names.specs.Named.{AreAccepted, named_module, named_ports}
 use Rattle.tool_run.specs.Runs.{Outside, Scene}
 use Rattle.tool_run.specs.Tasks.{asks_for_help}
 use Rattle.tool_parts.specs.Appended.{AppendsFor}

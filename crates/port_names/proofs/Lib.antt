@@ -18,5 +18,25 @@ pub mod Entries
 pub mod Laws
 -- the new names that the code finds, and lists that are exchanged place by place
 pub mod Given
+-- names of a form of a module's own
+pub mod Own
+-- what a written module declares
+pub mod DeclaredOwn
+-- lists in which items are apart, and names that are looked up in them
+pub mod Lists
+-- a name with `_en` behind it
+pub mod Behind
+-- the names that a pin file gives
+pub mod PinFileNames
+-- the renaming by a pin file is fresh
+pub mod Fresh
+-- entries under the new names
+pub mod Shown
+-- the law of the module whose ports have the names of a pin file
+pub mod IsFabric
+-- the module of a design with the names of a pin file
+pub mod Written
 -- worked values
 mod Worked
+-- the names by a pin file at three pins, worked out by hand
+mod WorkedNamed

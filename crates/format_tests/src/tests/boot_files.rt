@@ -1,8 +1,7 @@
 // A boot file that is joined and split again.
 use bin_stream::encode;
-use boot_read::{BootFile, BootImage, split};
+use boot_file::{BootFile, BootImage, MultiFault, Options, check, join, split};
 use ice_image::{AnyImage, Comment};
-use multi_boot::{MultiFault, Options, check, join};
 use plane_map::DeviceName;
 use std::alloc::{AllocError, Global};
 

@@ -2,7 +2,7 @@ use Rattle.std.proofs.Common.{◌≡◌, ◌∙◌, List, length, sym, ap}
 use Rattle.std.specs.Prelude.{None, map}
 use Rattle.std.specs.Result.{result_err}
 use Rattle.std.proofs.lemmas.List.{length-map}
-use Rattle.multi_boot.specs.Refusals.{check_fault}
+use Rattle.boot_file.specs.Refusals.{check_fault}
 use Rattle.tool_run.specs.declared.load.Load.{Load}
 use Rattle.tool_run.specs.Needs.{need_of, text_of}
 use Rattle.tool_run.proofs.Same.{Does-same}

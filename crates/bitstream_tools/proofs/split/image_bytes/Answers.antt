@@ -2,7 +2,7 @@ use Rattle.std.proofs.Common.{◌≡◌, rules, arith}
 use Rattle.std.specs.Prelude.{None, map, slice_get}
 use Rattle.std.proofs.lemmas.List.{length-map}
 use Rattle.std.proofs.lemmas.Option.{slice_get_past}
-use Rattle.boot_read.specs.Meaning.{placed_of}
+use Rattle.boot_file.specs.Meaning.{placed_of}
 use Rattle.bitstream_tools.proofs.split.image_bytes.Goals as goal
 
 pub returns-else-index-images-clause-stops : goal.returns-else-index-images-clause-stops

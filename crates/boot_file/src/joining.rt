@@ -1,0 +1,119 @@
+// Images joined to a boot file.
+ghost use Rattle.std.specs.Prelude.{◌≡◌, ◌<◌, ◌≤◌, ◌+◌, ◌*◌, ◌^◌, ◌&&◌, ◌==◌, ℕ, None, length, get_or, IfOk, OnOk, IfErr, unwrap_or};
+ghost use Rattle.std.specs.Result.{result_err};
+ghost use Rattle.boot_file.specs.BootFile.{HasBytes, boot_byte, boot_file, boot_length, bytes_of, header_byte, image_booted, place_of, start_of};
+ghost use Rattle.boot_file.specs.Refusals.{Tells, check_fault, join_fault};
+
+use crate::header::header;
+use crate::multi_fault::MultiFault;
+use crate::options::Options;
+use crate::places::places;
+use std::alloc::{AllocError, Global};
+
+/// How many headers there are.
+const HEADER_COUNT: usize = 5;
+
+/// The most images that the headers can name.
+const MOST_IMAGES: usize = 4;
+
+/// The greatest power of two that images can be aligned to.
+const MOST_ALIGNMENT: u32 = 24;
+
+/// Whether that many images can be joined so, as far as their number and the options tell. It takes no memory.
+#[tactic(auto, unfolding(crate::specs::Refusals::check_fault))]
+pub fn check(count: usize, options: Options) -> Result<(), MultiFault>
+    ensures { result_err result ≡ check_fault count options }
+{
+    if count == 0 {
+        return Err(MultiFault::NoImage);
+    }
+    if count > MOST_IMAGES {
+        return Err(MultiFault::TooMany { n: count as u64 });
+    }
+    if let Some(align) = options.align
+        && align > MOST_ALIGNMENT
+    {
+        return Err(MultiFault::Align {
+            n: u64::from(align),
+        });
+    }
+    if options.power_on as usize >= count {
+        return Err(MultiFault::PowerOn {
+            index: u64::from(options.power_on),
+        });
+    }
+    Ok(())
+}
+
+/// The boot file of one to four images: five headers, then the images at their places, with FF between.
+pub fn join(alloc: Global, images: &Vec<Vec<u8>>, options: Options) -> Result<Vec<u8>, MultiFault>
+    ensures joined { IfOk result (λ file. file.items ≡ boot_file (bytes_of images.now) options) }
+    ensures accepted { OnOk result (join_fault (bytes_of images.now) options ≡ None) }
+    ensures refused { IfErr result (Tells (join_fault (bytes_of images.now) options)) }
+{
+    check(images.len(), options)?;
+    let found = places(alloc, images, options)?;
+    let places = found.as_slice();
+    let mut file = headers(alloc, places, options, size(places, images))?;
+    for (index, image) in images.iter().enumerate() {
+        file.resize(places[index] as usize, 0xFF)?;
+        file.extend_from_slice(image)?;
+    }
+    Ok(file)
+}
+
+/// Where the last image ends, of images with those places: room for no more bytes than the file has.
+fn size(places: &[u32], images: &Vec<Vec<u8>>) -> usize
+    requires { length places.now ≡ length images.now.items }
+    ensures { (options : Options) → ((index : ℕ) → index < length images.now.items → get_or places.now index 0 ≡ place_of (bytes_of images.now) options index)
+        → result ≤ boot_length (bytes_of images.now) options }
+{
+    match (places.last(), images.last()) {
+        (Some(place), Some(image)) => image.len().saturating_add(*place as usize),
+        _ => 0,
+    }
+}
+
+/// The headers, from the places of the images, with room for as many bytes in all.
+fn headers(
+    alloc: Global,
+    places: &[u32],
+    options: Options,
+    room: usize,
+) -> Result<Vec<u8>, AllocError>
+    requires power_on { options.power_on < length places.now }
+    requires small { (index : ℕ) → get_or places.now index 0 < 2 ^ 24 }
+    ensures { IfOk result (λ file. HasBytes
+        (header_byte (length places.now) (λ index. get_or places.now index 0) options) 160 file.items) }
+{
+    let mut file = Vec::with_capacity(alloc, room)?;
+    for index in 0..HEADER_COUNT {
+        let address = places[image_booted(places.len(), options, index)];
+        let header = header(is_cold(options, index), address);
+        file.extend_from_slice(&header)?;
+    }
+    Ok(file)
+}
+
+/// The image that a header boots.
+fn image_booted(count: usize, options: Options, header: usize) -> usize
+    requires { options.power_on < count }
+    ensures is { result ≡ image_booted count options header }
+    ensures within { result < count }
+{
+    let power_on = options.power_on as usize;
+    if header == 0 {
+        power_on
+    } else if header <= count {
+        header - 1
+    } else {
+        0
+    }
+}
+
+/// Whether a header has the mode of cold boot: the first one alone.
+fn is_cold(options: Options, header: usize) -> bool
+    ensures { result ≡ (options.cold && (header == 0)) }
+{
+    options.cold && header == 0
+}

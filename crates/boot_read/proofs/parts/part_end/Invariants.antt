@@ -1,5 +1,0 @@
-use Rattle.boot_read.proofs.Ends.{IsEnd}
-use Rattle.boot_read.proofs.parts.part_end.Given as goal
-
-abbrev pub invariant-loop-entry : goal.invariant-loop-entry
-invariant-loop-entry l = IsEnd l.bytes l.address l.entry l.end

@@ -1,6 +1,0 @@
-pub mod Headers
-pub mod Parts
-pub mod Meaning
-pub mod Faults
-pub mod Reading
-pub mod Joined

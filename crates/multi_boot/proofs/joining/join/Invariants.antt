@@ -1,5 +1,0 @@
-use Rattle.multi_boot.specs.BootFile.{HasBytes, boot_byte, bytes_of, start_of}
-use Rattle.multi_boot.proofs.joining.join.Given as goal
-
-abbrev pub invariant-loop-index : goal.invariant-loop-index
-invariant-loop-index l = HasBytes (boot_byte (bytes_of l.images) l.fn.options) (start_of (bytes_of l.images) l.fn.options l.index) l.file.items

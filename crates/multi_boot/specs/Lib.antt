@@ -1,2 +1,0 @@
-pub mod BootFile
-pub mod Refusals

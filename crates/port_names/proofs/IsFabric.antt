@@ -1,0 +1,109 @@
+-- The module with the names of a pin file is the fabric.
+use Rattle.std.proofs.Common.{◌≡◌, ℕ, ◌^◌, ◌≤◌, List, map, refl, sym, subst}
+use Rattle.std.specs.Prelude.{All, None, flat_map}
+use Rattle.std.specs.List.{AllZip}
+use Rattle.ice_image.specs.Configuration.{Configuration}
+use Rattle.chipdb_reader.specs.Database.{Database}
+use Rattle.chipdb_reader.specs.Fit.{IsFit}
+use Rattle.vlog_module.specs.Names.{IsName}
+use Rattle.vlog_module.specs.WellFormed.{IsModule}
+use Rattle.vlog_plan.specs.Run.{module_run}
+use Rattle.net_extract.specs.declared.lut_inputs.LutInputs.{LutInputs}
+use Rattle.net_extract.specs.declared.pin.Pin.{Pin}
+use Rattle.net_extract.specs.Fabric.{fabric_with, fabric_of}
+use Rattle.net_extract.specs.Steps.{Event}
+use Rattle.net_extract.specs.Wiring.{wiring_of, IsWriteOrder}
+use Rattle.net_extract.specs.Faults.{design_fault}
+use Rattle.net_extract.proofs.Apart.{AreApart}
+use Rattle.fabric_module.specs.Written.{pin_ports, module_of}
+use Rattle.fabric_module.specs.Matching.{module_event}
+use Rattle.fabric_module.specs.Law.{RunsAlike}
+use Rattle.fabric_module.proofs.IsFabric.{module-is-fabric}
+use Rattle.pin_file.specs.declared.pin_name.PinName.{PinName}
+use Rattle.pin_file.specs.PortNames.{AreSafe}
+use Rattle.pin_file.proofs.SafeNames.{safe-ports}
+use Rattle.port_names.specs.Renamed.{entry_renamed, new_name, renamed_port}
+use Rattle.port_names.specs.Fresh.{IsFresh}
+use Rattle.port_names.specs.Law.{SameState, RunsRenamed}
+use Rattle.port_names.proofs.Laws.{renaming-keeps-runs}
+use Rattle.port_names.specs.Named.{AreAccepted, named_ports, switched_places, port_renaming, named_module}
+use Rattle.port_names.specs.Matching.{MatchesNamed}
+use Rattle.port_names.specs.NamedLaw.{NamedIsFabric, RunsNamed}
+use Rattle.port_names.proofs.Lists.{PartsDiffer}
+use Rattle.port_names.proofs.Fresh.{PortsDiffer, pins-differ, is-fresh, are-names, only-ports}
+use Rattle.port_names.proofs.Shown.{each-named, shown-ports}
+
+module _ (inputs : LutInputs) (db : Database) (image : Configuration) (order name : List ℕ) (whole : IsModule (module_of (fabric_with inputs db image) order name))
+    (named : List PinName) where
+  same-pins : (fabric_with inputs db image).pins ≡ (fabric_of db image).pins
+  unfolding fabric_with
+  same-pins = refl
+
+  module _ (safe : AreSafe (switched_places (fabric_of db image).pins) named) where
+    safe-pins : AreSafe (switched_places (fabric_with inputs db image).pins) named
+    safe-pins = subst (λ pins. AreSafe (switched_places pins) named) (sym same-pins) safe
+
+    -- the renaming is fresh for the module
+    fresh : IsFresh (port_renaming named (fabric_with inputs db image).pins) (module_of (fabric_with inputs db image) order name)
+    fresh = is-fresh (fabric_with inputs db image) order name whole named safe-pins
+
+    module _ (alike : RunsAlike inputs db image order name) where
+      kept : RunsRenamed (port_renaming named (fabric_with inputs db image).pins) (module_of (fabric_with inputs db image) order name)
+      kept = renaming-keeps-runs (port_renaming named (fabric_with inputs db image).pins) (module_of (fabric_with inputs db image) order name) whole fresh
+
+      named-whole : IsModule (named_module named (fabric_with inputs db image) order name)
+      unfolding named_module
+      named-whole = kept.whole (are-names (fabric_with inputs db image) order name whole named safe-pins)
+
+      -- each run of the module before, and that of the module with the names
+      same-state : (events : List Event)
+          → All (λ other. SameState other (entry_renamed (port_renaming named (fabric_of db image).pins) other)) (module_run (module_of (fabric_with inputs db image) order name) (map module_event events))
+      same-state events =
+          subst (λ pins. All (λ other. SameState other (entry_renamed (port_renaming named pins) other)) (module_run (module_of (fabric_with inputs db image) order name) (map module_event events))) same-pins
+          (kept.state (only-ports (fabric_with inputs db image) order name whole named safe-pins) (map module_event events))
+
+      named-run : (events : List Event) → module_run (named_module named (fabric_with inputs db image) order name) (map module_event events)
+          ≡ map (entry_renamed (port_renaming named (fabric_of db image).pins)) (module_run (module_of (fabric_with inputs db image) order name) (map module_event events))
+      unfolding named_module
+      named-run events =
+          subst (λ pins. module_run (named_module named (fabric_with inputs db image) order name) (map module_event events)
+          ≡ map (entry_renamed (port_renaming named pins)) (module_run (module_of (fabric_with inputs db image) order name) (map module_event events))) same-pins (kept.run (map module_event events))
+
+      apart-pins : AreApart (PartsDiffer PortsDiffer pin_ports) (fabric_of db image).pins
+      apart-pins = subst (AreApart (PartsDiffer PortsDiffer pin_ports)) same-pins (pins-differ (fabric_with inputs db image) order name whole)
+
+      ports-are : (named_module named (fabric_with inputs db image) order name).ports ≡ named_ports named (fabric_of db image).pins
+      unfolding named_module module_of
+      ports-are =
+          subst (λ pins. map (renamed_port (new_name (port_renaming named pins))) (flat_map pin_ports pins) ≡ named_ports named (fabric_of db image).pins) (sym same-pins)
+          (shown-ports named (fabric_of db image) apart-pins)
+
+      runs-named : RunsNamed named db image (named_module named (fabric_with inputs db image) order name)
+      runs-named = record {
+        ports = ports-are;
+        one_run = alike.one_run;
+        alike = λ events entries run.
+            subst (AllZip (MatchesNamed named (fabric_of db image)) entries) (sym (named-run events))
+            (each-named named (fabric_of db image) apart-pins entries
+            (module_run (module_of (fabric_with inputs db image) order name) (map module_event events)) (alike.alike events entries run) (same-state events));
+      }
+
+-- the names of a pin file without a fault are safe
+accepted-safe : (pins : List Pin) (named : List PinName) → AreAccepted pins named → AreSafe (switched_places pins) named
+accepted-safe pins named accepted =
+    subst (AreSafe (switched_places pins)) (sym accepted.are) (safe-ports accepted.chosen (switched_places pins) accepted.text accepted.faultless)
+
+-- they can be given to the ports of the module
+pub names-fresh : (named : List PinName) (inputs : LutInputs) (db : Database) (image : Configuration) → IsFit db → db.chip.nets ≤ 2 ^ 64 → design_fault inputs db image ≡ None
+    → AreAccepted (fabric_of db image).pins named → (order name : List ℕ) → IsWriteOrder (wiring_of (fabric_with inputs db image)) order → IsName name
+    → IsFresh (port_renaming named (fabric_with inputs db image).pins) (module_of (fabric_with inputs db image) order name)
+names-fresh named inputs db image fit few none accepted order name ordered is_name =
+    let own = module-is-fabric inputs db image fit few none order name ordered is_name in
+    fresh inputs db image order name own.0 named (accepted-safe (fabric_of db image).pins named accepted)
+
+-- the law
+pub named-is-fabric : (named : List PinName) (inputs : LutInputs) (db : Database) (image : Configuration) → NamedIsFabric named inputs db image
+named-is-fabric named inputs db image fit few none accepted order name ordered is_name =
+    let own = module-is-fabric inputs db image fit few none order name ordered is_name in
+    let safe = accepted-safe (fabric_of db image).pins named accepted in
+    (named-whole inputs db image order name own.0 named safe own.1, runs-named inputs db image order name own.0 named safe own.1)

@@ -1,0 +1,179 @@
+-- The new names of a module's ports are those that the pin file gives, and its entries match those of the fabric.
+use Rattle.std.proofs.Common.{◌≡◌, ℕ, zero, suc, Bool, true, false, List, [], ◌∷◌, ◌++◌, length, map, refl, sym, ap, ap₂, ◌∙◌, subst, arith, inl, inr, length-append}
+use Rattle.std.specs.Prelude.{All, Contains, Option, Some, None, filter, flat_map, bytes_eq, codes, not, unwrap_or, if◌then◌else◌}
+use Rattle.std.specs.List.{AllZip}
+use Rattle.std.proofs.lemmas.Bool.{cases_Bool}
+use Rattle.std.proofs.lemmas.List.{map-append}
+use Rattle.std.proofs.lemmas.List.Elements.{All-nil, All-cons, All-head, All-tail, All-contains, All-contains_itself, All-filter, All-weaker}
+use Rattle.shared_lemmas.proofs.Bytes.{bytes_eq-same, bytes_eq-apart, apart_turned}
+use Rattle.shared_lemmas.proofs.Lists.{map-same}
+use Rattle.bit_plane.specs.BitList.{word_of}
+use Rattle.vlog_module.specs.declared.modules.Port.{Port}
+use Rattle.vlog_module.specs.Maps.{value_in}
+use Rattle.vlog_plan.specs.Entries.{Entry as ModuleEntry}
+use Rattle.net_extract.specs.declared.pin.Pin.{Pin}
+use Rattle.net_extract.specs.Pins.{is_tri_state}
+use Rattle.net_extract.specs.Fabric.{Fabric, inputs_of}
+use Rattle.net_extract.specs.Outputs.{Output, enable_outputs, pin_outputs, outputs_of}
+use Rattle.net_extract.specs.Steps.{Entry}
+use Rattle.net_extract.proofs.Apart.{AreApart}
+use Rattle.net_extract.proofs.Within.{All-flat_map, All-single}
+use Rattle.fabric_module.specs.Names.{port_name, enable_name, output_name, register_name, read_name, memory_name}
+use Rattle.fabric_module.specs.Written.{port_of, pin_ports}
+use Rattle.fabric_module.specs.Matching.{HasValues, HasWires, Matches}
+use Rattle.fabric_module.proofs.Lists.{map-map}
+use Rattle.pin_file.specs.declared.pin_name.PinName.{PinName}
+use Rattle.port_names.specs.Renamed.{new_name, renamed_port, renamed_values, entry_renamed}
+use Rattle.port_names.specs.Law.{SameState}
+use Rattle.port_names.specs.Named.{given_name, port_by, enable_by, named_port, named_pin_ports, named_ports, named_output, renaming_by, pin_renaming, port_renaming}
+use Rattle.port_names.specs.Matching.{MatchesNamed}
+use Rattle.port_names.proofs.Lists.{PartsDiffer, value_in-only, value_in-later}
+use Rattle.port_names.proofs.Fresh.{PortsDiffer, enable_port, old-pin}
+
+-- ---- the new name of a pin's port
+
+port-no_enable : (pin : Pin) → bytes_eq (port_name pin) (enable_name pin) ≡ false
+unfolding enable_name
+port-no_enable pin =
+    bytes_eq-apart (port_name pin) (enable_name pin) (λ same. absurd (omega (arith, ap length same, length-append (port_name pin) (codes "_en"))))
+
+port-given : (pin : Pin) (given : Option (List ℕ)) → unwrap_or (value_in (renaming_by pin given) (port_name pin)) (port_name pin) ≡ port_by pin given
+port-given pin None = refl
+port-given pin (Some name) = rw (bytes_eq-same (port_name pin) (port_name pin) refl) refl
+
+enable-given : (pin : Pin) → is_tri_state pin ≡ true → (given : Option (List ℕ)) → unwrap_or (value_in (renaming_by pin given) (enable_name pin)) (enable_name pin) ≡ enable_by pin given
+enable-given pin switched None = refl
+enable-given pin switched (Some name) =
+    rw switched (rw (port-no_enable pin) (rw (bytes_eq-same (enable_name pin) (enable_name pin) refl) refl))
+
+enable-there : (pin : Pin) → is_tri_state pin ≡ true → Contains (pin_ports pin) (enable_port pin)
+enable-there pin switched =
+    subst (λ (b : Bool). Contains (port_of pin ∷ (if b then enable_port pin ∷ [] else [])) (enable_port pin)) (sym switched) (1, omega arith, refl)
+
+module _ (named : List PinName) where
+  -- a name that no port of a pin has isn't exchanged with those of the pin
+  away-pin : (name : List ℕ) (pin : Pin) → All (λ (port : Port). bytes_eq port.name name ≡ false) (pin_ports pin)
+      → All (λ (entry : List ℕ × List ℕ). bytes_eq entry.0 name ≡ false) (pin_renaming named pin)
+  away-pin name pin all = old-pin (λ other. bytes_eq other name ≡ false) pin (given_name named pin) all
+
+  -- the name of a port is looked up among those of its pin
+  value-of : (pins : List Pin) → AreApart (PartsDiffer PortsDiffer pin_ports) pins → (pin : Pin) → Contains pins pin → (port : Port) → Contains (pin_ports pin) port
+      → value_in (port_renaming named pins) port.name ≡ value_in (pin_renaming named pin) port.name
+  unfolding port_renaming
+  value-of [] apart pin (k, within, here) port of_port = absurd (omega (arith, within))
+  value-of (first ∷ pins) apart pin (zero, within, here) port of_port =
+      let in_first : Contains (pin_ports first) port = subst (λ p. Contains (pin_ports p) port) (sym here) of_port in
+      let away : All (λ y. All (λ (two : Port). bytes_eq two.name port.name ≡ false) (pin_ports y)) pins =
+      All-weaker (PartsDiffer PortsDiffer pin_ports first) (λ y. All (λ (two : Port). bytes_eq two.name port.name ≡ false) (pin_ports y))
+      (λ y parts. All-weaker (PortsDiffer port) (λ (two : Port). bytes_eq two.name port.name ≡ false) (λ two other. apart_turned port.name two.name other) (pin_ports y)
+      (All-contains (λ one. All (PortsDiffer one) (pin_ports y)) (pin_ports first) port parts in_first)) pins apart.0 in
+      value_in-only (pin_renaming named first) (flat_map (pin_renaming named) pins) port.name
+      (All-flat_map (λ (entry : List ℕ × List ℕ). bytes_eq entry.0 port.name ≡ false) (pin_renaming named) pins
+      (All-weaker (λ y. All (λ (two : Port). bytes_eq two.name port.name ≡ false) (pin_ports y)) (λ y. All (λ (entry : List ℕ × List ℕ). bytes_eq entry.0 port.name ≡ false) (pin_renaming named y))
+      (away-pin port.name) pins away))
+      ∙ ap (λ p. value_in (pin_renaming named p) port.name) here
+  value-of (first ∷ pins) apart pin (suc k, within, here) port of_port =
+      let there : Contains pins pin = (k, omega (arith, within), here) in
+      let parts : PartsDiffer PortsDiffer pin_ports first pin = All-contains (PartsDiffer PortsDiffer pin_ports first) pins pin apart.0 there in
+      value_in-later (pin_renaming named first) (flat_map (pin_renaming named) pins) port.name
+      (away-pin port.name first
+      (All-weaker (λ one. All (PortsDiffer one) (pin_ports pin)) (λ (one : Port). bytes_eq one.name port.name ≡ false)
+      (λ one all. All-contains (PortsDiffer one) (pin_ports pin) port all of_port) (pin_ports first) parts))
+      ∙ value-of pins apart.1 pin there port of_port
+
+  module _ (fabric : Fabric) (apart : AreApart (PartsDiffer PortsDiffer pin_ports) fabric.pins) where
+    shown-port : (pin : Pin) → Contains fabric.pins pin → new_name (port_renaming named fabric.pins) (port_name pin) ≡ named_port named pin
+    shown-port pin there =
+        ap (λ found. unwrap_or found (port_name pin)) (value-of fabric.pins apart pin there (port_of pin) (0, omega arith, refl))
+        ∙ port-given pin (given_name named pin)
+
+    shown-enable : (pin : Pin) → Contains fabric.pins pin → is_tri_state pin ≡ true
+        → new_name (port_renaming named fabric.pins) (enable_name pin) ≡ enable_by pin (given_name named pin)
+    shown-enable pin there switched =
+        ap (λ found. unwrap_or found (enable_name pin)) (value-of fabric.pins apart pin there (enable_port pin) (enable-there pin switched))
+        ∙ enable-given pin switched (given_name named pin)
+
+    -- the port of an output has the name that it is given
+    abbrev IsShown : Output → Type 0
+    IsShown output = new_name (port_renaming named fabric.pins) (output_name output) ≡ named_output named output
+
+    shown-pin : (pin : Pin) → Contains fabric.pins pin → All IsShown (pin_outputs fabric.registers pin)
+    shown-pin pin there =
+        All-cons IsShown _ (enable_outputs pin) (shown-port pin there)
+        (elim (cases_Bool (is_tri_state pin)) [
+          | inl switched ↦ rw switched (All-single IsShown _ (shown-enable pin there switched))
+          | inr still ↦ rw still (All-nil IsShown)
+        ])
+
+    shown-outputs : All IsShown (outputs_of fabric)
+    unfolding outputs_of
+    shown-outputs =
+        All-flat_map IsShown (pin_outputs fabric.registers) (filter (λ pin. pin.output) fabric.pins)
+        (All-weaker (Contains fabric.pins) (λ pin. All IsShown (pin_outputs fabric.registers pin)) shown-pin (filter (λ pin. pin.output) fabric.pins)
+        (All-filter (λ pin. pin.output) (Contains fabric.pins) fabric.pins (All-contains_itself fabric.pins)))
+
+    shown-inputs : All (λ pin. new_name (port_renaming named fabric.pins) (port_name pin) ≡ named_port named pin) (inputs_of fabric)
+    shown-inputs =
+        All-weaker (Contains fabric.pins) (λ pin. new_name (port_renaming named fabric.pins) (port_name pin) ≡ named_port named pin) shown-port (inputs_of fabric)
+        (All-filter (λ pin. not pin.output) (Contains fabric.pins) fabric.pins (All-contains_itself fabric.pins))
+
+    -- the ports of the module
+    abbrev to : List ℕ → List ℕ
+    to = new_name (port_renaming named fabric.pins)
+
+    ports-of-pin : (pin : Pin) → Contains fabric.pins pin → map (renamed_port to) (pin_ports pin) ≡ named_pin_ports named pin
+    ports-of-pin pin there =
+        elim (cases_Bool (is_tri_state pin)) [
+          | inl switched ↦
+              rw switched
+              (ap₂ (λ (one two : List ℕ). record { name = one; output = pin.output } ∷ record { name = two; output = true } ∷ []) (shown-port pin there) (shown-enable pin there switched))
+          | inr still ↦ rw still (ap (λ (one : List ℕ). record { name = one; output = pin.output } ∷ []) (shown-port pin there))
+        ]
+
+    ports-below : (pins : List Pin) → All (Contains fabric.pins) pins → map (renamed_port to) (flat_map pin_ports pins) ≡ flat_map (named_pin_ports named) pins
+    ports-below [] all = refl
+    ports-below (pin ∷ pins) all =
+        map-append (renamed_port to) (pin_ports pin) (flat_map pin_ports pins)
+        ∙ ap₂ (λ (one two : List Port). one ++ two) (ports-of-pin pin (All-head (Contains fabric.pins) pin pins all)) (ports-below pins (All-tail (Contains fabric.pins) pin pins all))
+
+    pub shown-ports : map (renamed_port to) (flat_map pin_ports fabric.pins) ≡ named_ports named fabric.pins
+    unfolding named_ports
+    shown-ports = ports-below fabric.pins (All-contains_itself fabric.pins)
+
+    -- ---- entries
+
+    renamed-has : {A : Type 0} (to : List ℕ → List ℕ) (entries : List (List ℕ × A)) (names shown : List (List ℕ)) (values : List A)
+        → HasValues entries names values → map to names ≡ shown → HasValues (renamed_values to entries) shown values
+    renamed-has {A} to entries names shown values has same =
+        let renamed : List ℕ × A → List ℕ × A = λ entry. (to entry.0, entry.1) in
+        record {
+          named = map-map renamed (λ (entry : List ℕ × A). entry.0) entries
+              ∙ (sym (map-map (λ (entry : List ℕ × A). entry.0) to entries) ∙ (ap (map to) has.named ∙ same));
+          valued = map-map renamed (λ (entry : List ℕ × A). entry.1) entries ∙ has.valued;
+        }
+
+    matches-named : (entry : Entry) (other : ModuleEntry) → Matches fabric entry other → SameState other (entry_renamed (port_renaming named fabric.pins) other)
+        → MatchesNamed named fabric entry (entry_renamed (port_renaming named fabric.pins) other)
+    matches-named entry other matches same =
+        let to : List ℕ → List ℕ = new_name (port_renaming named fabric.pins) in
+        record {
+          inputs = renamed-has to other.inputs (map port_name (inputs_of fabric)) (map (named_port named) (inputs_of fabric)) entry.pins matches.inputs
+              (map-map port_name to (inputs_of fabric) ∙ map-same (λ pin. to (port_name pin)) (named_port named) (inputs_of fabric) shown-inputs);
+          outputs = renamed-has to other.outputs (map output_name (outputs_of fabric)) (map (named_output named) (outputs_of fabric)) entry.outputs matches.outputs
+              (map-map output_name to (outputs_of fabric) ∙ map-same (λ output. to (output_name output)) (named_output named) (outputs_of fabric) shown-outputs);
+          registers = subst (λ list. HasValues list (map register_name fabric.registers) entry.state.bits) (sym same.registers) matches.registers;
+          words = subst (λ list. HasValues list (map read_name fabric.rams) (map word_of entry.state.reads)) (sym same.words) matches.words;
+          memories = subst (λ list. HasValues list (map memory_name fabric.rams) (map (map word_of) entry.state.words)) (sym same.memories) matches.memories;
+          wires = subst (HasWires fabric entry.v) (sym same.wires) matches.wires;
+        }
+
+    pub each-named : (entries : List Entry) (others : List ModuleEntry) → AllZip (Matches fabric) entries others
+        → All (λ other. SameState other (entry_renamed (port_renaming named fabric.pins) other)) others
+        → AllZip (MatchesNamed named fabric) entries (map (entry_renamed (port_renaming named fabric.pins)) others)
+    each-named [] [] match same = tt
+    each-named [] (other ∷ others) match same = absurd match
+    each-named (entry ∷ entries) [] match same = absurd match
+    each-named (entry ∷ entries) (other ∷ others) match same = (
+      matches-named entry other match.0 (All-head (λ one. SameState one (entry_renamed (port_renaming named fabric.pins) one)) other others same),
+      each-named entries others match.1 (All-tail (λ one. SameState one (entry_renamed (port_renaming named fabric.pins) one)) other others same),
+    )

@@ -1,0 +1,12 @@
+-- When a fabric and a module whose ports have the names of a pin file hold the same values.
+use Rattle.std.specs.Prelude.{List}
+use Rattle.vlog_plan.specs.Entries.{Entry as ModuleEntry}
+use Rattle.net_extract.specs.Fabric.{Fabric}
+use Rattle.net_extract.specs.Steps.{Entry}
+use Rattle.fabric_module.specs.Matching.{MatchesAs}
+use Rattle.pin_file.specs.declared.pin_name.PinName.{PinName}
+use Rattle.port_names.specs.Named.{named_port, named_output}
+
+-- an entry of a fabric and one of a module match, where ports have the names that a pin file gives
+abbrev pub MatchesNamed : List PinName → Fabric → Entry → ModuleEntry → Type 0
+MatchesNamed named fabric entry other = MatchesAs (named_port named) (named_output named) fabric entry other

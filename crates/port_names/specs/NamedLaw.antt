@@ -1,0 +1,37 @@
+-- What holds of the module whose ports have the names of a pin file.
+use Rattle.std.specs.Prelude.{◌≡◌, ℕ, ◌^◌, ◌≤◌, List, map, None}
+use Rattle.std.specs.List.{AllZip}
+use Rattle.ice_image.specs.Configuration.{Configuration}
+use Rattle.chipdb_reader.specs.Database.{Database}
+use Rattle.chipdb_reader.specs.Fit.{IsFit}
+use Rattle.vlog_module.specs.Names.{IsName}
+use Rattle.vlog_module.specs.Parts.{Parts}
+use Rattle.vlog_module.specs.WellFormed.{IsModule}
+use Rattle.vlog_plan.specs.Run.{module_run}
+use Rattle.net_extract.specs.declared.lut_inputs.LutInputs.{LutInputs}
+use Rattle.net_extract.specs.Fabric.{fabric_with, fabric_of}
+use Rattle.net_extract.specs.Steps.{Event, Entry, IsRun}
+use Rattle.net_extract.specs.Unique.{ExactlyOne}
+use Rattle.net_extract.specs.Wiring.{wiring_of, IsWriteOrder}
+use Rattle.net_extract.specs.Faults.{design_fault}
+use Rattle.fabric_module.specs.Matching.{module_event}
+use Rattle.pin_file.specs.declared.pin_name.PinName.{PinName}
+use Rattle.port_names.specs.Named.{AreAccepted, named_module, named_ports}
+use Rattle.port_names.specs.Matching.{MatchesNamed}
+
+-- A module has the ports of the pins, by the names that are given. The fabric has exactly one run for each list of events, and the module
+-- runs as it does: at the start and after each event the two hold the same values.
+pub record RunsNamed (named : List PinName) (db : Database) (image : Configuration) (made : Parts) : Type 0 where
+  pub ports : made.ports ≡ named_ports named (fabric_of db image).pins
+  pub one_run : (events : List Event) → ExactlyOne (IsRun (fabric_of db image) events)
+  pub alike : (events : List Event) (entries : List Entry) → IsRun (fabric_of db image) events entries
+      → AllZip (MatchesNamed named (fabric_of db image)) entries (module_run made (map module_event events))
+
+-- Where a database and an image aren't refused, nor a pin file for their pins, the module that is written for them in the write order with
+-- the names of the pin file is well-formed, and it runs as their fabric, whichever inputs LUTs read. What is read of a text is fit, and it
+-- has fewer nets.
+abbrev pub NamedIsFabric : List PinName → LutInputs → Database → Configuration → Type 0
+NamedIsFabric named inputs db image =
+    IsFit db → db.chip.nets ≤ 2 ^ 64 → design_fault inputs db image ≡ None → AreAccepted (fabric_of db image).pins named
+    → (order name : List ℕ) → IsWriteOrder (wiring_of (fabric_with inputs db image)) order → IsName name
+    → let made = named_module named (fabric_with inputs db image) order name in IsModule made × RunsNamed named db image made

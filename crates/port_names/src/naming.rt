@@ -1,0 +1,81 @@
+// The names of ports.
+ghost use Rattle.std.specs.Prelude.{◌≡◌, ◌++◌, find, option_map, IfOk, OnOk, Some};
+ghost use Rattle.pin_file.specs.PortNames.{is_place, enable_name as enable_name_behind};
+ghost use Rattle.port_names.specs.Named.{renaming_by, pin_renaming, port_renaming};
+
+use crate::places::{is_tri_state, place_of};
+use fabric_module::{enable_name, port_name};
+use net_extract::Pin;
+use pin_file::{PinName, PinPlace};
+use std::alloc::{AllocError, Global};
+use vlog_module::Name;
+
+/// The first port at a place.
+fn port_at(named: &[PinName], place: PinPlace) -> Option<&PinName>
+    ensures { option_map (λ port. port.now) result ≡ find (λ port. is_place place port.place) named.now }
+{
+    named.iter().find(|port| {
+        place.x == port.place.x && place.y == port.place.y && place.pio == port.place.pio
+    })
+}
+
+/// A name with `_en` behind it.
+#[tactic(auto, using(crate::proofs::Behind::behind_named))]
+fn enable_name_behind(alloc: Global, name: &Name) -> Result<Name, AllocError>
+    ensures { IfOk result (λ made. made ≡ enable_name_behind name.now) }
+{
+    let mut bytes = Vec::from_slice(alloc, name.bytes())?;
+    bytes.extend_from_slice(b"_en")?;
+    Name::new(alloc, &bytes)
+}
+
+/// Adds the own names of a pin's ports, each with the one that it gets by this name.
+fn append_names(
+    alloc: Global,
+    pin: &Pin,
+    name: &Name,
+    names: &mut Vec<(Name, Name)>,
+) -> Result<(), AllocError>
+    ensures { OnOk result (names.new.items ≡ names.old.items ++ renaming_by pin.now (Some name.now)) }
+{
+    let port = port_name(alloc, pin)?;
+    let given = Name::new(alloc, name.bytes())?;
+    names.push((port, given))?;
+    if is_tri_state(pin) {
+        let enable = enable_name(alloc, pin)?;
+        let given = enable_name_behind(alloc, name)?;
+        names.push((enable, given))?;
+    }
+    Ok(())
+}
+
+/// Adds the names of a pin's ports, where its place is named.
+fn append_pin(
+    alloc: Global,
+    pin: &Pin,
+    named: &[PinName],
+    names: &mut Vec<(Name, Name)>,
+) -> Result<(), AllocError>
+    ensures { OnOk result (names.new.items ≡ names.old.items ++ pin_renaming named.now pin.now) }
+{
+    match port_at(named, place_of(pin)) {
+        None => Ok(()),
+        Some(port) => append_names(alloc, pin, &port.name, names),
+    }
+}
+
+/// The own names of the ports of pins, each with the one that it gets.
+#[tactic(auto, unfolding(crate::specs::Named::port_renaming))]
+pub(crate) fn port_renaming(
+    alloc: Global,
+    pins: &[Pin],
+    named: &[PinName],
+) -> Result<Vec<(Name, Name)>, AllocError>
+    ensures { IfOk result (λ names. names.items ≡ port_renaming named.now pins.now) }
+{
+    let mut names = Vec::new(alloc);
+    for pin in pins {
+        append_pin(alloc, pin, named, &mut names)?;
+    }
+    Ok(names)
+}

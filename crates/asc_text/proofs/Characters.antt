@@ -349,7 +349,7 @@ character_sets layouts lines device bit (Some h) accepted is_bit is reads =
       | inr past ↦ absurd (no_character lines k bit.col past here)
     ]
 
--- a bit of a tile is set exactly where its character is 1
+-- a bit of a tile is set exactly if its character is 1
 tile_bits : (layouts : Layouts) (lines : List (List ℕ)) (device : DeviceName) (bit : TileBit) → Accepted layouts lines device → IsTileBit device bit → is_set_before lines (length lines) (OfTile bit) ≡ character_of lines bit
 unfolding is_set_before
 tile_bits layouts lines device bit accepted is_bit =
@@ -377,7 +377,7 @@ extra_set lines at k (Some (ExtraBit bank x y)) is names =
     ap (λ statement. sets_bit statement (depth_at lines k) (trimmed (line_at lines k)) (Extra at)) (top_over lines k top.0 ∙ top.1) ∙ names
 extra_set lines at k statement is names = absurd cc
 
--- an extra bit is set exactly where a statement names it
+-- an extra bit is set exactly if a statement names it
 extra_bits : (lines : List (List ℕ)) (at : Place) → is_set_before lines (length lines) (Extra at) ≡ is_named_extra lines at
 unfolding is_set_before is_named_extra
 extra_bits lines at =
@@ -482,7 +482,7 @@ digit_sets layouts lines device at (Some h) accepted is_bit is reads =
     any_below-at n k (λ k. sets_bit (statement_over lines k) (depth_at lines k) (trimmed (line_at lines k)) (OfWord at)) (ram_within layouts lines device h at.x at.y row accepted facts.within top.0 top.1 row_in)
     ((λ i. sets_bit (said i) (deep i) line (OfWord at)) ∙ sets)
 
--- a bit of a word is set exactly where it is among the word's digits
+-- a bit of a word is set exactly if it is among the word's digits
 word_bits : (layouts : Layouts) (lines : List (List ℕ)) (device : DeviceName) (at : WordBit) → Accepted layouts lines device → IsWordBit device at → is_set_before lines (length lines) (OfWord at) ≡ digit_bit_of lines at
 unfolding is_set_before
 word_bits layouts lines device at accepted is_bit =
@@ -494,7 +494,7 @@ word_bits layouts lines device at accepted is_bit =
 
 -- ---- the whole
 
--- a bit is set exactly where the text says so
+-- a bit is set exactly if the text says so
 said_bits : (layouts : Layouts) (lines : List (List ℕ)) (layout : Layout) (bit : Bit) → Accepted layouts lines layout.device → IsBit layout bit → is_set_before lines (length lines) bit ≡ is_said lines bit
 said_bits layouts lines layout (OfTile bit) accepted is = tile_bits layouts lines layout.device bit accepted is
 said_bits layouts lines layout (OfWord bit) accepted is = word_bits layouts lines layout.device bit accepted is

@@ -28,7 +28,7 @@ use Rattle.asc_text.proofs.Spelled.{plain-literal}
 use Rattle.asc_text.proofs.PiecesWritten.{length-single, line_at-single}
 use Rattle.asc_text.proofs.HeadRead.{alone, comment_pieces}
 
--- the lines of a comment, where there is one, are such that a text can hold them
+-- the lines of a comment, if there is one, are such that a text can hold them
 abbrev pub HasCommentLines : Option (List (List ℕ)) → Type 0
 HasCommentLines comment = IfSome comment (All IsCommentLine)
 
@@ -57,7 +57,7 @@ plain-comment_line line is = All-weaker IsPrintable (λ byte. 32 ≤ byte) (λ b
 
 -- ---- the lines of the comment
 
--- the statement of the comment, and so many lines of it
+-- the statement of the comment, and the first lines of it
 record Commented (lines : List (List ℕ)) (count : ℕ) : Type 0 where
   fits : suc count ≤ length lines
   head : line_at lines 0 ≡ comment_keyword
@@ -101,7 +101,7 @@ reads lines count is =
       at = λ k within. rw (depth-none lines count is (suc k) (omega arith)) (none k within);
     }
 
--- the last line before one of them, or behind them, that begins with a dot
+-- the last line before one of them, or after them, that begins with a dot
 dot-first : (lines : List (List ℕ)) (count : ℕ) → Commented lines count → (k : ℕ) → k ≤ count → dot_before lines (suc k) ≡ Some 0
 unfolding dot_before
 dot-first lines count is k within =
@@ -153,7 +153,7 @@ bits-comment lines count reads bit =
     (ap (λ says. sets_bit says (depth_at lines 0) (trimmed (line_at lines 0)) bit) reads.first_over)
     (λ k within. ap (λ says. sets_bit says (depth_at lines (suc k)) (trimmed (line_at lines (suc k))) bit) (reads.over k within)))
 
--- behind them, the lines say that there is a comment, and no more
+-- after them, the lines say that there is a comment, and no more
 holds-comment : (layouts : Layouts) (lines : List (List ℕ)) (count : ℕ) → Commented lines count → Holds layouts lines (suc count) (alone Comment comment_keyword ∷ [])
 unfolding device_before
 holds-comment layouts lines count is =
@@ -198,7 +198,7 @@ commented lines cs are stands = record {
       rw here (All-get_or IsCommentLine cs k [] within are);
 }
 
--- behind the comment the lines say that there is one, and no more
+-- after the comment the lines say that there is one, and no more
 pub holds-start : (layouts : Layouts) (lines : List (List ℕ)) (comment : Option (List (List ℕ))) → HasCommentLines comment → Stands lines 0 (comment_lines comment) → Holds layouts lines (length (comment_lines comment)) (comment_pieces comment)
 holds-start layouts lines None has stands = holds-nothing layouts lines
 holds-start layouts lines (Some cs) has stands = holds-comment layouts lines (length cs) (commented lines cs has stands)
@@ -225,7 +225,7 @@ last-from (suc n) k test within here =
       ]
     ]
 
--- a line behind another statement than that of the comment is none of the comment's
+-- a line after another statement than that of the comment is none of the comment's
 line-behind : (lines : List (List ℕ)) (m n : ℕ) → 0 < m → begins_with_dot (line_at lines m) ≡ true → m ≤ n → comment_line lines 0 n ≡ []
 unfolding dot_before
 line-behind lines m n some dot from =
@@ -266,7 +266,7 @@ gathered-one : (given : ℕ → List (List ℕ)) → gathered_below 1 given ≡ 
 unfolding gathered_below
 gathered-one given = refl
 
--- where another statement follows and no comment begins later, the comment is what was written
+-- if another statement follows and no comment begins later, the comment is what was written
 pub comment-is : (lines cs : List (List ℕ)) (n : ℕ) → All IsCommentLine cs → Stands lines 0 (comment_keyword ∷ cs) → suc (length cs) < n → begins_with_dot (line_at lines (suc (length cs))) ≡ true
     → ((k : ℕ) → 0 < k → k < n → is_comment (statement_at lines k) ≡ false) → comment_before lines n ≡ Some cs
 unfolding comment_before

@@ -59,7 +59,7 @@ comment_from-more lines n (Some place) more =
 comment_line-dot : (lines : List (List ℕ)) (place n : ℕ) → begins_with_dot (line_at lines n) ≡ true → comment_line lines place n ≡ []
 comment_line-dot lines place n dot = rw (dot, and-false (is_that_line (dot_before lines n) place)) refl
 
--- nor one behind another dot than the comment's
+-- nor one after another dot than the comment's
 comment_line-other : (lines : List (List ℕ)) (place n : ℕ) → is_that_line (dot_before lines n) place ≡ false → comment_line lines place n ≡ []
 comment_line-other lines place n other = rw other refl
 

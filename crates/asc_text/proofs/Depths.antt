@@ -5,7 +5,7 @@ use Rattle.text_lines.specs.Lines.{line_at}
 use Rattle.asc_text.specs.Statements.{statement_in}
 use Rattle.asc_text.specs.Blocks.{has_rows, is_below, opened_before, depth_below, depth_at}
 
--- the depth of the line after one of that depth; `opens` tells whether that one is a statement to which lines belong
+-- the depth of the line after one of that depth; `opens` says whether that one is a statement to which lines belong
 abbrev pub depth_after : ℕ → Bool → ℕ
 depth_after depth opens =
     if depth == 0 then (if opens then 1 else 0)
@@ -30,7 +30,7 @@ opened-before lines (suc n) k is =
 first-below : (n : ℕ) → depth_below (Some n) (suc n) ≡ 1
 first-below n = let one : suc n - n ≡ 1 = omega arith in rw (le-leb (suc n) (n + 16) (omega arith), one) refl
 
--- behind a line among the sixteen
+-- after a line among the sixteen
 inner-next : (rows : Bool) (n k : ℕ) → k < n → n ≤ k + 16 → depth_below (Some k) (suc n) ≡ depth_after (n - k) rows
 inner-next rows n k before near =
     elim (cases_eq (n - k) 16) [

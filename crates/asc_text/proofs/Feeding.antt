@@ -60,7 +60,7 @@ on_ok-each (Err e) I P each = tt
 
 -- ---- what is known of a text
 
--- where there is no refusal, the lines that have ended were taken
+-- if there is no refusal, the lines that have ended were taken
 pub front-of : (layouts : Layouts) (text : List ℕ) (refusal : Option AscFault) (taker : AscLines) (kept : List ℕ) → HasFed HasTaken Refuses layouts text refusal taker kept → refusal ≡ None → HasFront HasTaken layouts text taker kept
 front-of layouts text refusal taker kept has none = subst (λ (r : Option AscFault). HasFed HasTaken Refuses layouts text r taker kept) none has
 
@@ -73,7 +73,7 @@ first-or None bound n given value none before is =
       | inr le ↦ (bound, le, is)
     ]
 
--- the first value below a bound, where none is below another
+-- the first value below a bound, if none is below another
 first-later : {A : Type 0} (bound n : ℕ) (given : ℕ → Option A) (value : A) → ((k : ℕ) → k < n → given k ≡ None) → first_below bound given ≡ Some value → (k : ℕ) × (n ≤ k) × (given k ≡ Some value)
 unfolding first_below
 first-later zero n given value none is = absurd cc

@@ -1,4 +1,4 @@
--- The first line of a text, where it is found by LF behind as many bytes as a row or digits have.
+-- The first line of a text, if LF is found right after the bytes of a row or of digits.
 use Rattle.std.proofs.Common.{◌≡◌, ℕ, suc, ◌+◌, ◌<◌, ◌≤◌, true, false, ◌&&◌, ◌==◌, List, [], ◌∷◌, ◌++◌, length, get_or, take, drop, length-drop, refl, sym, ap, subst, ◌∙◌, inl, inr, arith}
 use Rattle.std.specs.Prelude.{All, nat_lt, None}
 use Rattle.std.specs.List.{list_all}
@@ -62,7 +62,7 @@ memory_line-accepted line none =
 
 -- ---- the first line
 
--- LF behind bytes that are above the space
+-- LF after bytes that are above the space
 lines_of-lf_at : (text : List ℕ) (len : ℕ) → (nat_lt len (length text) && (get_or text len 0 == 10)) ≡ true → All (λ byte. 33 ≤ byte) (take len text)
     → (lines_of text ≡ take len text ∷ lines_of (drop (len + 1) text)) × (length (drop (len + 1) text) < length text)
 lines_of-lf_at text len at high =

@@ -19,7 +19,7 @@ use Rattle.asc_text.proofs.HasRead.{IsGiven, AreNamed, HasGiven, device_known}
 
 -- ---- steps
 
--- a value that is given, where none was given before
+-- a value that is given, if none was given before
 abbrev pub Gives : {A : Type 0} → Option A → Option A → Option A → Type 0
 Gives old None new = new ≡ old
 Gives old (Some value) new = (old ≡ None) × (new ≡ Some value)

@@ -1,4 +1,4 @@
--- The device and the settings of a canonical text, and what stands nowhere behind them.
+-- The device and the settings of a canonical text, and which statements never follow them.
 use Rattle.std.proofs.Common.{◌≡◌, ℕ, Bool, true, false, List, [], ◌∷◌, ◌++◌, append_assoc, refl, sym, ap, ◌∙◌, arith, Option, Some, None}
 use Rattle.std.proofs.lemmas.List.Elements.{All-cons, All-nil}
 use Rattle.std.specs.Prelude.{unwrap_or}
@@ -57,7 +57,7 @@ head_pieces device warm_boot range no_sleep = (device_piece device ∷ []) ++ (w
 
 -- ---- their lines
 
--- the line of warm boot, where there is one
+-- the line of warm boot, if there is one
 warm_boot-lines : (warm_boot : Bool) → all_lines (warm_boot_pieces warm_boot) ≡ warm_boot_lines warm_boot
 unfolding all_lines
 warm_boot-lines true = refl
@@ -88,7 +88,7 @@ head-lines device warm_boot range no_sleep =
 
 -- ---- they are right
 
--- a statement to which no lines belong is right where its cause is none
+-- a statement to which no lines belong is right if it has no cause
 alone-fine : (layouts : Layouts) (past : List Piece) (statement : Statement) (head : List ℕ) → IsSpelled head statement → has_rows (Some statement) ≡ false → is_comment (Some statement) ≡ false
     → cause_behind layouts (first_statement device_in past) (was_given past statement) statement ≡ None → IsFine layouts past (alone statement head)
 alone-fine layouts past statement head spelled rowless calm none = record {
@@ -97,13 +97,13 @@ alone-fine layouts past statement head spelled rowless calm none = record {
   rows = λ r within. absurd (omega arith);
 }
 
--- the device is right behind the comment
+-- the device is right after the comment
 device-fine : (layouts : Layouts) (comment : Option (List (List ℕ))) (device : DeviceName) → IsFine layouts (comment_pieces comment) (device_piece device)
 unfolding first_piece some_piece
 device-fine layouts None device = alone-fine layouts [] (Device (Some device)) (device_piece device).head (device-spelled device) refl refl refl
 device-fine layouts (Some lines) device = alone-fine layouts (comment_pieces (Some lines)) (Device (Some device)) (device_piece device).head (device-spelled device) refl refl refl
 
--- so is a setting behind the device, where it wasn't given
+-- so is a setting after the device, if it wasn't given
 setting-fine : (layouts : Layouts) (device : DeviceName) (past : List Piece) (statement : Statement) (head : List ℕ) → Knows device past → IsSpelled head statement
     → has_rows (Some statement) ≡ false → is_comment (Some statement) ≡ false → was_given past statement ≡ false → cause_behind layouts (Some device) false statement ≡ None
     → AreFine layouts past (alone statement head ∷ [])
@@ -170,7 +170,7 @@ head-none test comment device warm_boot range no_sleep fails =
     (append-none test (warm_boot_pieces warm_boot) (range_pieces range ++ no_sleep_pieces no_sleep) (warm_boot-none test warm_boot fails.at_warm_boot)
     (append-none test (range_pieces range) (no_sleep_pieces no_sleep) (range-none test range fails.at_medium fails.at_high) (no_sleep-none test no_sleep fails.at_no_sleep))))
 
--- behind the comment the device is known
+-- after the comment the device is known
 device-known : (comment : Option (List (List ℕ))) (device : DeviceName) → Knows device (comment_pieces comment ++ (device_piece device ∷ []))
 unfolding first_piece
 device-known None device = refl
@@ -184,7 +184,7 @@ head-knows comment device warm_boot range no_sleep =
     ap (λ pieces. first_statement device_in pieces) (sym (append_assoc (comment_pieces comment) (device_piece device ∷ []) rest))
     ∙ Knows-more device (comment_pieces comment ++ (device_piece device ∷ [])) rest (device-known comment device)
 
--- the device and the settings are right behind the comment
+-- the device and the settings are right after the comment
 pub head-fine : (layouts : Layouts) (comment : Option (List (List ℕ))) (device : DeviceName) (warm_boot : Bool) (range : Range) (no_sleep : Bool)
     → AreFine layouts (comment_pieces comment) (head_pieces device warm_boot range no_sleep)
 head-fine layouts comment device warm_boot range no_sleep =

@@ -4,23 +4,23 @@ pub mod BitsRead
 pub mod Characters
 -- the comment at the beginning of a canonical text is read as it was written
 pub mod CommentRead
--- the device and the settings of a canonical text, and what stands nowhere behind them
+-- the device and the settings of a canonical text, and which statements never follow them
 pub mod HeadRead
 -- lines as pieces: a statement with the lines that belong to it
 pub mod PieceRead
 -- pieces that are read one after the other: what the lines so far say is what their pieces say
 pub mod PiecesRead
--- the pieces of which the canonical text of an image is, and that each is right behind those before it
+-- the pieces that make up the canonical text of an image, and that each is right after the pieces before it
 pub mod PiecesWritten
 -- the canonical text of an image means that image
 pub mod RoundTrip
--- eight bytes as a number, and what is told from it
+-- eight bytes as a number, and what it says of them
 pub mod Packed
 -- rows of tiles as numbers, column c being worth 2 ^ c
 pub mod RowNumbers
 -- a line whose first eight bytes are read apart from the eights at its end, so that some bytes are read twice
 pub mod Overlaps
--- the first line of a text, where it is found by LF behind as many bytes as a row or digits have
+-- the first line of a text, if LF is found right after the bytes of a row or of digits
 pub mod FirstLines
 -- the rows of a tile and the lines of a RAM are read as they were written
 pub mod RowsRead
@@ -54,11 +54,11 @@ pub mod HasRead
 pub mod ImageSteps
 -- what is kept after a line is what the lines say with that line
 pub mod LineSteps
--- lines that are taken one after the other, and what holds behind them
+-- lines that are taken one after the other, and what holds after them
 pub mod LinesRead
 -- the lines of a text that comes in pieces: what the lines so far give, and what they say of the text
 pub mod Feeding
--- what is wrong with a line is told by what is kept
+-- what is wrong with a line follows from what is kept
 pub mod Refusals
 -- the names that a text gives to nets are those of its lines, each read by itself
 pub mod Symbols

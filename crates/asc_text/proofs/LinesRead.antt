@@ -1,4 +1,4 @@
--- Lines that are taken one after the other, and what holds behind them.
+-- Lines that are taken one after the other, and what holds after them.
 use Rattle.std.proofs.Common.{◌≡◌, ℕ, zero, suc, ◌+◌, ◌<◌, ◌≤◌, List, [], ◌∷◌, ◌++◌, length, drop, refl, sym, ap, subst, ◌∙◌, arith, append_assoc}
 use Rattle.std.proofs.lemmas.List.{append-nil, length-append}
 use Rattle.std.proofs.Math.Seq.{drop-append_seam}
@@ -30,7 +30,7 @@ pub TakesEach-then : (s between new : ReaderState) (lines more : List (List ℕ)
 TakesEach-then s between new [] more first rest = subst (λ (t : ReaderState). TakesEach t more new) first rest
 TakesEach-then s between new (line ∷ lines) more first rest = (first.0, first.1, first.2, TakesEach-then first.0 between new lines more first.3 rest)
 
--- what holds before lines holds behind them
+-- what holds before lines holds after them
 HasRead-each : (layouts : Layouts) (all : List (List ℕ)) (n : ℕ) (lines more : List (List ℕ)) (s new : ReaderState) → drop n all ≡ lines ++ more → HasRead layouts all n s → TakesEach s lines new → HasRead layouts all (n + length lines) new
 HasRead-each layouts all n [] more s new left read taken =
     let same : n ≡ n + 0 = omega arith in
@@ -106,7 +106,7 @@ reached-more s new lines taken reached = record {
 pub IsReached-none : (layouts : Layouts) (s : ReaderState) → AreLayouts layouts → s ≡ begun layouts → ∥ IsReached s ∥₁
 IsReached-none layouts s are is = ∣ record { layouts = layouts; laid = are; lines = []; taken = is } ∣₁
 
--- behind more lines
+-- after more lines
 pub IsReached-more : (s new : ReaderState) (lines : List (List ℕ)) → ∥ IsReached s ∥₁ → TakesEach s lines new → ∥ IsReached new ∥₁
 IsReached-more s new lines reached taken = ∥∥₁_map reached (reached-more s new lines taken)
 
@@ -116,7 +116,7 @@ IsReached-ready s reached = ∥∥₁_elim reached (is_ready-prop s.image s.expe
 
 -- ---- a text
 
--- lines at the front of a text were taken, behind so many that were taken before them, and what is left of the text
+-- lines at the front of a text were taken, after `count` lines that were taken before them, and this is the rest of the text
 pub record HasTaken (s : ReaderState) (first : ℕ) (text : List ℕ) (count : ℕ) (left : List ℕ) (new : ReaderState) : Type 0 where
   pub lines : List (List ℕ)
   pub parts : lines_of text ≡ lines ++ lines_of left
@@ -150,7 +150,7 @@ HasTaken-lines s first text count (suc more) left rest between new before taken 
     subst (λ (n : ℕ). HasTaken s first text n rest new) later
     (HasTaken-first s first text (count + more) taken.0 rest taken.1 new (HasTaken-lines s first text count more left taken.0 between taken.1 before taken.2) taken.3)
 
--- what is left of a text gets shorter by each line
+-- the rest of a text gets shorter by each line
 pub TakesLines-shorter : (text rest : List ℕ) (count : ℕ) (s new : ReaderState) → TakesLines s text count rest new → count + length rest ≤ length text
 TakesLines-shorter text rest zero s new taken = omega (arith, ap length taken.0)
 TakesLines-shorter text rest (suc count) s new taken = omega (arith, taken.3.shorter, TakesLines-shorter text taken.0 count s taken.1 taken.2)

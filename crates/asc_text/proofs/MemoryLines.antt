@@ -44,12 +44,12 @@ memory_line-refused line e is =
 abbrev pub IsAnswer : Result (List ℕ) FromHexError → Result Unit FromHexError → List ℕ → Type 0
 IsAnswer d r out = MatchResult d (λ bytes. (r ≡ Ok tt) × (out ≡ bytes)) (λ e. r ≡ Err e)
 
--- where it is the bytes
+-- if it is the bytes
 pub decoded-written : (d : Result (List ℕ) FromHexError) (r : Result Unit FromHexError) (out : List ℕ) → IsAnswer d r out → r ≡ Ok tt → d ≡ Ok out
 decoded-written (Ok bytes) r out h ok = ap (λ b. Ok b) (sym h.1)
 decoded-written (Err e) r out h ok = absurd (cc (sym h ∙ ok))
 
--- where it is an error
+-- if it is an error
 pub decoded-refused : (d : Result (List ℕ) FromHexError) (r : Result Unit FromHexError) (out : List ℕ) (e : FromHexError) → IsAnswer d r out → r ≡ Err e
     → (f : FromHexError) × (d ≡ Err f)
 decoded-refused (Ok bytes) r out e h err = absurd (cc (sym h.0 ∙ err))

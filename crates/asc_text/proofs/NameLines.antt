@@ -26,7 +26,7 @@ name-fits s line net is =
     let dot : begins_with_dot line ≡ true = statement-dot line (Symbol net) is in
     rw (dot, is) refl
 
--- and changes nothing where no comment goes on
+-- and changes nothing if no comment goes on
 name-takes : (s : ReaderState) (line : List ℕ) (net : ℕ) → s.in_comment ≡ false → statement_in line ≡ Some (Symbol net) → Takes s AnyStatement line s
 name-takes s line net outside is =
     let dot : begins_with_dot line ≡ true = statement-dot line (Symbol net) is in

@@ -13,7 +13,7 @@ take-nothing : {X : Type 0} (n : ℕ) → take {A = X} n [] ≡ []
 take-nothing zero = refl
 take-nothing (suc n) = refl
 
--- the first elements, as fewer of them and those behind
+-- the first elements, as fewer of them and those after
 take-more : {X : Type 0} (n m : ℕ) (xs : List X) → take (n + m) xs ≡ take n xs ++ take m (drop n xs)
 take-more zero m xs =
     let same : 0 + m ≡ m = omega arith in

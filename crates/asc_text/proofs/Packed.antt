@@ -1,4 +1,4 @@
--- Eight bytes as a number, and what is told from it.
+-- Eight bytes as a number, and what it says of them.
 use Rattle.std.proofs.Common.{◌≡◌, ℕ, zero, suc, ◌+◌, ◌-◌, ◌*◌, ◌/◌, ◌%◌, ◌^◌, ◌<◌, ◌≤◌, Bool, true, ◌&&◌, ◌||◌, ◌==◌, List, [], ◌∷◌, length, get_or, take, drop, map, length-drop, ◌++◌, bit_and, refl, sym, ap, ◌∙◌, arith}
 use Rattle.std.specs.List.{list_all, All}
 use Rattle.std.proofs.lemmas.List.Elements.{All-head, All-tail, All-take, All-drop}
@@ -12,7 +12,7 @@ use Rattle.bit_plane.specs.BitList.{bit_value, word_of}
 use Rattle.bit_plane.proofs.Words.{bit_value-test, word_of-fits, word_of-drop_all}
 use Rattle.asc_text.specs.inside.RowNumbers.{is_bit, is_odd, bytes_number, AreEight}
 
--- a byte so many times
+-- a byte repeated
 abbrev pub repeated : ℕ → ℕ → ℕ
 repeated byte zero = 0
 repeated byte (suc count) = byte + 256 * repeated byte count
@@ -132,7 +132,7 @@ odds-none line = sym (word_of-drop_all (map is_odd line)) ∙ ap (λ n. word_of 
 pub bits-none : (line : List ℕ) → true ≡ list_all is_bit (drop (length line) line)
 bits-none line = sym (at_drop_all (list_all is_bit) line (length line) (omega arith))
 
--- a line from a place on is eight elements, and the line from behind them on
+-- a line from a place on is eight elements, and the line from after them on
 eight-split : {X : Type 0} (xs : List X) (i : ℕ) → 8 ≤ i → i ≤ length xs → drop (i - 8) xs ≡ take 8 (drop (i - 8) xs) ++ drop i xs
 eight-split xs i some within =
     let e : i - 8 + 8 ≡ i = omega arith in

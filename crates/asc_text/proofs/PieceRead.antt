@@ -27,7 +27,7 @@ piece_lines piece = piece.head ∷ piece.rows
 abbrev pub rows_below : Bool → ℕ
 rows_below opens = if opens then 16 else 0
 
--- the line says the statement, which is no comment, as many lines as belong to it follow, and none has a byte below the space
+-- the line says the statement, which is no comment; the lines that belong to it follow, and none has a byte below the space
 pub record IsPiece (piece : Piece) : Type 0 where
   pub spells : statement_in piece.head ≡ Some piece.statement
   pub dot : begins_with_dot piece.head ≡ true
@@ -73,7 +73,7 @@ depth-in lines n piece is stands top (suc (suc r)) within =
     let before : depth_at lines (n + suc r) ≡ suc r = depth-in lines n piece is stands top (suc r) (omega arith) in
     rw next (depth-step lines (n + suc r) ∙ ap (λ depth. depth_after depth (has_rows (statement_in (line_at lines (n + suc r))))) before ∙ depth_after-next (suc r) _ (omega arith) below.1 ∙ omega arith)
 
--- the depth behind the last line of a piece
+-- the depth after the last line of a piece
 depth-behind : (lines : List (List ℕ)) (n : ℕ) (opens : Bool) (count : ℕ) → count ≡ rows_below opens → depth_at lines (n + count) ≡ count
     → (0 ≡ count → has_rows (statement_in (line_at lines n)) ≡ opens) → depth_at lines (n + suc count) ≡ 0
 depth-behind lines n true count is last opens =
@@ -86,7 +86,7 @@ depth-behind lines n false count is last opens =
     let none : has_rows (statement_in (line_at lines n)) ≡ false = opens (sym is) in
     rw next (depth-step lines n ∙ (λ i. depth_after (top i) (none i)))
 
--- the line behind a piece belongs to no statement
+-- the line after a piece belongs to no statement
 depth-next : (lines : List (List ℕ)) (n : ℕ) (piece : Piece) → IsPiece piece → Stands lines n (piece_lines piece) → depth_at lines n ≡ 0 → depth_at lines (n + suc (length piece.rows)) ≡ 0
 depth-next lines n piece is stands top =
     depth-behind lines n (has_rows (Some piece.statement)) (length piece.rows) is.count (depth-in lines n piece is stands top (length piece.rows) (omega arith))

@@ -43,7 +43,7 @@ text_of-none = refl
 pub nothing-written : (text : List ℕ) (lines : List (List ℕ)) → lines ≡ [] → text ≡ text ++ text_of lines
 nothing-written text lines none = sym (append-nil text) ∙ ap (λ more. text ++ more) (sym text_of-none ∙ ap text_of (sym none))
 
--- lines behind others
+-- lines after others
 pub lines-joined : (old middle after : List ℕ) (first second : List (List ℕ)) → middle ≡ old ++ text_of first → after ≡ middle ++ text_of second → after ≡ old ++ text_of (first ++ second)
 lines-joined old middle after first second one two =
     two ∙ ap (λ text. text ++ text_of second) one ∙ append_assoc old (text_of first) (text_of second) ∙ ap (λ text. old ++ text) (sym (text_of-append first second))
@@ -138,7 +138,7 @@ module _ (image : Configuration) (x y : ℕ) where
       let wide_there : width ≡ columns_at image.layout.device x y = wide ∙ ap columns_in (sym there) in
       lines-joined old middle after (grid_line (tile_keyword kind) x y ∷ []) (map row_line (rows_from (columns_at image.layout.device x y) 16 bit)) statement (rows ∙ ap (λ n. middle ++ text_of (map row_line (rows_from n row bit))) wide_there ∙ ap (λ n. middle ++ text_of (map row_line (rows_from (columns_at image.layout.device x y) n bit))) last)
 
-  -- nothing where no tile is
+  -- nothing if there is no tile
   pub none-written : (text : List ℕ) → kind_of image.layout.device x y ≡ None → text ≡ text ++ text_of (lines_of_tile_at image x y (kind_of image.layout.device x y))
   none-written text there = nothing-written text (lines_of_tile_at image x y (kind_of image.layout.device x y)) (ap (lines_of_tile_at image x y) there)
 
@@ -149,7 +149,7 @@ module _ (image : Configuration) (x y : ℕ) where
 
 -- ---- the whole
 
--- what stands before the tiles, one part behind the other
+-- what stands before the tiles, one part after the other
 pub head-written : (image : Configuration) (start comment device warm_boot range no_sleep : List ℕ) → comment ≡ start ++ text_of (comment_lines image.comment) → device ≡ comment ++ text_of (with_word device_keyword (device_word image.layout.device) ∷ []) → warm_boot ≡ device ++ text_of (warm_boot_lines image.settings.warm_boot) → range ≡ warm_boot ++ text_of (range_lines image.settings.range) → no_sleep ≡ range ++ text_of (no_sleep_lines image.settings.no_sleep) → no_sleep ≡ start ++ text_of (head_lines image)
 head-written image start comment device warm_boot range no_sleep comment_is device_is warm_boot_is range_is no_sleep_is =
     let two = lines-joined start comment device (comment_lines image.comment) (with_word device_keyword (device_word image.layout.device) ∷ []) comment_is device_is in
@@ -165,7 +165,7 @@ text-written image start head tiles extras start_is head_is tiles_are extras_are
     let two = lines-joined [] head tiles (head_lines image) (all_tile_lines image) one tiles_are in
     lines-joined [] tiles extras _ (all_extra_lines image) two extras_are
 
--- so are the tiles between what stands before them and what stands behind
+-- so are the tiles between the lines before and after them
 pub around-written : (image : Configuration) (start head around : List ℕ) (behind : ℕ) → start ≡ [] → head ≡ start ++ text_of (head_lines image) → behind ≡ length head → around ≡ head ++ text_of (all_extra_lines image)
     → take behind around ++ text_of (all_tile_lines image) ++ drop behind around ≡ asc_text_of image
 around-written image start head around behind start_is head_is behind_is around_is =

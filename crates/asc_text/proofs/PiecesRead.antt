@@ -43,12 +43,12 @@ some_statement test pieces = some_piece (λ piece. test (Some piece.statement)) 
 abbrev pub first_statement : {A : Type 0} → (Option Statement → Option A) → List Piece → Option A
 first_statement given pieces = first_piece (λ piece. given (Some piece.statement)) pieces
 
--- no piece passes where there is none
+-- no piece passes if there is none
 pub some_piece-nothing : (test : Piece → Bool) → some_piece test [] ≡ false
 unfolding some_piece
 some_piece-nothing test = refl
 
--- some piece of two lists passes where one of either does
+-- some piece of two lists passes if one of either does
 pub some_piece-append : (test : Piece → Bool) (a b : List Piece) → some_piece test (a ++ b) ≡ (some_piece test a || some_piece test b)
 unfolding some_piece
 some_piece-append test [] b = refl
@@ -88,7 +88,7 @@ first_piece-one given piece = else_nothing (given piece)
 
 -- ---- a piece among the places of lines
 
--- where no place but the first passes
+-- if no place but the first passes
 pub any_below-head : (count : ℕ) (test : ℕ → Bool) → ((r : ℕ) → r < count → test (suc r) ≡ false) → any_below (suc count) test ≡ test 0
 unfolding any_below
 any_below-head zero test none = refl
@@ -99,7 +99,7 @@ any_below-head (suc count) test none =
     or_nothing true = refl
     or_nothing false = refl
 
--- where no place but the first gives anything
+-- if no place but the first gives anything
 first_below-head : {A : Type 0} (count : ℕ) (given : ℕ → Option A) → ((r : ℕ) → r < count → given (suc r) ≡ None) → first_below (suc count) given ≡ given 0
 unfolding first_below
 first_below-head zero given none = refl
@@ -122,7 +122,7 @@ was_given past (Tile kind x y) = some_statement (names_tile x y) past
 was_given past (RamData x y) = some_statement (names_ram x y) past
 was_given past statement = false
 
--- what is wrong with a statement behind these pieces, whose device is that one
+-- what is wrong with a statement after these pieces, whose device is that one
 abbrev pub cause_behind : Layouts → Option DeviceName → Bool → Statement → Option AscCause
 cause_behind layouts device given statement =
     or_else (missing_device device statement)
@@ -144,7 +144,7 @@ pub record Holds (layouts : Layouts) (lines : List (List ℕ)) (n : ℕ) (past :
   pub bits : (bit : Bit) → is_set_before lines n bit ≡ some_piece (piece_sets bit) past
   pub calm : (k : ℕ) → 0 < k → k < n → is_comment (statement_at lines k) ≡ false
 
--- a piece is right behind those pieces
+-- a piece is right after those pieces
 pub record IsFine (layouts : Layouts) (past : List Piece) (piece : Piece) : Type 0 where
   pub is : IsPiece piece
   pub cause : cause_behind layouts (first_statement device_in past) (was_given past piece.statement) piece.statement ≡ None
@@ -249,7 +249,7 @@ head_or_row n count k from before =
       | inr here ↦ inl (omega arith)
     ]
 
--- behind one piece more the lines say what it says too
+-- after one piece more the lines say what it says too
 pub one_more : (layouts : Layouts) (lines : List (List ℕ)) (n : ℕ) (past : List Piece) (piece : Piece) → Holds layouts lines n past → IsFine layouts past piece → Stands lines n (piece_lines piece)
     → Holds layouts lines (n + suc (length piece.rows)) (past ++ piece ∷ [])
 unfolding device_before
@@ -281,26 +281,26 @@ one_more layouts lines n past piece holds fine stands =
 
 -- ---- all pieces
 
--- each piece is right behind those before it
+-- each piece is right after those before it
 unfoldable pub AreFine : Layouts → List Piece → List Piece → Type 0
 AreFine layouts past [] = Unit {0}
 AreFine layouts past (piece ∷ pieces) = IsFine layouts past piece × AreFine layouts (past ++ piece ∷ []) pieces
 
--- pieces behind pieces are right
+-- pieces after pieces are right
 pub AreFine-append : (layouts : Layouts) (past a b : List Piece) → AreFine layouts past a → AreFine layouts (past ++ a) b → AreFine layouts past (a ++ b)
 unfolding AreFine
 AreFine-append layouts past [] b first second = rw (append-nil past) at second
 AreFine-append layouts past (piece ∷ a) b first second =
     (first.0, AreFine-append layouts (past ++ piece ∷ []) a b first.1 (rw (append_assoc past (piece ∷ []) a) second))
 
--- parts of lines that stand one behind the other
+-- parts of lines that follow one another
 pub Stands-front : (lines : List (List ℕ)) (n : ℕ) (a b : List (List ℕ)) → Stands lines n (a ++ b) → Stands lines n a
 Stands-front lines n a b stands = record {
   fits = omega (arith, stands.fits, length-append a b);
   same = λ k within. stands.same k (omega (arith, length-append a b)) ∙ get_or_append_left a b [] k within;
 }
 
--- and behind it the other
+-- and after it the other
 pub Stands-back : (lines : List (List ℕ)) (n : ℕ) (a b : List (List ℕ)) → Stands lines n (a ++ b) → Stands lines (n + length a) b
 Stands-back lines n a b stands = record {
   fits = omega (arith, stands.fits, length-append a b);
@@ -309,7 +309,7 @@ Stands-back lines n a b stands = record {
       ap (line_at lines) sum ∙ stands.same (length a + k) (omega (arith, length-append a b)) ∙ get_or-append-add a b k [];
 }
 
--- behind all pieces the lines say what they all say
+-- after all pieces the lines say what they all say
 pub all_more : (layouts : Layouts) (lines : List (List ℕ)) (n : ℕ) (past pieces : List Piece) → Holds layouts lines n past → AreFine layouts past pieces → Stands lines n (all_lines pieces)
     → Holds layouts lines (n + length (all_lines pieces)) (past ++ pieces)
 unfolding AreFine all_lines

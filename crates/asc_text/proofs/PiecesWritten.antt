@@ -1,4 +1,4 @@
--- The pieces of which the canonical text of an image is, and that each is right behind those before it.
+-- The pieces that make up the canonical text of an image, and that each is right after the pieces before it.
 use Rattle.std.proofs.Common.{◌≡◌, ℕ, zero, suc, ◌+◌, ◌-◌, ◌*◌, ◌<◌, Bool, true, false, not, ◌&&◌, ◌||◌, ◌==◌, List, [], ◌∷◌, ◌++◌, length, get_or, map, Contains, subst, append_assoc, append-nil, refl, sym, ap, ◌∙◌, arith, inl, inr, Option, Some, None}
 use Rattle.std.proofs.lemmas.Bool.{ne_eqb, and_left, and_right, or_from, or_cases, or_left, or_right, cases_eq}
 use Rattle.std.proofs.lemmas.List.{length-map, length-append, get_or-map, get_or_push, get_or_append_left}
@@ -39,7 +39,7 @@ use Rattle.asc_text.proofs.Spelled.{tile-spelled, ram-spelled, extra-spelled}
 
 -- ---- laws of lists of pieces
 
--- the lines of pieces behind pieces
+-- the lines of pieces after pieces
 pub all_lines-append : (a b : List Piece) → all_lines (a ++ b) ≡ all_lines a ++ all_lines b
 unfolding all_lines
 all_lines-append [] b = refl
@@ -51,7 +51,7 @@ unfolding gathered_below all_lines
 all_lines-gathered zero given = refl
 all_lines-gathered (suc n) given = all_lines-append (gathered_below n given) (given n) ∙ ap (λ lines. lines ++ all_lines (given n)) (all_lines-gathered n given)
 
--- some gathered piece passes where one of some place does
+-- some gathered piece passes if one of some place does
 pub some_piece-gathered : (test : Piece → Bool) (n : ℕ) (given : ℕ → List Piece) → some_piece test (gathered_below n given) ≡ any_below n (λ k. some_piece test (given k))
 unfolding gathered_below any_below some_piece
 some_piece-gathered test zero given = refl
@@ -80,7 +80,7 @@ first-none given zero pieces none = refl
 first-none given (suc n) pieces none =
     first_piece-append given (gathered_below n pieces) (pieces n) ∙ (λ i. or_else (first-none given n pieces (λ k within. none k (omega arith)) i) (none n (omega arith) i))
 
--- gathered pieces are right where those of each place are behind those before them
+-- gathered pieces are right if those of each place are right after the pieces before them
 pub AreFine-gathered : (layouts : Layouts) (past : List Piece) (n : ℕ) (given : ℕ → List Piece) → ((k : ℕ) → k < n → AreFine layouts (past ++ gathered_below k given) (given k)) → AreFine layouts past (gathered_below n given)
 unfolding gathered_below AreFine
 AreFine-gathered layouts past zero given fine = tt
@@ -186,7 +186,7 @@ same_kind Logic = refl
 same_kind RamB = refl
 same_kind RamT = refl
 
--- a written tile is right where none of its place stands before it
+-- a written tile is right if no tile of its position comes before it
 pub tile-fine : (layouts : Layouts) (image : Configuration) (x y : ℕ) (kind : TileKind) (past : List Piece) → x < 1000000000 → y < 1000000000 → kind_of image.layout.device x y ≡ Some kind
     → Knows image.layout.device past → some_statement (names_tile x y) past ≡ false → IsFine layouts past (tile_piece image x y kind)
 tile-fine layouts image x y kind past small_x small_y is knows new = record {
@@ -260,7 +260,7 @@ pub ram-row : (image : Configuration) (x y r : ℕ) → r < 16
 ram-row image x y r within =
     ap trimmed (line_at-single 16 (memory_line image x y) r within) ∙ trimmed-encoded (words_bytes 16 (line_word image x y r)) (line-bytes image x y r)
 
--- they are right where none of that RAM stand before them
+-- they are right if no lines of that RAM come before them
 pub ram-fine : (layouts : Layouts) (image : Configuration) (x y : ℕ) (past : List Piece) → x < 1000000000 → y < 1000000000 → kind_of image.layout.device x y ≡ Some RamB
     → Knows image.layout.device past → some_statement (names_ram x y) past ≡ false → IsFine layouts past (ram_piece image x y)
 ram-fine layouts image x y past small_x small_y is knows new = record {
@@ -283,7 +283,7 @@ grid-small L384 x y inside within = (omega arith, omega arith)
 grid-small K1 x y inside within = (omega arith, omega arith)
 grid-small K8 x y inside within = (omega arith, omega arith)
 
--- the pieces of a place of the grid are right where none of that place stands before them
+-- the pieces of a position of the grid are right if no piece of that position comes before them
 pub kind-fine : (layouts : Layouts) (image : Configuration) (x y : ℕ) (past : List Piece) → x < 1000000000 → y < 1000000000 → Knows image.layout.device past
     → some_statement (names_tile x y) past ≡ false → some_statement (names_ram x y) past ≡ false
     → (kind : Option TileKind) → kind_of image.layout.device x y ≡ kind → AreFine layouts past (kind_pieces image x y kind)
@@ -335,7 +335,7 @@ before-none image past x y test other none =
     (gathered-none passes x (grid_pieces image y) (λ x' below.
     other x' y (kind_of image.layout.device x' y) (and_left (x' == x) (y == y) (ne_eqb x' x (λ e. omega arith)))))
 
--- all tiles are right behind pieces that name the device, and no tile
+-- all tiles are right after pieces that name the device, and no tile
 pub tiles-fine : (layouts : Layouts) (image : Configuration) (past : List Piece) → Knows image.layout.device past
     → ((x y : ℕ) → some_statement (names_tile x y) past ≡ false) → ((x y : ℕ) → some_statement (names_ram x y) past ≡ false)
     → AreFine layouts past (all_tile_pieces image)
@@ -437,6 +437,6 @@ extras-fine_of layouts layout [] past has extra knows = tt
 extras-fine_of layouts layout (at ∷ places) past has extra knows =
     (extra-fine layouts layout at past has (extra at (first-in at places)) knows, extras-fine_of layouts layout places (past ++ extra_piece at ∷ []) has (λ other is. extra other (other-in at places other is)) (Knows-more layout.device past (extra_piece at ∷ []) knows))
 
--- all extra bits are right behind pieces that name the device
+-- all extra bits are right after pieces that name the device
 pub extras-fine : (layouts : Layouts) (image : Configuration) (past : List Piece) → HasLayout layouts image.layout → Knows image.layout.device past → AreFine layouts past (all_extra_pieces image)
 extras-fine layouts image past has knows = extras-fine_of layouts image.layout (set_extras image) past has (λ at is. (set_extras-in image at is).0) knows

@@ -26,7 +26,7 @@ use Rattle.asc_text.proofs.Dotted.{dotless-below, passes}
 
 -- ---- the words of a statement
 
--- one of two that is a RAM's is the other where the first isn't
+-- one of two is a RAM's: the second, if the first isn't
 not_first : (test : Bool) (first other : Option Statement) → is_ram_data first ≡ false → is_ram_data (if test then first else other) ≡ true → is_ram_data other ≡ true
 not_first true first other never is = absurd (false≢true (sym never ∙ is))
 not_first false first other never is = is
@@ -269,7 +269,7 @@ ram-not-at lines n never =
       | inr deep ↦ rw deep refl
     ]
 
--- behind a line outside of RAMs that is no statement of one, the next is outside too
+-- after a line outside of RAMs that is no statement of one, the next is outside too
 pub outside-more : (lines : List (List ℕ)) (n : ℕ) → is_in_ram lines n ≡ false → is_ram_data (statement_in (line_at lines n)) ≡ false → is_in_ram lines (n + 1) ≡ false
 outside-more lines n outside other = rw add-one (elim (cases_lt 0 (depth_at lines (suc n))) [
   | inl deep ↦ rw (lt-ltb 0 (depth_at lines (suc n)) deep) (elim (cases_lt 0 (depth_at lines n)) [
@@ -321,7 +321,7 @@ row-of lines n (suc row) flat is few =
     let next : depth_at lines (suc (n + 1 + row)) ≡ suc row + 1 = omega (arith, more, before.depth) in
     record { depth = rw here next; over = rw here (over-inner lines (n + 1 + row) more ∙ before.over) }
 
--- the lines behind it are outside
+-- the lines after it are outside
 pub row-end : (lines : List (List ℕ)) (n : ℕ) → depth_at lines n ≡ 0 → is_ram_data (statement_in (line_at lines n)) ≡ true → is_in_ram lines (n + 17) ≡ false
 row-end lines n flat is =
     let last = row-of lines n 15 flat is (omega arith) in

@@ -1,4 +1,4 @@
--- What is wrong with a line is told by what is kept.
+-- What is wrong with a line follows from what is kept.
 use Rattle.std.proofs.Common.{◌≡◌, ℕ, ◌+◌, ◌-◌, ◌<◌, ◌≤◌, Bool, true, false, not, List, [], length, refl, sym, ap, ◌∙◌, arith}
 use Rattle.std.specs.Prelude.{Option, Some, None, is_some, nat_lt, nat_le}
 use Rattle.std.proofs.lemmas.Bool.{lt-ltb}
@@ -46,7 +46,7 @@ widest L384 = (omega arith, omega arith)
 widest K1 = (omega arith, omega arith)
 widest K8 = (omega arith, omega arith)
 
--- a tile stands in the largest grid
+-- a tile is in the largest grid
 pub in_grid : (device : DeviceName) (x y : ℕ) (kind : TileKind) → kind_of device x y ≡ Some kind → (x < 34) × (y < 34)
 in_grid device x y kind there =
     let some : 0 < columns_at device x y = rw there (columns-some kind) in

@@ -34,7 +34,7 @@ use Rattle.asc_text.proofs.CommentRead.{HasCommentLines, holds-start, plain-comm
 
 -- ---- the lines
 
--- the pieces behind the comment
+-- the pieces after the comment
 abbrev body_pieces : Configuration → List Piece
 body_pieces image = head_pieces image.layout.device image.settings.warm_boot image.settings.range image.settings.no_sleep ++ (all_tile_pieces image ++ all_extra_pieces image)
 
@@ -64,7 +64,7 @@ canonical-written image =
 
 -- ---- they are read
 
--- all pieces are right, each behind those before it
+-- all pieces are right, each after those before it
 body-fine : (layouts : Layouts) (image : Configuration) → HasLayout layouts image.layout → AreFine layouts (comment_pieces image.comment) (body_pieces image)
 body-fine layouts image under =
     let device = image.layout.device in
@@ -186,7 +186,7 @@ no-symbol (Some (RamData x y)) line none = refl
 no-symbol (Some (ExtraBit bank x y)) line none = refl
 no-symbol (Some (Symbol net)) line none = absurd (both_ways true none refl)
 
--- where no place passes, this one doesn't
+-- if no place passes, this one doesn't
 none-at : (n k : ℕ) (test : ℕ → Bool) → k < n → any_below n test ≡ false → test k ≡ false
 none-at n k test within none = elim (cases_Bool (test k)) [
   | inl here ↦ absurd (both_ways (any_below n test) none (any_below-at n k test within here))
@@ -215,7 +215,7 @@ device-whole layouts image under has =
     ∙ ap (λ pieces. first_statement device_in pieces) (sym (append_assoc (comment_pieces image.comment) head places))
     ∙ Knows-more image.layout.device (comment_pieces image.comment ++ head) places (head-knows image.comment image.layout.device settings.warm_boot settings.range settings.no_sleep)
 
--- nothing is wrong with the end where the device is known
+-- nothing is wrong with the end if the device is known
 cause-end : (layouts : Layouts) (lines : List (List ℕ)) (device : DeviceName) → depth_at lines (length lines) ≡ 0 → device_before lines (length lines) ≡ Some device → cause_at layouts lines (length lines) ≡ None
 unfolding cause_at
 cause-end layouts lines device top named = rw (top, le-leb (length lines) (length lines) (omega arith), named) refl
@@ -249,7 +249,7 @@ comment-read layouts None has lines n body stands within dot holds calm =
     comment-none lines n (λ k below. none-at n k (λ k. is_comment (statement_at lines k)) below (holds.any is_comment refl ∙ calm))
 comment-read layouts (Some cs) has lines n body stands within dot holds calm = comment-is lines cs n has stands within dot holds.calm
 
--- the line behind the comment is the device's
+-- the line after the comment is the device's
 line-behind : (image : Configuration) → begins_with_dot (line_at (written_lines image) (length (comment_lines image.comment))) ≡ true
 unfolding all_lines
 line-behind image =

@@ -42,7 +42,7 @@ row_line-characters [] = refl
 row_line-characters (true ∷ bits) = row_line-characters bits
 row_line-characters (false ∷ bits) = row_line-characters bits
 
--- a row of so many bits is a row
+-- a row with a character for each of `width` bits is a row
 pub is_row-row_line : (bits : List Bool) (width : ℕ) → length bits ≡ width → is_row width (row_line bits) ≡ true
 unfolding is_row
 is_row-row_line bits width wide =

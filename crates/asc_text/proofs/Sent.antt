@@ -13,7 +13,7 @@ use Rattle.text_lines.specs.Written.{text_of}
 use Rattle.asc_text.specs.inside.Sent.{Sends}
 use Rattle.asc_text.proofs.Pieces.{text_of-append, text_of-none}
 
--- a piece behind those before
+-- a piece after those before
 pub Sends-next : (a b c : Option (List ℕ)) (sent now : ℕ) (pieces piece : List ℕ) (result : Result ℕ PutFault) → Sends a b sent pieces (Ok now) → Sends b c now piece result → Sends a c sent (pieces ++ piece) result
 Sends-next a b c sent now pieces piece (Ok after) before next =
     (Appends-trans a b c pieces piece before.0 next.0, omega (arith, before.1, next.1, length-append pieces piece))
@@ -26,7 +26,7 @@ Sends-next a b c sent now pieces piece (Err fault) before next =
       omega (arith, before.1, next.2, length-append pieces piece),
     )
 
--- where writing failed within the first pieces, it failed within all of them
+-- if writing failed within the first pieces, it failed within all of them
 pub Sends-front : (a c : Option (List ℕ)) (sent : ℕ) (pieces more : List ℕ) (fault : PutFault) → Sends a c sent pieces (Err fault) → Sends a c sent (pieces ++ more) (Err fault)
 Sends-front a c sent pieces more fault front =
     let written : ℕ = written_before fault in (
@@ -56,7 +56,7 @@ rows-next a b c sent now y given row result is before next =
     ap (λ row. text_of (gathered_below y given) ++ row) is ∙ sym (text_of-append (gathered_below y given) (given y)) ∙ ap text_of (sym (gathered_below-more y given)) in
     subst (λ text. Sends a c sent text result) joined (Sends-next a b c sent now (text_of (gathered_below y given)) row result before next)
 
--- where a row failed, all rows failed
+-- if a row failed, all rows failed
 pub rows-failed : (a c : Option (List ℕ)) (sent y all : ℕ) (given : ℕ → List (List ℕ)) (fault : PutFault) → y < all → Sends a c sent (text_of (gathered_below (y + 1) given)) (Err fault) → Sends a c sent (text_of (gathered_below all given)) (Err fault)
 rows-failed a c sent y all given fault within failed =
     let others : List (List ℕ) = gathered_below (all - (y + 1)) (λ k. given (y + 1 + k)) in

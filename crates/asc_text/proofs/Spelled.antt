@@ -38,13 +38,13 @@ pub record IsSpelled (line : List ℕ) (statement : Statement) : Type 0 where
 pub plain-literal : (line : List ℕ) → list_all (λ byte. nat_le 32 byte) line ≡ true → IsPlain line
 plain-literal line all = All-weaker (λ byte. nat_le 32 byte ≡ true) (λ byte. 32 ≤ byte) (λ byte le. leb-true 32 byte le) line (AllPass-from_list_all (λ byte. nat_le 32 byte) line all)
 
--- a word behind a line
+-- a word after a line
 plain-with_word : (line word : List ℕ) → IsPlain line → IsPlain word → IsPlain (with_word line word)
 plain-with_word line word first second = All-append (λ byte. 32 ≤ byte) line (32 ∷ word) first (All-cons (λ byte. 32 ≤ byte) 32 word (omega arith) second)
 
 -- ---- no blanks at the end
 
--- a byte stays where something is left behind it
+-- a byte stays if something is left after it
 before_rest-some : (byte : ℕ) (rest : List ℕ) → 0 < length rest → before_rest byte rest ≡ byte ∷ rest
 before_rest-some byte [] some = absurd (omega arith)
 before_rest-some byte (next ∷ rest) some = refl
@@ -83,7 +83,7 @@ device-spelled L384 = record { spells = refl; dot = refl; plain = plain-literal 
 device-spelled K1 = record { spells = refl; dot = refl; plain = plain-literal (with_word device_keyword (device_word K1)) refl }
 device-spelled K8 = record { spells = refl; dot = refl; plain = plain-literal (with_word device_keyword (device_word K8)) refl }
 
--- warm boot, where it is disabled
+-- warm boot, if it is disabled
 pub warm_boot-spelled : IsSpelled (with_word warm_boot_keyword (switch_word false)) (WarmBoot (Some false))
 unfolding statement_in trimmed from_word words_of pieces_of
 warm_boot-spelled = record { spells = refl; dot = refl; plain = plain-literal (with_word warm_boot_keyword (switch_word false)) refl }
@@ -98,20 +98,20 @@ pub high-spelled : IsSpelled (with_word range_keyword (range_word High)) (Freque
 unfolding statement_in trimmed from_word words_of pieces_of
 high-spelled = record { spells = refl; dot = refl; plain = plain-literal (with_word range_keyword (range_word High)) refl }
 
--- the flash, where it stays awake
+-- the flash, if it stays awake
 pub no_sleep-spelled : IsSpelled (with_word no_sleep_keyword (switch_word true)) (NoSleep (Some true))
 unfolding statement_in trimmed from_word words_of pieces_of
 no_sleep-spelled = record { spells = refl; dot = refl; plain = plain-literal (with_word no_sleep_keyword (switch_word true)) refl }
 
 -- ---- statements of places
 
--- two numbers behind a keyword
+-- two numbers after a keyword
 two-numbers : (x y : ℕ) → x < 1000000000 → y < 1000000000 → numbers_of (words_of Spaces (32 ∷ (decimal x ++ (32 ∷ decimal y)))) ≡ Some (x ∷ y ∷ [])
 two-numbers x y small_x small_y =
     ap numbers_of (words_of-separator Spaces 32 (decimal x ++ (32 ∷ decimal y)) refl ∙ words_of-two Spaces (decimal x) (decimal y) (decimal-word Spaces x (omega arith)) (decimal-word Spaces y (omega arith)))
     ∙ numbers_of-two (decimal x) (decimal y) x y (number_of-decimal x small_x) (number_of-decimal y small_y)
 
--- three numbers behind a keyword
+-- three numbers after a keyword
 three-numbers : (x y z : ℕ) → x < 1000000000 → y < 1000000000 → z < 1000000000
     → numbers_of (words_of Spaces (32 ∷ (decimal x ++ (32 ∷ (decimal y ++ (32 ∷ decimal z)))))) ≡ Some (x ∷ y ∷ z ∷ [])
 three-numbers x y z small_x small_y small_z =

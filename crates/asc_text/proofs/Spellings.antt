@@ -8,7 +8,7 @@ use Rattle.asc_text.specs.declared.statement.Statement.{Statement}
 use Rattle.asc_text.specs.Statements.{comment_keyword, device_keyword, warm_boot_keyword, range_keyword, no_sleep_keyword, tile_keyword, ram_data_keyword, extra_bit_keyword, symbol_keyword, spelled}
 use Rattle.asc_text.specs.inside.Keywords.{keyword_of, spelled_as}
 
--- the statement of a keyword, where there is one
+-- the statement of a keyword, if there is one
 abbrev pub spelled_where : Option Keyword → List ℕ → Option Statement
 spelled_where None behind = None
 spelled_where (Some keyword) behind = spelled_as keyword behind

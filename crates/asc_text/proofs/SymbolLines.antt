@@ -15,7 +15,7 @@ use Rattle.text_lines.proofs.Spaced.{IsWord, from_word-inner}
 use Rattle.asc_text.specs.declared.statement.Statement.TheVariants.{Symbol}
 use Rattle.asc_text.specs.Statements.{name_behind, spelled, symbol_of_parts}
 
--- ---- a word with a space behind it
+-- ---- a word with a space after it
 
 -- what is no separator
 abbrev inner : ℕ → Type 0
@@ -88,7 +88,7 @@ spells line text number name is starts some =
     ∙ ap (symbol_of_parts (Some number)) parts.1
     ∙ named number name some
 
--- the same where the keyword and the space are found at the front of a line
+-- the same if the keyword and the space are found at the front of a line
 pub spells-behind : (line : List ℕ) (found : Option ℕ) → take 5 line ≡ codes ".sym " → IfSome found (λ number. (name : List ℕ) × StartsWithNumber 32 (drop 5 line) number name × (0 < length name))
     → IfSome found (λ number. spelled (first_word Spaces line) (behind_word Spaces line) ≡ Some (Symbol number))
 spells-behind line None front starts = tt

@@ -30,7 +30,7 @@ by_place (line ∷ lines) =
     ∙ gathered_below-sum 1 (length lines) (λ k. named (line_at (line ∷ lines) k))
     ∙ ap (λ names. named line ++ names) (gathered_below-same (length lines) (λ k. named (line_at (line ∷ lines) (1 + k))) (λ k. named (line_at lines k)) later ∙ by_place lines)
 
--- a line of a text that can be read is a statement where it begins as one
+-- a line of a text that can be read is a statement if it begins as one
 same_at : (layouts : Layouts) (text : List ℕ) (n : ℕ) → asc_fault_of layouts text ≡ None → n < length (lines_of text) → statement_at (lines_of text) n ≡ statement_in (line_at (lines_of text) n)
 same_at layouts text n none within =
     let lines = lines_of text in

@@ -1,4 +1,5 @@
--- Which statement a line belongs to. Indexes count from 0.
+-- Which statement a line belongs to (Project IceStorm, 'iCE40 ASCII format': sixteen lines follow the statement of a tile or of a RAM's
+-- contents). Indexes count from 0.
 use Rattle.std.specs.Prelude.{ℕ, zero, suc, ◌+◌, ◌-◌, Bool, true, false, not, ◌&&◌, List, nat_le, ◌==◌, if◌then◌else◌, Option, Some, None}
 use Rattle.text_lines.specs.Lines.{line_at}
 use Rattle.place_search.specs.Places.{last_below, first_below}
@@ -25,12 +26,12 @@ opened_before lines zero = None
 opened_before lines (suc n) =
     if has_rows (statement_in (line_at lines n)) && not (is_below (opened_before lines n) n) then Some n else opened_before lines n
 
--- how far a line is below a line, where it is one of the sixteen below it, and else 0
+-- how far a line is below a line if it is one of the sixteen below it, or else 0
 abbrev pub depth_below : Option ℕ → ℕ → ℕ
 depth_below None n = 0
 depth_below (Some k) n = if nat_le n (k + 16) then n - k else 0
 
--- How far a line is below the statement whose sixteen lines it is among, whatever it says, and 0 where it is among none.
+-- How far a line is below the statement among whose sixteen lines it is, whatever it says, or 0 if it is among none.
 unfoldable pub depth_at : List (List ℕ) → ℕ → ℕ
 depth_at lines n = depth_below (opened_before lines n) n
 
@@ -38,7 +39,7 @@ depth_at lines n = depth_below (opened_before lines n) n
 unfoldable pub statement_over : List (List ℕ) → ℕ → Option Statement
 statement_over lines n = statement_in (line_at lines (n - depth_at lines n))
 
--- the statement that a line is, where it is not one of the sixteen lines of another
+-- the statement that a line is, if it is not one of the sixteen lines of another
 unfoldable pub statement_at : List (List ℕ) → ℕ → Option Statement
 statement_at lines n = if depth_at lines n == 0 then statement_in (line_at lines n) else None
 

@@ -1,4 +1,5 @@
--- The one text that is written for a configuration: a concatenation of lines.
+-- The one text that is written for a configuration: a concatenation of lines in the form of Project IceStorm, 'iCE40 ASCII format'. The
+-- choice of one text among all that say the same is this project's.
 use Rattle.std.specs.Prelude.{ℕ, ◌+◌, ◌-◌, ◌*◌, ◌/◌, ◌%◌, Bool, true, false, List, [], ◌∷◌, ◌++◌, map, decimal, Option, Some, None}
 use Rattle.place_search.specs.Places.{gathered_below}
 use Rattle.text_lines.specs.Written.{text_of}
@@ -20,23 +21,23 @@ with_word line word = line ++ 32 ∷ word
 
 -- ---- before the tiles
 
--- the comment, where there is one
+-- the comment, if there is one
 abbrev pub comment_lines : Option (List (List ℕ)) → List (List ℕ)
 comment_lines None = []
 comment_lines (Some lines) = comment_keyword ∷ lines
 
--- warm boot, where it is disabled
+-- warm boot, if it is disabled
 abbrev pub warm_boot_lines : Bool → List (List ℕ)
 warm_boot_lines true = []
 warm_boot_lines false = with_word warm_boot_keyword (switch_word false) ∷ []
 
--- the range, where it isn't low
+-- the range, if it isn't low
 abbrev pub range_lines : Range → List (List ℕ)
 range_lines Low = []
 range_lines Medium = with_word range_keyword (range_word Medium) ∷ []
 range_lines High = with_word range_keyword (range_word High) ∷ []
 
--- no sleep, where it is enabled
+-- no sleep, if it is enabled
 abbrev pub no_sleep_lines : Bool → List (List ℕ)
 no_sleep_lines true = with_word no_sleep_keyword (switch_word true) ∷ []
 no_sleep_lines false = []
@@ -72,7 +73,7 @@ tile_lines image x y kind = grid_line (tile_keyword kind) x y ∷ map row_line (
 abbrev pub two_bytes : ℕ → List ℕ
 two_bytes word = word / 256 ∷ word % 256 ∷ []
 
--- sixteen words of a RAM, the first of them at the right
+-- sixteen words of a RAM, the first word at the right
 abbrev pub memory_line : Configuration → ℕ → ℕ → ℕ → List ℕ
 memory_line image x y row =
     encode_lower (gathered_below 16 (λ index. two_bytes (ram_word_of image x y (16 * row + 15 - index))))
@@ -82,7 +83,7 @@ abbrev pub ram_lines : Configuration → ℕ → ℕ → List (List ℕ)
 ram_lines image x y =
     grid_line ram_data_keyword x y ∷ gathered_below 16 (λ row. memory_line image x y row ∷ [])
 
--- the tile at a place of the grid, and after a lower tile its RAM's contents
+-- the tile at a position of the grid, and after a lower tile its RAM's contents
 abbrev pub lines_of_tile_at : Configuration → ℕ → ℕ → Option TileKind → List (List ℕ)
 lines_of_tile_at image x y None = []
 lines_of_tile_at image x y (Some Io) = tile_lines image x y Io

@@ -1,4 +1,4 @@
--- The lines of a text that have ended, where more may follow.
+-- The lines of a text that have ended, if more may follow.
 use Rattle.std.specs.Prelude.{◌≡◌, ℕ, ◌<◌, List, ◌++◌, Some}
 use Rattle.text_lines.specs.Pieces.{ended_lines}
 use Rattle.layout_file.specs.declared.layouts.Layouts.{Layouts}

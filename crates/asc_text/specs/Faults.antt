@@ -22,7 +22,7 @@ use Rattle.layout_file.specs.declared.layouts.Layouts.{Layouts}
 use Rattle.layout_file.specs.Layouts.{layout_for}
 use Rattle.ice_image.specs.Owned.{is_extra}
 
--- a cause where a test passes
+-- a cause, if a test passes
 abbrev pub cause_if : Bool → AscCause → Option AscCause
 cause_if true cause = Some cause
 cause_if false cause = None
@@ -124,7 +124,7 @@ setting_cause (FrequencyRange None) = Some Setting
 setting_cause (NoSleep None) = Some Setting
 setting_cause statement = None
 
--- what is wrong with a statement: the first cause that holds
+-- what is wrong with a statement: the first cause that applies
 abbrev pub statement_cause : Layouts → List (List ℕ) → ℕ → Option Statement → Option AscCause
 statement_cause layouts lines n None = Some StatementCause
 statement_cause layouts lines n (Some statement) =
@@ -150,7 +150,7 @@ is_in_comment lines (Some index) = is_comment (statement_in (line_at lines index
 abbrev pub comment_cause : List ℕ → Option AscCause
 comment_cause line = cause_if (not (list_all is_printable line)) CommentByte
 
--- a line of blanks alone is skipped, and any other that belongs to nothing is stray
+-- a line of blanks is skipped, and any other line that belongs to no statement is stray
 abbrev pub stray_cause : List ℕ → Option AscCause
 stray_cause line = cause_if (nat_lt 0 (length (trimmed line))) StrayData
 
@@ -161,7 +161,7 @@ end_cause (Some device) = None
 
 -- ---- the whole
 
--- What is wrong with a line, or, behind the last line, with the end.
+-- What is wrong with a line or, after the last line, with the end of the text.
 unfoldable pub cause_at : Layouts → List (List ℕ) → ℕ → Option AscCause
 cause_at layouts lines n =
     if nat_lt 0 (depth_at lines n) then row_cause (statement_over lines n) (trimmed (line_at lines n))
@@ -194,7 +194,7 @@ fault_at layouts lines n = fault_with (cause_at layouts lines n) (n + 1) (tile_n
 unfoldable pub asc_fault_of : Layouts → List ℕ → Option Fault
 asc_fault_of layouts text = let lines = lines_of text in first_below (length lines + 1) (fault_at layouts lines)
 
--- a fault other than out of memory is that one
+-- a fault other than out of memory is this one
 abbrev pub Tells : Option Fault → AscFault → Type 0
 Tells fault (At line tile cause) = fault ≡ Some (record { line = line; tile = tile; cause = cause })
 Tells fault (Memory e) = Unit {0}

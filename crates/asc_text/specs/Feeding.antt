@@ -1,5 +1,5 @@
--- Which text a reader stands for that is fed in pieces. The clauses of its calls say all that matters of it: a new one stands for an
--- empty text, `feed` adds a piece, and `finish` tells what the text means. What a reader keeps stands in specs/inside.
+-- Which text a reader stands for that is fed in pieces. The clauses of its calls say all that matters of it: a new reader stands for an
+-- empty text, `feed` adds a piece, and `finish` returns what the text means. What a reader keeps is defined in specs/inside.
 use Rattle.std.specs.Prelude.{◌≡◌, ℕ, List, length, Option}
 use Rattle.text_lines.specs.Feeding.{StandsFor as FeedStandsFor, refusal_of as refusal_of_feed}
 use Rattle.layout_file.specs.declared.layouts.Layouts.{Layouts}
@@ -12,11 +12,11 @@ use Rattle.asc_text.specs.inside.Feeding.{HasTaken, Refuses}
 abbrev pub fed_to : AscReader → ℕ
 fed_to reader = reader.fed
 
--- the fault with which a reader refused, where it did
+-- the fault with which a reader refused, if it did
 abbrev pub refusal_of : AscReader → Option AscFault
 refusal_of reader = refusal_of_feed reader.lines
 
--- A reader stands for a text under layouts: so many bytes were fed to it, and it has read them or refused.
+-- A reader stands for a text under layouts: the bytes of the text were fed to it, and it has read them or refused.
 pub record StandsFor (layouts : Layouts) (text : List ℕ) (reader : AscReader) : Type 0 where
   pub fed : fed_to reader ≡ length text
   pub laid : AreLayouts layouts

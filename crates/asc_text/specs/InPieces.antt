@@ -5,7 +5,7 @@ use Rattle.ice_image.specs.Either.{configuration_of}
 use Rattle.asc_text.specs.declared.writing.canonical.CanonicalText.{CanonicalText}
 use Rattle.asc_text.specs.Canonical.{all_tile_lines}
 
--- the bytes that it writes: those before the tiles, the tiles, and those behind them
+-- the bytes that it writes: the lines before the tiles, the tiles, and the lines after them
 abbrev pub canonical_in : CanonicalText → List ℕ
 canonical_in text =
     take text.behind text.around.items

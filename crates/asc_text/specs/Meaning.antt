@@ -1,5 +1,5 @@
--- The configuration that a text without a faulty line gives. What the lines before a line say is a function of that line's
--- index; for the whole text the index is the number of its lines.
+-- The configuration that a text without a faulty line gives, as Project IceStorm, 'iCE40 ASCII format' has it. What the lines before a line
+-- say is a function of that line's index; for the whole text the index is the number of its lines.
 use Rattle.std.specs.Prelude.{◌≡◌, ℕ, ◌-◌, ◌/◌, ◌%◌, Bool, false, not, ◌&&◌, List, [], ◌∷◌, length, nat_lt, ◌==◌, if◌then◌else◌, Option, Some, None, unwrap_or}
 use Rattle.text_lines.specs.Lines.{lines_of, line_at, trimmed}
 use Rattle.place_search.specs.Places.{any_below, last_below, first_below, gathered_below}
@@ -35,7 +35,7 @@ abbrev pub no_sleep_in : Option Statement → Option Bool
 no_sleep_in (Some (NoSleep setting)) = setting
 no_sleep_in statement = None
 
--- what a statement before a line sets, or what holds where none does
+-- what a statement before a line sets, or `usual` if none does
 abbrev pub set_before : {A : Type 0} → List (List ℕ) → ℕ → (Option Statement → Option A) → A → A
 set_before lines n setting usual = unwrap_or (first_below n (λ k. setting (statement_at lines k))) usual
 
@@ -48,7 +48,7 @@ settings_before lines n = record {
 
 -- ---- the comment
 
--- whether an index, where there is one, is that of a line
+-- whether there is an index, and it is that of a line
 abbrev pub is_that_line : Option ℕ → ℕ → Bool
 is_that_line None start = false
 is_that_line (Some index) start = index == start
@@ -91,7 +91,7 @@ sets_bit (Some (RamData x y)) depth line bit = line_sets x y (depth - 1) line bi
 sets_bit (Some (ExtraBit bank x y)) depth line bit = extra_sets (extra_place bank x y) bit
 sets_bit statement depth line bit = false
 
--- A bit is 1 exactly where some line sets it.
+-- A bit is 1 exactly if some line sets it.
 unfoldable pub is_set_before : List (List ℕ) → ℕ → Bit → Bool
 is_set_before lines n bit =
     any_below n (λ k. sets_bit (statement_over lines k) (depth_at lines k) (trimmed (line_at lines k)) bit)
@@ -115,7 +115,7 @@ abbrev pub image_for : Layouts → Option DeviceName → List (List ℕ) → Opt
 image_for layouts None lines = None
 image_for layouts (Some device) lines = Some (image_before (layout_for layouts device) lines (length lines))
 
--- what a text configures under the layouts, where it names a device
+-- what a text configures under the layouts, if it names a device
 unfoldable pub asc_image_of : Layouts → List ℕ → Option Configuration
 asc_image_of layouts text = let lines = lines_of text in image_for layouts (device_before lines (length lines)) lines
 

@@ -1,4 +1,4 @@
--- The lines of RAMs in a text: how a line is seen to be the statement of a RAM's contents, and the sixteen lines below it.
+-- The lines of RAMs in a text: which lines are `.ram_data` statements, and the sixteen lines below each.
 use Rattle.std.specs.Prelude.{◌≡◌, ℕ, ◌+◌, ◌-◌, ◌<◌, Bool, true, false, ◌&&◌, List, drop, bytes_eq, nat_lt, Option, Some}
 use Rattle.text_lines.specs.Lines.{line_at, trimmed}
 use Rattle.text_lines.specs.Words.{first_word}

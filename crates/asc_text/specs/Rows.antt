@@ -1,10 +1,10 @@
--- The lines that follow the statement of a tile, or of the contents of a RAM.
+-- The lines that follow the statement of a tile, or of the contents of a RAM (Project IceStorm, 'iCE40 ASCII format').
 use Rattle.std.specs.Prelude.{ℕ, ◌+◌, ◌-◌, ◌*◌, ◌/◌, ◌%◌, ◌^◌, Bool, ◌&&◌, ◌||◌, List, [], length, get_or, ◌==◌, Result, Ok, Err}
 use Rattle.std.specs.List.{list_all}
 use Rattle.hex.specs.Hex.{decode_of, is_hex_digit}
 use Rattle.hex.specs.declared.error.FromHexError.{FromHexError}
 
--- a row of a tile of that width: so many characters 0 and 1
+-- a row of a tile: `width` characters 0 and 1
 unfoldable pub is_row : ℕ → List ℕ → Bool
 is_row width line = (length line == width) && list_all (λ byte. (byte == 48) || (byte == 49)) line
 
@@ -20,7 +20,7 @@ abbrev pub decoded : Result (List ℕ) FromHexError → List ℕ
 decoded (Ok bytes) = bytes
 decoded (Err e) = []
 
--- the bytes that digits write
+-- the bytes of hexadecimal digits, two digits a byte
 unfoldable pub memory_bytes : List ℕ → List ℕ
 memory_bytes line = decoded (decode_of line)
 

@@ -1,4 +1,5 @@
--- Statements: what a line that begins with a dot says. Blanks at its end don't count.
+-- Statements: what a line that begins with a dot says. Blanks at its end don't count. The statements are those of Project IceStorm,
+-- 'iCE40 ASCII format'; `.freqrange` and `.nosleep` are this project's choice.
 use Rattle.std.specs.Prelude.{ℕ, Bool, true, false, List, [], ◌∷◌, drop, get_or, codes, bytes_eq, ◌==◌, if◌then◌else◌, Option, Some, None}
 use Rattle.text_lines.specs.Lines.{trimmed}
 use Rattle.text_lines.specs.declared.words.Separators.TheVariants.{Spaces}
@@ -17,7 +18,7 @@ abbrev pub switch_word : Bool → List ℕ
 switch_word true = codes "enabled"
 switch_word false = codes "disabled"
 
--- the switch that a word names
+-- the Boolean that `enabled` or `disabled` names
 abbrev pub switch_named : List ℕ → Option Bool
 switch_named word =
     if bytes_eq word (switch_word true) then Some true
@@ -29,7 +30,7 @@ range_word Low = codes "low"
 range_word Medium = codes "medium"
 range_word High = codes "high"
 
--- the range that a word names
+-- the oscillator range that a word names
 abbrev pub range_named : List ℕ → Option Range
 range_named word =
     if bytes_eq word (range_word Low) then Some Low
@@ -112,13 +113,13 @@ symbol_of_parts (Some net) (byte ∷ bytes) = Some (Symbol net)
 symbol_of_parts (Some net) [] = None
 symbol_of_parts None name = None
 
--- what stands behind the first word and one space
+-- the text after the first word and one space
 abbrev pub name_behind : List ℕ → List ℕ
 name_behind line = drop 1 (behind_word Spaces line)
 
 -- ---- statements
 
--- the statement of a keyword and of what stands behind it
+-- the statement of a keyword and the text after it
 abbrev pub spelled : List ℕ → List ℕ → Option Statement
 spelled keyword behind =
     if bytes_eq keyword comment_keyword then Some Comment
@@ -139,11 +140,11 @@ spelled keyword behind =
 abbrev pub begins_with_dot : List ℕ → Bool
 begins_with_dot line = get_or line 0 0 == 46
 
--- the statement that a line is, where it is a valid one
+-- the statement that a line is, if it is a valid one
 unfoldable pub statement_in : List ℕ → Option Statement
 statement_in line =
     if begins_with_dot line then spelled (first_word Spaces (trimmed line)) (behind_word Spaces (trimmed line)) else None
 
--- the name that a line gives to a net, where it gives one
+-- the name that a line gives to a net, if it gives one
 unfoldable pub name_in : List ℕ → List ℕ
 name_in line = name_behind (behind_word Spaces (trimmed line))

@@ -28,25 +28,25 @@ pub enum AscCause {
     /// There is no tile.
     #[error("there is no tile")]
     Coordinates,
-    /// The tile there is of another kind, which is the one expected.
+    /// The tile there is of another kind than the statement says: of the kind `expected`.
     #[error("the tile there is of kind {expected:?}")]
     Kind { expected: TileKind },
-    /// Not a row of the tile: as many characters `0` and `1` as it has columns.
+    /// Not a row of the tile: a character other than `0` and `1`, or the wrong number of them for the tile's columns.
     #[error("expected a row of 0 and 1")]
     Row,
-    /// The text has given the same before.
+    /// The text has given this tile, RAM, device or setting before.
     #[error("given before")]
     Repeated,
     /// Not a line of 64 hexadecimal digits.
     #[error("expected 64 hexadecimal digits")]
     Hex,
-    /// A place outside the configuration planes, or of a bit that belongs to a tile.
+    /// A place outside the configuration planes, or the place of a bit that belongs to a tile.
     #[error("the place is outside the planes or belongs to a tile")]
     ExtraPlace,
     /// A word that is not a value of the setting.
     #[error("unknown value of the setting")]
     Setting,
-    /// A line with something in it that is not a statement and does not belong to one.
+    /// A line that isn't blank, is not a statement and does not belong to one.
     #[error("the line belongs to no statement")]
     StrayData,
     /// A byte outside 0x20 to 0x7E in a comment.
@@ -70,15 +70,15 @@ impl AscCause {
 /// Why a text is refused.
 #[derive(Clone, Copy, Debug, PartialEq, Eq, Error)]
 pub enum AscFault {
-    /// The first faulty line, counted from 1, the tile or RAM that it belongs to, and what is wrong there. Where something
-    /// is missing at the end of the text, the line is the number of lines plus 1.
+    /// The first faulty line, counted from 1, the tile or RAM to which it belongs, and what is wrong there. If something is missing
+    /// at the end of the text, the line is the number of lines plus 1.
     #[error("line {line}: {cause}")]
     At {
         line: u64,
         tile: Option<TileXy>,
         cause: AscCause,
     },
-    /// Out of memory, which may come instead of any other answer.
+    /// Out of memory, which may come in place of any other answer.
     #[error(transparent)]
     Memory(AllocError),
 }

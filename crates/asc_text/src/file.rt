@@ -4,7 +4,7 @@ ghost use Rattle.std.specs.Prelude.{◌≡◌};
 use ice_image::AnyImage;
 use std::marker::Model;
 
-/// A string of bytes; contracts see it as the list of its bytes.
+/// A byte string. Contracts see it as the list of its bytes.
 #[derive(Drop)]
 pub struct ByteText {
     bytes: Vec<u8>,

@@ -1,4 +1,4 @@
-//! The text form of a configuration (`.asc`): reading and writing.
+//! The text form of a configuration, Project IceStorm's ASCII format (`.asc`): reading and writing.
 #![tactic(auto)]
 
 mod fault;

@@ -1,4 +1,4 @@
-// Texts read.
+// Reading texts.
 
 mod asc_lines;
 mod asc_reader;

@@ -3,7 +3,7 @@
 use ice_image::Range;
 use plane_map::{DeviceName, TileKind};
 
-/// What a line that begins with a dot says, in which the definitions of a text's meaning are stated. `None` stands for an
+/// What a line that begins with a dot says. The definitions of a text's meaning are stated in terms of it. `None` stands for an
 /// unknown word.
 #[derive(Clone, Copy, Debug, PartialEq, Eq)]
 pub(crate) enum Statement {
@@ -17,7 +17,7 @@ pub(crate) enum Statement {
     FrequencyRange(Option<Range>),
     /// `.nosleep enabled` or `disabled`.
     NoSleep(Option<bool>),
-    /// `.io_tile X Y` and its like: sixteen rows follow.
+    /// `.io_tile X Y`, `.logic_tile X Y`, `.ramb_tile X Y` or `.ramt_tile X Y`: sixteen rows follow.
     Tile { kind: TileKind, x: u32, y: u32 },
     /// `.ram_data X Y`: sixteen lines of digits follow.
     RamData { x: u32, y: u32 },

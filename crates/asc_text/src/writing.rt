@@ -1,4 +1,4 @@
-// Texts written.
+// Writing texts.
 
 mod canonical;
 mod extras;

@@ -4,7 +4,7 @@ use Rattle.bin_stream.specs.Commands.{Command}
 use Rattle.bin_stream.specs.Refusals.{IsAllowedAfter}
 use Rattle.bin_stream.specs.Spelling.{IsAllowed}
 
--- each command may stand behind those given and those before it
+-- each command may stand after those given and those before it
 abbrev pub Follows : List Command → List Command → Type 0
 Follows before [] = Unit {0}
 Follows before (command ∷ commands) = IsAllowedAfter before command × Follows (before ++ command ∷ []) commands
@@ -45,14 +45,14 @@ pub Follows-left : (before commands more : List Command) → Follows before (com
 Follows-left before [] more follows = tt
 Follows-left before (command ∷ commands) more follows = (follows.0, Follows-left (before ++ command ∷ []) commands more follows.1)
 
--- commands behind others
+-- commands after others
 pub Follows-right : (before commands more : List Command) → Follows before (commands ++ more) → Follows (before ++ commands) more
 Follows-right before [] more follows = subst (λ all. Follows all more) (sym (append-nil before)) follows
 Follows-right before (command ∷ commands) more follows =
     subst (λ all. Follows all more) (append_assoc before (command ∷ []) commands)
     (Follows-right (before ++ command ∷ []) commands more follows.1)
 
--- another command behind them
+-- another command after them
 pub Follows-push : (before commands : List Command) (command : Command) → Follows before commands → IsAllowedAfter (before ++ commands) command → Follows before (commands ++ command ∷ [])
 Follows-push before [] command follows allowed = (subst (λ all. IsAllowedAfter all command) (append-nil before) allowed, tt)
 Follows-push before (first ∷ commands) command follows allowed = (

@@ -1,4 +1,4 @@
--- Parts of a stream that are written one behind the other are the canonical bytes.
+-- Parts of a stream that are written one after the other are the canonical bytes.
 use Rattle.std.proofs.Common.{◌≡◌, ℕ, List, [], ◌∷◌, ◌++◌, length, drop, sym, ap, ◌∙◌, drop_at}
 use Rattle.bit_plane.specs.BitList.{bits_of}
 use Rattle.ice_image.specs.Configuration.{Configuration}
@@ -7,7 +7,7 @@ use Rattle.bin_stream.specs.Front.{preamble}
 use Rattle.bin_stream.specs.Commands.{Short, spelling, range_opcode}
 use Rattle.bin_stream.specs.CanonicalBytes.{canonical_bytes, checked_bytes, comment_bytes, range_number, range_command, reset_command, two_bytes, wake_up_command}
 
--- the bytes after each of the writes; the check value is that of the bytes behind the reset
+-- the bytes after each of the writes; the check value is that of the bytes after the reset
 pub record AreWritten (image : Configuration) (all : List ℕ) : Type 0 where
   pub at_first : List ℕ
   pub at_comment : List ℕ

@@ -14,7 +14,7 @@ use Rattle.bin_stream.specs.declared.fault.BinCause.TheVariants.{Check, BadRange
 use Rattle.bin_stream.specs.Spelling.{IsAllowed}
 use Rattle.bin_stream.proofs.CanonicalCommands.{ram_commands, before_ram, before_check, before_wake_up, wake_up, all_commands}
 
--- each command of a list may stand behind these and those before it
+-- each command of a list may stand after these and those before it
 abbrev pub AllowedFrom : List Command → List Command → Type 0
 AllowedFrom before [] = Unit {0}
 AllowedFrom before (command ∷ commands) = IsAllowedAfter before command × AllowedFrom (before ++ command ∷ []) commands
@@ -28,7 +28,7 @@ allowed-at before (first ∷ commands) are zero command is =
 allowed-at before (first ∷ commands) are (suc k) command is =
     subst (λ list. IsAllowedAfter list command) (append_assoc before (first ∷ []) (take k commands)) (allowed-at (before ++ first ∷ []) commands are.1 k command is)
 
--- commands that are allowed one after the other, and more behind them
+-- commands that are allowed one after the other, and more after them
 allowed-append : (before first more : List Command) → AllowedFrom before first → AllowedFrom (before ++ first) more → AllowedFrom before (first ++ more)
 allowed-append before [] more are behind = subst (λ list. AllowedFrom list more) (append-nil before) behind
 allowed-append before (command ∷ first) more are behind =

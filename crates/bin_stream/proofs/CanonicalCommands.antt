@@ -30,7 +30,7 @@ cram_commands device mode_value cram =
     ∷ Short width_opcode (two_bytes (cram_width device - 1)) ∷ Short height_opcode (two_bytes (cram_height device)) ∷ Short offset_opcode (two_bytes 0)
     ∷ flat_map (cram_part cram) four_banks
 
--- the commands of the RAM planes, where there is RAM
+-- the commands of the RAM planes, if there is RAM
 abbrev pub ram_commands : Bool → DeviceName → (ℕ → ℕ → List ℕ) → List Command
 ram_commands false device bram = []
 ram_commands true device bram =
@@ -91,7 +91,7 @@ spelled-bram : (c : Configuration) (number : ℕ) → flat_map spelling (bram_pa
 spelled-bram c number =
     ap (λ more. bank_command number ++ bram_half c.bram number 0 ++ (offset_command 128 ++ (1 ∷ 3 ∷ more))) (append-nil (bram_bodies c number 128 ++ 0 ∷ 0 ∷ []))
 
--- the RAM planes, where there is RAM
+-- the RAM planes, if there is RAM
 spelled-ram : (c : Configuration) (ram : Bool) → flat_map spelling (ram_commands ram c.layout.device (bram_bodies c)) ≡ (if ram then ram_bytes c.layout.device c.bram else [])
 spelled-ram c false = refl
 spelled-ram c true =

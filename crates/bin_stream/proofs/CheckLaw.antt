@@ -1,4 +1,4 @@
--- A check value behind its own bits comes to 0.
+-- The check value of bits followed by their own check value is 0.
 use Rattle.std.proofs.Common.{◌≡◌, ℕ, ◌*◌, ◌/◌, ◌%◌, ◌<◌, Bool, List, [], ◌++◌, ◌==◌, refl, ap, ◌∙◌, arith, inl, inr, append-nil}
 use Rattle.std.proofs.lemmas.Bool.{cases_lt, lt-ltb, le-ltb}
 use Rattle.bit_plane.specs.BitList.{byte_bits, bits_of}
@@ -40,7 +40,7 @@ entered_byte value byte small own =
     let s7 : entered g (byte % 2 == 1) ≡ 256 * value % 65536 = entered-own g (byte % 2) (omega arith) (omega arith) ∙ omega arith in
     rw (s0, s1, s2, s3, s4, s5, s6, s7) refl
 
--- the bits of a check value behind the bits that it is of
+-- the bits of a check value after the bits that it is of
 pub check_value-own : (bits : List Bool) → check_value (bits ++ bits_of (two_bytes (check_value bits))) ≡ 0
 check_value-own bits =
     let value : ℕ = check_value bits in

@@ -10,7 +10,7 @@ use Rattle.bin_stream.specs.Front.{pieces_of, is_comment_line, comment_of}
 use Rattle.bin_stream.specs.CanonicalBytes.{comment_bytes}
 use Rattle.bin_stream.proofs.FrontPlace.{IsClear}
 
--- the lines of a comment, where there is one, are lines that a comment can have
+-- the lines of a comment, if there is one, are lines that a comment can have
 abbrev pub HasCommentLines : Option (List (List ℕ)) → Type 0
 HasCommentLines comment = IfSome comment (All IsCommentLine)
 
@@ -38,7 +38,7 @@ pieces_of-lines (line ∷ lines) are =
     ∙ pieces_of-line line behind here.printable
     ∙ ap (λ more. line ∷ more) (pieces_of-lines lines (All-tail IsCommentLine line lines are))
 
--- lines pass, and the empty pieces behind them don't
+-- lines pass, and the empty pieces after them don't
 kept-lines : (lines : List (List ℕ)) → All IsCommentLine lines → filter is_comment_line (lines ++ [] ∷ [] ∷ [] ∷ []) ≡ lines
 kept-lines [] are = refl
 kept-lines (line ∷ lines) are =

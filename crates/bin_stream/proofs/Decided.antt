@@ -17,7 +17,7 @@ use Rattle.bin_stream.proofs.ManyCommands.{Woken, Failed, length-spelled, comman
 use Rattle.bin_stream.proofs.PreamblePlace.{preamble_offset-splits}
 use Rattle.bin_stream.proofs.DeviceKnown.{device_after-woken, device_after-known}
 
--- what is read behind a front and the preamble
+-- what is read after a front and the preamble
 read-front : (layouts : Layouts) (bytes front behind : List ℕ) → IsFront front bytes → bytes ≡ front ++ preamble ++ behind → bin_read_of layouts bytes ≡ image_of layouts front (commands_from (length bytes + 1) [] (length front + 4) behind)
 unfolding bin_read_of
 read-front layouts bytes front behind front_is spelled_is =
@@ -64,7 +64,7 @@ layout-meant : (layout : Layout) (front : List ℕ) (commands : List Command) �
 unfolding meaning
 layout-meant layout front commands = refl
 
--- an image that commands up to a wake-up mean, behind a preamble, is spelled
+-- an image that commands up to a wake-up mean, after a preamble, is spelled
 spelled-woken : (layouts : Layouts) → AreLayouts layouts → (bytes : List ℕ) (image : Configuration) (place : ℕ) (all : List Command) → preamble_offset bytes ≡ Some place → Woken [] (drop (place + 4) bytes) all → meaning (layout_for layouts (device_or (device_after all))) (take place bytes) all ≡ image → Spells layouts bytes image
 spelled-woken layouts are bytes image place all front_is woken means =
     let front = take place bytes in
@@ -110,7 +110,7 @@ spelled-read layouts are bytes image (Some place) front_is read =
           spelled-woken layouts are bytes image place found.0 front_is (commands_from-Ok (length bytes + 1) [] (place + 4) behind found.0 few found.1) cc
     ]
 
--- a fault behind a preamble and allowed commands
+-- a fault after a preamble and allowed commands
 failed-behind : (bytes : List ℕ) (fault : Fault) (place : ℕ) → preamble_offset bytes ≡ Some place → Failed [] (place + 4) (drop (place + 4) bytes) fault → FailsAt bytes fault
 failed-behind bytes fault place front_is failed =
     let front = take place bytes in
@@ -129,7 +129,7 @@ failed-behind bytes fault place front_is failed =
       wrong = ap (λ k. first_fault failed.commands (k + 4 + length (spelled failed.commands)) failed.rest) place_is ∙ failed.wrong;
     }
 
--- a fault that is read behind the preamble is there
+-- a fault that is read after the preamble is there
 failed-read : (layouts : Layouts) (bytes : List ℕ) (fault : Fault) (place : ℕ) → preamble_offset bytes ≡ Some place → read_behind layouts bytes (Some place) ≡ Err fault → FailsAt bytes fault
 failed-read layouts bytes fault place front_is read =
     let behind = drop (place + 4) bytes in

@@ -20,7 +20,7 @@ or_else-some : {A : Type 0} (first : Option A) (value : A) → (found : A) × (o
 or_else-some None value = (value, refl)
 or_else-some (Some first) value = (first, refl)
 
--- where a place gives a value, there is a first one
+-- if a place gives a value, there is a first one
 first_below-some : {A : Type 0} (n k : ℕ) (given : ℕ → Option A) (value : A) → k < n → given k ≡ Some value → (found : A) × (first_below n given ≡ Some found)
 unfolding first_below
 first_below-some zero k given value within here = absurd (omega arith)
@@ -41,7 +41,7 @@ device_in-wake_up : (before : List Command) (wake_up : Command) → is_wake_up w
 device_in-wake_up before (Short opcode payload) wakes = refl
 device_in-wake_up before (Data kind payload body) wakes = absurd cc
 
--- a wake-up behind commands fixes no device
+-- a wake-up after commands fixes no device
 pub device_after-woken : (commands : List Command) (wake_up : Command) → is_wake_up wake_up ≡ true → device_after (commands ++ wake_up ∷ []) ≡ device_after commands
 unfolding device_after
 device_after-woken commands wake_up wakes =
@@ -57,7 +57,7 @@ device_after-woken commands wake_up wakes =
     ∙ or_else-none (first_below n given)
     ∙ first_below-same n given earlier same
 
--- no cause where a test has to pass
+-- no cause if a test has to pass
 passes : (b : Bool) (cause : BinCause) → cause_if (not b) cause ≡ None → b ≡ true
 passes true cause is = refl
 passes false cause is = absurd cc
@@ -87,7 +87,7 @@ wake_up-clear before (Short opcode payload) wakes allowed =
     let other : (n == 5) ≡ false = ne_eqb n 5 (omega (arith, eqb-true n 6 parts.1)) in
     rw (parts.0, other, parts.1) at allowed.2
 
--- where a wake-up is allowed, there is a device
+-- if a wake-up is allowed, there is a device
 pub device_after-known : (commands : List Command) (wake_up : Command) → is_wake_up wake_up ≡ true → IsAllowedAfter commands wake_up → (device : DeviceName) × (device_after commands ≡ Some device)
 unfolding device_after
 device_after-known commands wake_up wakes allowed =

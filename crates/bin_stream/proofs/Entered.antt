@@ -26,7 +26,7 @@ use Rattle.bin_stream.proofs.OneCommand.{kind-from, body-ends}
 use Rattle.bin_stream.proofs.Steps.{behind_payload, with_payload, read_fault, read_command, length-payload, spelled_short, short_cause-is, after_short-is, held_after-short, held_after-data}
 use Rattle.bin_stream.proofs.Drawn.{device_if-is, Holds-short, Holds-data}
 
--- a fault that was told of an equal value
+-- a fault that was reported of an equal value
 pub Refuses-by : (found other : Option Fault) (fault : BinFault) → found ≡ other → Refuses other fault → Refuses found fault
 Refuses-by found other fault same told = subst (λ (found : Option Fault). Refuses found fault) (sym same) told
 

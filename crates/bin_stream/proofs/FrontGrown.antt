@@ -38,7 +38,7 @@ unfolding preamble_offset bound_of
 none-before bytes place j is lt =
     fails-below (length bytes) j (is_preamble_at bytes) (subst (λ (found : Option ℕ). j < bound_of (length bytes) found) (sym is) lt)
 
--- nor anywhere where there is none
+-- nor anywhere if there is none
 none-within : (bytes : List ℕ) (j : ℕ) → preamble_offset bytes ≡ None → j < length bytes → is_preamble_at bytes j ≡ false
 unfolding preamble_offset bound_of
 none-within bytes j is lt =
@@ -52,7 +52,7 @@ preamble-room bytes place here =
     let is : take 4 (drop place bytes) ≡ preamble = (bytes_eq-Decides (take 4 (drop place bytes)) preamble).0 here in
     omega (arith, ap length is, length-take 4 (drop place bytes), length-drop place bytes)
 
--- where four bytes stand, others behind them change nothing
+-- if there are four bytes, others after them change nothing
 at-grown : (bytes more : List ℕ) (place : ℕ) → place + 4 ≤ length bytes → is_preamble_at (bytes ++ more) place ≡ is_preamble_at bytes place
 at-grown bytes more place within =
     ap (λ (rest : List ℕ). bytes_eq (take 4 rest) preamble) (drop-append-le place bytes more (omega arith))
@@ -102,7 +102,7 @@ none-behind bytes start before is =
 
 -- ---- the comment
 
--- a front has no comment where the bytes that it begins don't begin with one
+-- a front has no comment if the bytes that it begins don't begin with one
 pub plain-front : (bytes : List ℕ) (place : ℕ) → 2 ≤ length bytes → begins_comment bytes ≡ false → comment_of (take place bytes) ≡ None
 unfolding comment_of
 plain-front [] place long plain = absurd (omega arith)
@@ -155,7 +155,7 @@ module _ (bytes last piece : List ℕ) (keeps : KeepsPlain bytes last) where
   joined-is : drop dropped whole ≡ last ++ piece
   joined-is = drop-append-le dropped bytes piece (omega arith) ∙ ap (λ last. last ++ piece) (sym keeps.last_is)
 
-  -- a preamble is found over the boundary or behind it
+  -- a preamble is found over the boundary or after it
   pub found-plain : (found : ℕ) → preamble_offset (last ++ piece) ≡ Some found → preamble_offset whole ≡ Some (dropped + found)
   found-plain found is = found-grown bytes piece keeps.none dropped found refl (ap preamble_offset joined-is ∙ is)
 
@@ -210,7 +210,7 @@ module _ (last piece edge : List ℕ) (three : length last ≡ 3) (edge_is : edg
   pub none-behind_edge : preamble_offset edge ≡ None → preamble_offset piece ≡ None → preamble_offset (last ++ piece) ≡ None
   none-behind_edge none is = none-behind (last ++ piece) 3 (none-edge none) (ap preamble_offset behind-last ∙ is)
 
-  -- which is told by where it ends
+  -- which follows from where it ends
   pub start-behind_edge : (start : Option ℕ) → preamble_offset edge ≡ None → IfSome start (λ start. (4 ≤ start) × (start ≤ length piece)) → IfSome start (λ start. preamble_offset piece ≡ Some (start - 4)) → IfSome start (λ start. preamble_offset (last ++ piece) ≡ Some (start - 1))
   start-behind_edge None none within found = tt
   start-behind_edge (Some start) none within found = found-behind_edge (start - 4) none found ∙ ap (λ n. Some n) (omega (arith, within.0))

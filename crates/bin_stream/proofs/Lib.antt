@@ -8,21 +8,21 @@ pub mod OneCommand
 pub mod Allowed
 -- commands read one after the other: allowed ones as they are spelled, and back
 pub mod ManyCommands
--- what stands before the preamble, the preamble, and what stands behind it
+-- what stands before the preamble, the preamble, and what stands after it
 pub mod PreamblePlace
--- where a wake-up is allowed, data have fixed a device
+-- if a wake-up is allowed, data have fixed a device
 pub mod DeviceKnown
 -- the layout of a device is one for it
 pub mod Laid
 -- each input has exactly one of the two, an image or a fault, and only one: that which the small program gives
 pub mod Decided
--- what holds behind one command more
+-- what holds after one command more
 pub mod OneMore
 -- numbers of payloads
 pub mod Payloads
 -- pieces of a front, and those that are lines of a comment
 pub mod Fronts
--- a command in bytes, and what registers hold behind it
+-- a command in bytes, and what registers hold after it
 pub mod Steps
 -- what commands draw into the planes
 pub mod Drawn
@@ -36,11 +36,11 @@ mod KnownValues
 mod Worked
 -- the commands of an image's canonical bytes
 pub mod CanonicalCommands
--- a check value behind its own bits comes to 0
+-- the check value of bits followed by their own check value is 0
 pub mod CheckLaw
 -- bytes enter the register by tables
 pub mod Tables
--- the preamble stands first behind the canonical front
+-- the preamble stands first after the canonical front
 pub mod FrontPlace
 -- the canonical comment reads back as itself, and no preamble begins in it
 pub mod CommentBack
@@ -50,7 +50,7 @@ pub mod PlanesBack
 pub mod CanonicalAllowed
 -- the canonical bytes of an image spell that image
 pub mod RoundTrip
--- parts of a stream that are written one behind the other are the canonical bytes
+-- parts of a stream that are written one after the other are the canonical bytes
 pub mod Assembled
 -- what is wrong with a command stays wrong when bytes follow, unless it is that the input ends
 pub mod Settled

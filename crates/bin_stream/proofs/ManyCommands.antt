@@ -42,7 +42,7 @@ unfolding spelled
 length-spelled [] = omega arith
 length-spelled (command ∷ commands) = omega (arith, length-append (spelling command) (spelled commands), spelling-some command, length-spelled commands)
 
--- commands and others behind them
+-- commands and others after them
 spelled-append : (commands more : List Command) → spelled (commands ++ more) ≡ spelled commands ++ spelled more
 unfolding spelled
 spelled-append commands more = flat_map-append spelling commands more
@@ -72,7 +72,7 @@ commands_from-run most before (command ∷ commands) place rest follows awake =
     ∙ commands_from-run most (before ++ command ∷ []) commands (place + length (spelling command)) rest follows.1 (All-tail (λ c. is_wake_up c ≡ false) command commands awake)
     ∙ ap₂ (λ all n. commands_from most all n rest) (append_assoc before (command ∷ []) commands) there
 
--- allowed commands with a wake-up behind them
+-- allowed commands with a wake-up after them
 pub commands_from-woken : (most : ℕ) (commands : List Command) (wake_up : Command) (place : ℕ) (rest : List ℕ) → Follows [] (commands ++ wake_up ∷ []) → NoWakeUp commands → is_wake_up wake_up ≡ true → length commands < most → commands_from most [] place (spelled (commands ++ wake_up ∷ []) ++ rest) ≡ Ok (commands ++ wake_up ∷ [])
 commands_from-woken most commands wake_up place rest follows awake wakes enough =
     let m = most - length commands - 1 in
@@ -82,7 +82,7 @@ commands_from-woken most commands wake_up place rest follows awake wakes enough 
     ∙ commands_from-run (suc m) [] commands place (spelling wake_up ++ rest) (Follows-left [] commands (wake_up ∷ []) follows) awake
     ∙ step-last m commands (place + length (spelled commands)) wake_up rest (Follows-right [] commands (wake_up ∷ []) follows).0 wakes
 
--- allowed commands with a fault behind them
+-- allowed commands with a fault after them
 pub commands_from-failed : (most : ℕ) (commands : List Command) (fault : Fault) (place : ℕ) (rest : List ℕ) → Follows [] commands → NoWakeUp commands → first_fault commands (place + length (spelled commands)) rest ≡ Some fault → length commands < most → commands_from most [] place (spelled commands ++ rest) ≡ Err fault
 commands_from-failed most commands fault place rest follows awake wrong enough =
     let m = most - length commands - 1 in
@@ -93,7 +93,7 @@ commands_from-failed most commands fault place rest follows awake wrong enough =
 
 -- ---- commands that are read
 
--- commands up to a wake-up, behind others
+-- commands up to a wake-up, after others
 pub record Woken (before : List Command) (bytes : List ℕ) (all : List Command) : Type 0 where
   pub commands : List Command
   pub wake_up : Command
@@ -104,7 +104,7 @@ pub record Woken (before : List Command) (bytes : List ℕ) (all : List Command)
   pub awake : NoWakeUp commands
   pub wakes : is_wake_up wake_up ≡ true
 
--- commands up to a fault, behind others
+-- commands up to a fault, after others
 pub record Failed (before : List Command) (place : ℕ) (bytes : List ℕ) (fault : Fault) : Type 0 where
   pub commands : List Command
   pub rest : List ℕ
@@ -131,7 +131,7 @@ woken-last before bytes all begins wakes is = record {
   wakes = wakes;
 }
 
--- a wake-up behind another command
+-- a wake-up after another command
 woken-more : (before : List Command) (bytes : List ℕ) (all : List Command) (begins : Begins before bytes) → is_wake_up begins.command ≡ false → Woken (before ++ begins.command ∷ []) begins.rest all → Woken before bytes all
 unfolding spelled
 woken-more before bytes all begins awake later =
@@ -163,7 +163,7 @@ failed-first before place bytes fault wrong =
       wrong = ap₂ (λ all n. first_fault all n bytes) (append-nil before) there ∙ wrong;
     }
 
--- a fault behind another command
+-- a fault after another command
 failed-more : (before : List Command) (place : ℕ) (bytes : List ℕ) (fault : Fault) (begins : Begins before bytes) → is_wake_up begins.command ≡ false → Failed (before ++ begins.command ∷ []) (place + length (spelling begins.command)) begins.rest fault → Failed before place bytes fault
 unfolding spelled
 failed-more before place bytes fault begins awake later =
@@ -180,22 +180,22 @@ failed-more before place bytes fault begins awake later =
       wrong = ap₂ (λ all n. first_fault all n later.rest) (sym (append_assoc before (command ∷ []) later.commands)) there ∙ later.wrong;
     }
 
--- the bytes behind the first command are fewer
+-- the bytes after the first command are fewer
 shorter : (most : ℕ) (before : List Command) (bytes : List ℕ) (begins : Begins before bytes) → length bytes < suc most → length begins.rest < most
 shorter most before bytes begins enough =
     omega (arith, ap length begins.spelled_is, length-append (spelling begins.command) begins.rest, spelling-some begins.command)
 
--- what is read where the first command isn't the wake-up
+-- what is read if the first command isn't the wake-up
 read-on : (most : ℕ) (before : List Command) (place : ℕ) (bytes : List ℕ) (begins : Begins before bytes) → is_wake_up begins.command ≡ false → commands_from (suc most) before place bytes ≡ commands_from most (before ++ begins.command ∷ []) (place + length (spelling begins.command)) begins.rest
 read-on most before place bytes begins awake =
     ap (commands_from (suc most) before place) begins.spelled_is ∙ step-on most before place begins.command begins.rest begins.allowed awake
 
--- what is read where the first command is the wake-up
+-- what is read if the first command is the wake-up
 read-last : (most : ℕ) (before : List Command) (place : ℕ) (bytes : List ℕ) (begins : Begins before bytes) → is_wake_up begins.command ≡ true → commands_from (suc most) before place bytes ≡ Ok (before ++ begins.command ∷ [])
 read-last most before place bytes begins wakes =
     ap (commands_from (suc most) before place) begins.spelled_is ∙ step-last most before place begins.command begins.rest begins.allowed wakes
 
--- where commands are read, they are spelled up to a wake-up
+-- if commands are read, they are spelled up to a wake-up
 pub commands_from-Ok : (most : ℕ) (before : List Command) (place : ℕ) (bytes : List ℕ) (all : List Command) → length bytes < most → commands_from most before place bytes ≡ Ok all → Woken before bytes all
 commands_from-Ok zero before place bytes all enough is = absurd (omega arith)
 commands_from-Ok (suc most) before place bytes all enough is =
@@ -214,7 +214,7 @@ commands_from-Ok (suc most) before place bytes all enough is =
           ]
     ]
 
--- where a fault is found, allowed commands are spelled before it
+-- if a fault is found, allowed commands are spelled before it
 pub commands_from-Err : (most : ℕ) (before : List Command) (place : ℕ) (bytes : List ℕ) (fault : Fault) → length bytes < most → commands_from most before place bytes ≡ Err fault → Failed before place bytes fault
 commands_from-Err zero before place bytes fault enough is = absurd (omega arith)
 commands_from-Err (suc most) before place bytes fault enough is =

@@ -30,18 +30,18 @@ kind-begun : (kind : PlaneKind) (payload : List ℕ) → number_of payload ≡ k
 kind-begun Cram payload is = ap (data_kind 0) is
 kind-begun Bram payload is = ap (data_kind 0) is
 
--- data and the two bytes behind them have no fault
+-- data and the two bytes after them have no fault
 body-fits : (size place : ℕ) (body rest : List ℕ) → length body ≡ size → body_fault size place (body ++ 0 ∷ 0 ∷ rest) ≡ None
 body-fits size place body rest is =
     let within : size ≤ length (body ++ 0 ∷ 0 ∷ rest) = omega (arith, length-append body (0 ∷ 0 ∷ rest)) in
     rw (le-ltb (length (body ++ 0 ∷ 0 ∷ rest)) size within, drop_at body (0 ∷ 0 ∷ rest) size is) refl
 
--- the bytes behind the payload of data
+-- the bytes after the payload of data
 data-joined : (payload body rest : List ℕ) → (payload ++ body ++ 0 ∷ 0 ∷ []) ++ rest ≡ payload ++ (body ++ 0 ∷ 0 ∷ rest)
 data-joined payload body rest =
     append_assoc (payload ++ body) (0 ∷ 0 ∷ []) rest ∙ append_assoc payload body (0 ∷ 0 ∷ rest)
 
--- an allowed command has no fault where it is spelled
+-- an allowed command has no fault at the place where it is spelled
 pub first_fault-none : (before : List Command) (command : Command) (place : ℕ) (rest : List ℕ) → IsAllowedAfter before command → first_fault before place (spelling command ++ rest) ≡ None
 first_fault-none before (Short opcode payload) place rest allowed =
     fault-head before place (16 * opcode + length payload) (length payload) opcode (payload ++ rest) payload rest (omega (arith, allowed.0)) (omega (arith, allowed.0)) allowed.0 (omega (arith, length-append payload rest)) (take_at payload rest (length payload) refl) (drop_at payload rest (length payload) refl)
@@ -56,7 +56,7 @@ first_fault-none before (Data kind payload body) place rest allowed =
     ∙ ap (λ cause. or_else (fault_where place cause) (body_fault (size_after before) start behind)) allowed.2
     ∙ body-fits (size_after before) start body rest allowed.3
 
--- an allowed command is the first where it is spelled
+-- an allowed command is the first one at the place where it is spelled
 pub first_command-is : (before : List Command) (command : Command) (rest : List ℕ) → IsAllowedAfter before command → first_command before (spelling command ++ rest) ≡ command
 first_command-is before (Short opcode payload) rest allowed =
     command-head before (16 * opcode + length payload) (length payload) opcode (payload ++ rest) payload rest (omega (arith, allowed.0)) (omega (arith, allowed.0)) (take_at payload rest (length payload) refl) (drop_at payload rest (length payload) refl)
@@ -105,7 +105,7 @@ kind-from opcode n kind is =
       | inr other ↦ let none : None ≡ Some kind = rw (ne_eqb opcode 0 other) at is in absurd cc
     ]
 
--- what stands behind data without a fault
+-- what stands after data without a fault
 end-fits : (place : ℕ) (bytes : List ℕ) → end_fault place bytes ≡ None → bytes ≡ 0 ∷ 0 ∷ drop 2 bytes
 end-fits place [] is = absurd cc
 end-fits place (byte ∷ []) is =

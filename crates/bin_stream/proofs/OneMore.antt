@@ -1,4 +1,4 @@
--- What holds behind one command more.
+-- What holds after one command more.
 use Rattle.std.proofs.Common.{◌≡◌, ℕ, ◌+◌, ◌<◌, Bool, true, false, ◌||◌, cond, List, [], ◌∷◌, ◌++◌, length, take, refl, ap, ◌∙◌, arith}
 use Rattle.std.specs.Prelude.{Option, Some, None, slice_get}
 use Rattle.std.proofs.lemmas.List.{take-append-le, drop-append-le, drop_all, length_push}
@@ -65,7 +65,7 @@ chosen : (commands : List Command) (command : Command) (start : ℕ) (here : Boo
 chosen commands command start true place within = ap number_in (slice_get-behind commands command [])
 chosen commands command start false place within = given_or-before commands command start place within
 
--- the number that it gives, where it has that opcode
+-- the value that it gives, if it has that opcode
 pub last_of-more : (commands : List Command) (command : Command) (opcode start : ℕ) → last_of (commands ++ command ∷ []) opcode start ≡ cond (has_opcode opcode (Some command)) (number_in (Some command)) (last_of commands opcode start)
 unfolding last_of
 last_of-more commands command opcode start =
@@ -145,7 +145,7 @@ bit_chosen at commands command true place within =
     ap (λ before. bit_given at before (slice_get (commands ++ command ∷ []) (length commands))) (take-append_seam commands (command ∷ [])) ∙ ap (bit_given at commands) (slice_get-behind commands command [])
 bit_chosen at commands command false place within = bit_where-before at commands command place within
 
--- the bit at a place is that of the new command where it gives one
+-- the bit at a place is the bit of the new command if it gives one
 pub plane_bit-more : (kind : PlaneKind) (commands : List Command) (command : Command) (at : Place) → plane_bit kind (commands ++ command ∷ []) at ≡ cond (gives kind at commands (Some command)) (bit_given at commands (Some command)) (plane_bit kind commands at)
 unfolding plane_bit
 plane_bit-more kind commands command at =

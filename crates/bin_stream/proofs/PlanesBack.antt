@@ -28,7 +28,7 @@ pub row_bytes-bits : (width height : ℕ) (rows : Rows) → IsGrid width height 
 row_bytes-bits width height rows grid even =
     bits_of-bytes_of (length (flat rows) / 8) (flat rows) (omega (arith, length-flat width height rows grid))
 
--- a grid's bytes are an eighth as many
+-- a grid has one byte for each eight bits
 pub length-row_bytes : (width height : ℕ) (rows : Rows) → IsGrid width height rows → length (row_bytes rows) ≡ width * height / 8
 length-row_bytes width height rows grid =
     length-bytes_of (length (flat rows) / 8) (flat rows) ∙ ap (λ n. n / 8) (length-flat width height rows grid)
@@ -96,13 +96,13 @@ bram-even L384 = refl
 bram-even K1 = refl
 bram-even K8 = refl
 
--- RAM planes with rows have as many as their two halves
+-- RAM planes with rows have the rows of their two halves
 pub bram-tall : (device : DeviceName) → has_rows Bram device ≡ true → bram_height device ≡ 256
 bram-tall L384 has = absurd cc
 bram-tall K1 has = refl
 bram-tall K8 has = refl
 
--- where there is a row, they have rows
+-- if there is a row, they have rows
 has_rows-in : (device : DeviceName) (y : ℕ) → y < bram_height device → has_rows Bram device ≡ true
 has_rows-in L384 y row = absurd (omega arith)
 has_rows-in K1 y row = refl

@@ -26,7 +26,7 @@ pub doubled_low : (a : ℕ) → a < 32768 → doubled a ≡ 2 * a
 unfolding doubled
 doubled_low a low = rw (lt-ltb a 32768 low) refl
 
--- one with x^15 comes to x^16
+-- a remainder with x^15 becomes one with x^16
 doubled_high : (r : ℕ) → r < 32768 → doubled (1 * 2 ^ 15 + r) ≡ bit_xor (2 * r) 4129
 unfolding doubled
 doubled_high r low =

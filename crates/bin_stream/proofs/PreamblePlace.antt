@@ -1,10 +1,10 @@
--- What stands before the preamble, the preamble, and what stands behind it.
+-- What stands before the preamble, the preamble, and what stands after it.
 use Rattle.std.proofs.Common.{◌≡◌, ℕ, ◌+◌, ◌<◌, List, ◌++◌, length, take, drop, Some, append_assoc, take-append-drop, drop-drop, sym, ap, ap₂, ◌∙◌}
 use Rattle.std.proofs.lemmas.Slice.Eq.{bytes_eq-Decides}
 use Rattle.place_search.proofs.Found.{least_below-place}
 use Rattle.bin_stream.specs.Front.{preamble, preamble_offset, is_preamble_at}
 
--- where the preamble stands, the bytes are those before it, the preamble and those behind it
+-- if the preamble is at an offset, the bytes are those before it, the preamble and those after it
 pub preamble_offset-splits : (bytes : List ℕ) (place : ℕ) → preamble_offset bytes ≡ Some place → (place < length bytes) × (bytes ≡ take place bytes ++ preamble ++ drop (place + 4) bytes)
 unfolding preamble_offset
 preamble_offset-splits bytes place is =

@@ -99,16 +99,16 @@ module _ (layouts : Layouts) (bytes : List ℕ) (start place : ℕ) (held : Held
 
 -- ---- the preamble
 
--- what is read behind a preamble
+-- what is read after a preamble
 pub read_at : (layouts : Layouts) (bytes : List ℕ) (place : ℕ) → Some place ≡ preamble_offset bytes → bin_read_of layouts bytes ≡ image_of layouts (take place bytes) (commands_from (length bytes + 1) [] (place + 4) (drop (place + 4) bytes))
 unfolding bin_read_of
 read_at layouts bytes place is = ap (read_behind layouts bytes) (sym is)
 
--- what is read where there is none
+-- what is read if there is none
 pub read_nowhere : (layouts : Layouts) (bytes : List ℕ) → None ≡ preamble_offset bytes → bin_read_of layouts bytes ≡ Err (fault_at (length bytes) NoPreamble)
 unfolding bin_read_of
 read_nowhere layouts bytes is = ap (read_behind layouts bytes) (sym is)
 
--- a fault that was told of an equal reading
+-- a fault that was reported of an equal reading
 pub Tells-by : (read other : Result Configuration Fault) (fault : BinFault) → read ≡ other → Tells other fault → Tells read fault
 Tells-by read other fault same told = subst (λ (read : Result Configuration Fault). Tells read fault) (sym same) told

@@ -101,7 +101,7 @@ no_wake_up-before device range_value mode_value cram bram check_payload =
 
 -- ---- the check
 
--- the check covers what stands behind the reset
+-- the check covers what stands after the reset
 covered-is : (device : DeviceName) (range_value mode_value : ℕ) (cram : ℕ → List ℕ) (bram : ℕ → ℕ → List ℕ) → covered (before_check device range_value mode_value cram bram) ≡ spelled (checked_commands device mode_value cram bram)
 unfolding last_below covered
 covered-is L384 range_value mode_value cram bram = refl

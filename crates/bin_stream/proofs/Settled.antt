@@ -86,11 +86,11 @@ fault_where-firm place (Some cause) firm = firm
 
 -- ---- bytes that others follow
 
--- what is told of bytes and of longer ones: that the first end, or the same
+-- what is reported of bytes and of longer ones: that the first end too early, or the same
 abbrev Stays : Option Fault → Option Fault → ℕ → Type 0
 Stays found longer end = (found ≡ Some (fault_at end Truncated)) ⊎ ((found ≡ longer) × IsFirm found)
 
--- the two bytes behind data
+-- the two bytes after data
 end-stays : (place : ℕ) (bytes more : List ℕ) → Stays (end_fault place bytes) (end_fault place (bytes ++ more)) (place + length bytes)
 end-stays place [] more =
     let there : place ≡ place + 0 = omega arith in
@@ -118,7 +118,7 @@ end-stays place (byte ∷ next ∷ rest) more =
 stays-at : (found longer : Option Fault) (end other : ℕ) → end ≡ other → Stays found longer end → Stays found longer other
 stays-at found longer end other is stays = subst (Stays found longer) is stays
 
--- data and the two bytes behind them
+-- data and the two bytes after them
 body-stays : (size place : ℕ) (bytes more : List ℕ) → Stays (body_fault size place bytes) (body_fault size place (bytes ++ more)) (place + length bytes)
 body-stays size place bytes more =
     elim (cases_lt (length bytes) size) [
@@ -130,7 +130,7 @@ body-stays size place bytes more =
           (stays-at (end_fault (place + size) (drop size bytes)) (end_fault (place + size) (drop size bytes ++ more)) (place + size + length (drop size bytes)) (place + length bytes) end (end-stays (place + size) (drop size bytes) more))
     ]
 
--- a cause, or what is told where there is none
+-- a cause, or what is reported if there is none
 or_else-stays : (place : ℕ) (cause : Option BinCause) (found longer : Option Fault) (end : ℕ) → IsFirmCause cause → Stays found longer end → Stays (or_else (fault_where place cause) found) (or_else (fault_where place cause) longer) end
 or_else-stays place None found longer end firm stays = stays
 or_else-stays place (Some cause) found longer end firm stays = inr (refl, firm)

@@ -33,7 +33,7 @@ use Rattle.bin_stream.proofs.Decided.{decided}
 
 -- ---- the first command
 
--- nothing is read behind the preamble
+-- nothing is read after the preamble
 reading-first : (layouts : Layouts) (bytes : List ℕ) (place : ℕ) (comment : Option (List (List ℕ))) (held : Held) → preamble_offset bytes ≡ Some place → comment ≡ comment_of (take place bytes) → held ≡ held_first → IsReading layouts bytes comment held None (place + 4) (drop (place + 4) bytes)
 unfolding spelled
 reading-first layouts bytes place comment held is comment_is held_is =
@@ -57,7 +57,7 @@ reading-at layouts all comment held image offset there bytes rest there_is rest_
     subst (λ (offset : ℕ). IsReading layouts all comment held image offset rest) (sym there_is)
     (subst (λ (bytes : List ℕ). IsReading layouts all comment held image offset bytes) (sym rest_is) reading)
 
--- nothing is read at a cursor behind the preamble
+-- nothing is read at a cursor after the preamble
 pub reading-begins : (layouts : Layouts) (bytes : List ℕ) (place : ℕ) (comment : Option (List (List ℕ))) (held : Held) → preamble_offset bytes ≡ Some place → comment ≡ comment_of (take place bytes) → held ≡ held_first → (there : ℕ) (rest : List ℕ) → there ≡ place + 4 → rest ≡ drop (place + 4) bytes → IsReading layouts bytes comment held None there rest
 reading-begins layouts bytes place comment held is comment_is held_is there rest there_is rest_is =
     reading-at layouts bytes comment held None (place + 4) there (drop (place + 4) bytes) rest there_is rest_is (reading-first layouts bytes place comment held is comment_is held_is)
@@ -116,7 +116,7 @@ module _ (layouts : Layouts) (bytes : List ℕ) (comment : Option (List (List �
       let here : Refuses (first_fault commands offset (drop offset bytes)) fault = subst (λ (rest : List ℕ). Refuses (first_fault commands offset rest) fault) (sym rest-is) wrong in
       subst (λ (read : Result Configuration Fault). Tells read fault) (sym read-is) (read_refused layouts bytes (length front + 4) offset held image has-read within fault here front)
 
-  -- and it is settled where it isn't that the input ended early
+  -- and it is settled if it isn't that the input ended early
   pub reading-settled : (fault : BinFault) → Refuses (first_fault commands offset rest) fault → is_cut fault ≡ false → Settles (bin_read_of layouts bytes) fault
   reading-settled (At place cause) wrong firm = (reading-refused (At place cause) wrong, firm)
   reading-settled (Memory e) wrong firm = tt
@@ -293,7 +293,7 @@ stage_settled layouts bytes (Refused other) fault is refused =
     let same : other ≡ fault = cc in
     subst (Settles (bin_read_of layouts bytes)) same is
 
--- a fault that was told
+-- a fault that was reported
 pub settles-tells : (read : Result Configuration Fault) (fault : BinFault) → Settles read fault → Tells read fault
 settles-tells read (At place cause) settles = settles.0
 settles-tells read (Memory e) settles = tt
@@ -332,7 +332,7 @@ cut-pending layouts all comment held image offset rest pending cut is =
 
 -- ---- a front that ends
 
--- the preamble is found behind the last three bytes, at a place in a piece
+-- the preamble is found after the last three bytes, at a place in a piece
 pub plain-ends : (layouts : Layouts) (bytes last piece : List ℕ) → KeepsPlain bytes last → (start : ℕ) (held : Held) → 0 < start → preamble_offset (last ++ piece) ≡ Some (start - 1) → held ≡ held_first → IsReading layouts (bytes ++ piece) None held None (length bytes + start) (drop start piece)
 plain-ends layouts bytes last piece keeps start held some is held_is =
     let all = bytes ++ piece in
@@ -350,7 +350,7 @@ pending-grown layouts bytes piece comment held image fed pending reading offset 
     reading-at layouts (bytes ++ piece) comment held image (fed - length pending) offset (pending ++ piece) shown offset_is shown_is
     (reading-grown layouts bytes comment held image (fed - length pending) pending reading piece)
 
--- what follows where nothing was taken yet
+-- what follows if nothing was taken yet
 pub begins : (P : Layouts → Type 0) (layouts other : Layouts) (all : List ℕ) (comment : Option (List (List ℕ))) (held : Held) (image : Option AnyImage) (offset : ℕ) (rest : List ℕ) → other ≡ layouts → image ≡ None → IsReading layouts all comment held None offset rest → (IsReading other all comment held image offset rest → P other) → P layouts
 begins P layouts other all comment held image offset rest same none reading told =
     subst P same

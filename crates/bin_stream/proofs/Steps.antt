@@ -1,4 +1,4 @@
--- A command in bytes, and what registers hold behind it.
+-- A command in bytes, and what registers hold after it.
 use Rattle.std.proofs.Common.{◌≡◌, ℕ, suc, ◌+◌, ◌*◌, ◌/◌, ◌%◌, Bool, true, false, ◌&&◌, ◌||◌, cond, List, [], ◌∷◌, ◌++◌, length, take, drop, refl, sym, ap, subst, ◌∙◌, arith, inl, inr, length-take-le}
 use Rattle.std.specs.Prelude.{Some, None, nat_lt, ◌==◌}
 use Rattle.std.proofs.lemmas.Bool.{cases_Bool, ltb-false, eqb-true}
@@ -21,11 +21,11 @@ use Rattle.bin_stream.proofs.OneMore.{last_of-more, width_after-more, covered-mo
 
 -- ---- the parts of a command in bytes
 
--- the bytes behind the payload
+-- the bytes after the payload
 abbrev pub behind_payload : List ℕ → List ℕ
 behind_payload bytes = drop (first_byte bytes % 16) (drop 1 bytes)
 
--- bytes with a payload have a first byte and so many more
+-- bytes with a payload have a first byte and the bytes of the payload
 pub with_payload : (place : ℕ) (bytes : List ℕ) → head_fault place bytes ≡ None → (bytes ≡ first_byte bytes ∷ drop 1 bytes) × (nat_lt 4 (first_byte bytes % 16) ≡ false) × (nat_lt (length (drop 1 bytes)) (first_byte bytes % 16) ≡ false)
 with_payload place [] none = absurd cc
 with_payload place (head ∷ rest) none =
@@ -41,7 +41,7 @@ with_payload place (head ∷ rest) none =
       ]
     ]
 
--- what is wrong with its command is told behind the payload
+-- what is wrong with its command is found after the payload
 pub read_fault : (commands : List Command) (place : ℕ) (bytes : List ℕ) → head_fault place bytes ≡ None → first_fault commands place bytes ≡ payload_fault commands place (first_byte bytes / 16) (payload_in bytes) (data_kind (first_byte bytes / 16) (number_of (payload_in bytes))) (behind_payload bytes)
 read_fault commands place [] none = absurd cc
 read_fault commands place (head ∷ rest) none =
@@ -81,12 +81,12 @@ check_after-more commands command =
 
 -- ---- commands that aren't data
 
--- what is wrong with one, told by the registers
+-- what is wrong with one, by the registers
 pub short_cause-is : (commands : List Command) (opcode : ℕ) (payload : List ℕ) → short_cause commands opcode payload ≡ short_cause_by (checked (held_after commands) (spelling (Short opcode payload))) opcode (number_of payload)
 short_cause-is commands opcode payload =
     ap (λ found. short_cause_where (reached_in commands) found opcode (number_of payload)) (check_entered (covered commands) (spelling (Short opcode payload)))
 
--- each number that is kept is the command's where it has that opcode
+-- each value that is kept is the command's if it has that opcode
 abbrev pub fields_after : Held → ℕ → ℕ → Held
 fields_after held opcode n = record {
   bank = cond (opcode == bank_opcode) n held.bank;
@@ -132,7 +132,7 @@ after_short-is held opcode n =
       ]
     ]
 
--- what is kept behind one
+-- what is kept after one
 pub held_after-short : (commands : List Command) (opcode : ℕ) (payload : List ℕ) → after_short (checked (held_after commands) (spelling (Short opcode payload))) opcode (number_of payload) ≡ held_after (commands ++ Short opcode payload ∷ [])
 held_after-short commands opcode payload =
     let command = Short opcode payload in
@@ -147,7 +147,7 @@ held_first-is = refl
 
 -- ---- data
 
--- what is kept behind data
+-- what is kept after data
 pub held_after-data : (commands : List Command) (kind : PlaneKind) (payload body : List ℕ) → after_data (held_after commands) kind (spelling (Data kind payload body)) ≡ held_after (commands ++ Data kind payload body ∷ [])
 held_after-data commands kind payload body =
     let command = Data kind payload body in

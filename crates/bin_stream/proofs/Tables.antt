@@ -24,7 +24,7 @@ doubled_by-xor (suc count) a b a_in b_in =
     ap (doubled_by count) (doubled-xor a b a_in b_in)
     ∙ doubled_by-xor count (doubled a) (doubled b) (doubled-below a a_in) (doubled-below b b_in)
 
--- the low byte comes to the place of the high one
+-- the low byte moves to the place of the high one
 doubled_by-low : (n : ℕ) → n < 256 → doubled_by 8 n ≡ 256 * n
 unfolding doubled_by
 doubled_by-low n low =
@@ -58,7 +58,7 @@ doubled_by-below (suc count) n in_range = doubled_by-below count (doubled n) (do
 
 -- ---- the tables
 
--- what each byte leaves where so many bytes follow
+-- what each byte adds if `n` bytes follow
 abbrev remainders : ℕ → List ℕ
 remainders following = map (doubled_by (16 + 8 * following)) (range_with_len 0 256)
 
@@ -149,7 +149,7 @@ entered_one value byte in_range byte_in =
     ∙ xor_comm (doubled_by 8 (256 * sum)) (doubled_by 8 low)
     ∙ ap₂ bit_xor (doubled_by-low low (omega arith) ∙ shifted) (ap (doubled_by 8) (sym (doubled_by-low sum sum_in)))
 
--- bits that enter what is left of two bytes leave that many times doubled, and what they leave alone
+-- bits that enter the remainder of two bytes give it doubled once for each bit, plus what they give alone
 after_pair : (high low : ℕ) (bits : List Bool) → high < 256 → low < 256 → length bits ≡ 48 → entered_all (doubled_by 16 (256 * high + low)) bits ≡ bit_xor (bit_xor (entered_all 0 bits) (doubled_by 64 low)) (doubled_by 72 high)
 unfolding doubled_by
 after_pair high low bits high_in low_in long =
@@ -163,7 +163,7 @@ after_pair high low bits high_in low_in long =
     ∙ ap (bit_xor (entered_all 0 bits)) (doubled_by-xor 48 a b a_in b_in ∙ xor_comm (doubled_by 48 a) (doubled_by 48 b))
     ∙ sym (xor_assoc (entered_all 0 bits) (doubled_by 48 b) (doubled_by 48 a))
 
--- a byte that enters nothing, and those behind it
+-- a byte that enters nothing, and those after it
 entered_first : (byte : ℕ) (bits : List Bool) → byte < 256 → entered_all 0 (byte_bits byte ++ bits) ≡ bit_xor (entered_all 0 bits) (doubled_by (length bits) (doubled_by 16 byte))
 entered_first byte bits byte_in =
     let alone : entered_all 0 (byte_bits byte) ≡ doubled_by 16 byte = entered_one 0 byte (omega arith) byte_in in

@@ -1,4 +1,4 @@
--- The definitions at small streams, worked out by hand. Layouts don't matter where a stream is refused.
+-- The definitions at small streams, worked out by hand. Layouts don't matter if a stream is refused.
 use Rattle.std.proofs.Common.{◌≡◌, [], ◌∷◌, refl}
 use Rattle.std.specs.Prelude.{Err}
 use Rattle.place_search.specs.Places.{any_below, last_below, first_below, least_below}

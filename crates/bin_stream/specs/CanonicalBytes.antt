@@ -1,4 +1,5 @@
--- The one stream that is written for a configuration: a concatenation of commands.
+-- The one bitstream that is written for a configuration: a concatenation of commands. The commands are those of Project IceStorm,
+-- 'Bitstream File Format Documentation'; their order is this project's choice.
 use Rattle.std.specs.Prelude.{ℕ, ◌+◌, ◌-◌, ◌*◌, ◌/◌, Bool, List, [], ◌∷◌, ◌++◌, length, take, drop, flat_map, if◌then◌else◌, Option, None, Some}
 use Rattle.std.specs.Int.{w16, to_be_bytes}
 use Rattle.bit_plane.specs.BitList.{bits_of, bytes_of, bit_value}
@@ -30,14 +31,14 @@ range_command range = spelling (Short range_opcode (range_number range ∷ []))
 abbrev pub reset_command : List ℕ
 reset_command = spelling (Short control_opcode (reset_number ∷ []))
 
--- bit 5 of the mode is the warm boot, bit 0 keeps the flash awake
+-- bit 5 of the mode enables warm boot, bit 0 keeps the flash awake
 abbrev pub mode_command : Bool → Bool → List ℕ
 mode_command warm_boot no_sleep = spelling (Short mode_opcode (0 ∷ (32 * bit_value warm_boot + bit_value no_sleep) ∷ []))
 
 abbrev pub bank_command : ℕ → List ℕ
 bank_command bank = spelling (Short bank_opcode (bank ∷ []))
 
--- the width is written less one
+-- the width is written minus one
 abbrev pub width_command : ℕ → List ℕ
 width_command width = spelling (Short width_opcode (two_bytes (width - 1)))
 
@@ -47,14 +48,14 @@ height_command height = spelling (Short height_opcode (two_bytes height))
 abbrev pub offset_command : ℕ → List ℕ
 offset_command first = spelling (Short offset_opcode (two_bytes first))
 
--- the first byte of the check: two bytes of payload follow, which are the check value behind this byte
+-- the first byte of the check command: two bytes of payload follow, which are the check value after this byte
 abbrev pub check_head : List ℕ
 check_head = (16 * check_opcode + 2) ∷ []
 
 abbrev pub wake_up_command : List ℕ
 wake_up_command = spelling (Short control_opcode (wake_up_number ∷ []))
 
--- rows as bytes, row after row, the first bit of each eight as the highest of a byte
+-- rows as bytes, row after row, the first of each eight bits as the most significant bit of a byte
 abbrev pub row_bytes : Rows → List ℕ
 row_bytes rows = bytes_of (length (flat rows) / 8) (flat rows)
 
@@ -89,11 +90,11 @@ ram_bytes device planes =
     width_command (bram_width device) ++ height_command 128
     ++ flat_map (bram_bank planes) four_banks
 
--- the same where they have rows, and nothing for a device without RAM
+-- the RAM planes, or nothing for a device without RAM
 unfoldable pub bram_bytes : DeviceName → List Rows → List ℕ
 bram_bytes device planes = if has_rows Bram device then ram_bytes device planes else []
 
--- what the two bytes of the check are computed from: all behind the reset, the first byte of the check included
+-- what the two bytes of the check are computed from: everything after the reset, including the first byte of the check
 unfoldable pub checked_bytes : Configuration → List ℕ
 checked_bytes c =
     mode_command c.settings.warm_boot c.settings.no_sleep ++ cram_bytes c.layout.device c.cram ++ bram_bytes c.layout.device c.bram ++ check_head

@@ -1,9 +1,9 @@
--- The check value of bits: the remainder of its bits, as a polynomial over two elements, after division by
--- x^16 + x^12 + x^5 + 1, where sixteen zeros follow the last bit and the first sixteen of all these are inverted. It is a sum
--- of powers, and the sum is the exclusive or. The bitstream documentation calls it the CRC.
+-- The check value of bits, the CRC of Project IceStorm, 'Bitstream File Format Documentation': the remainder of the bits, as a polynomial
+-- over GF(2), after division by x^16 + x^12 + x^5 + 1. Sixteen zeros are appended to the bits, and the first sixteen of all these
+-- bits are inverted. The remainder is a sum of powers, and the sum is the exclusive or.
 use Rattle.std.specs.Prelude.{ℕ, zero, suc, ◌+◌, ◌-◌, ◌*◌, Bool, true, false, List, [], ◌∷◌, length, bit_xor, nat_lt, if◌then◌else◌}
 
--- twice a remainder: where x^16 comes up, x^12 + x^5 + 1 takes its place
+-- a remainder times x: if x^16 comes up, x^12 + x^5 + 1 takes its place
 unfoldable pub doubled : ℕ → ℕ
 doubled n = if nat_lt n 32768 then 2 * n else bit_xor (2 * n - 65536) 0x1021
 
@@ -12,7 +12,7 @@ unfoldable pub power : ℕ → ℕ
 power zero = 1
 power (suc k) = doubled (power k)
 
--- the sum of the powers from x^n on, that many of them
+-- the sum of `count` powers from x^n on
 unfoldable pub powers_from : ℕ → ℕ → ℕ
 powers_from n zero = 0
 powers_from n (suc count) = bit_xor (power (n + count)) (powers_from n count)

@@ -1,18 +1,18 @@
--- Commands, and the bytes that spell them.
+-- Commands, and the bytes that spell them (Project IceStorm, 'Bitstream File Format Documentation').
 use Rattle.std.specs.Prelude.{ℕ, ◌+◌, ◌*◌, Bool, false, ◌&&◌, List, [], ◌∷◌, ◌++◌, length, fold, flat_map, ◌==◌, Option, Some}
 use Rattle.ice_image.specs.declared.planes.PlaneKind.{PlaneKind}
 use Rattle.ice_image.specs.declared.planes.PlaneKind.TheVariants.{Cram, Bram}
 
--- A command of an opcode with its payload, or data with a payload that tells their kind and with the bytes of their rows.
+-- A command of an opcode with its payload, or data with a payload that says their kind and with the bytes of their rows.
 pub data Command : Type 0 where
   Short : (opcode : ℕ) (payload : List ℕ) → Command
   Data : (kind : PlaneKind) (payload body : List ℕ) → Command
 
--- the number that a payload is, the high byte first; without a byte it is 0
+-- the value of a payload, the high byte first; an empty payload is 0
 abbrev pub number_of : List ℕ → ℕ
 number_of payload = fold (λ n byte. 256 * n + byte) 0 payload
 
--- the payload's number that tells what data are for
+-- the value of the payload that says of which kind data are
 abbrev pub kind_number : PlaneKind → ℕ
 kind_number Cram = 1
 kind_number Bram = 3
@@ -29,7 +29,7 @@ spelled commands = flat_map spelling commands
 
 -- ---- opcodes
 
--- data, a reset of the check value or the wake-up, by the payload's number
+-- data, a reset of the check value or the wake-up, by the value of the payload
 abbrev pub control_opcode : ℕ
 control_opcode = 0
 
@@ -45,7 +45,7 @@ boot_address_opcode = 4
 abbrev pub range_opcode : ℕ
 range_opcode = 5
 
--- the width of data, less one
+-- the width of data, minus one
 abbrev pub width_opcode : ℕ
 width_opcode = 6
 
@@ -59,13 +59,13 @@ offset_opcode = 8
 abbrev pub mode_opcode : ℕ
 mode_opcode = 9
 
--- ---- numbers of payloads
+-- ---- values of payloads
 
--- the payload's number at which the check value begins anew
+-- the value of the payload that resets the check value
 abbrev pub reset_number : ℕ
 reset_number = 5
 
--- the payload's number that ends the configuration
+-- the value of the payload that ends the configuration
 abbrev pub wake_up_number : ℕ
 wake_up_number = 6
 

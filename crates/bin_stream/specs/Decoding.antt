@@ -1,5 +1,5 @@
--- Which bytes a decoder stands for. The clauses of its calls say all that matters of it: a new one stands for no bytes, `feed` adds
--- a piece to them, and `finish` tells what they spell. How a decoder keeps its bytes stands in specs/inside.
+-- Which bytes a decoder stands for. The clauses of its calls say all that matters of it: a new decoder stands for no bytes, `feed` adds
+-- a piece to them, and `finish` returns what they spell. How a decoder keeps its bytes is defined in specs/inside.
 use Rattle.std.specs.Prelude.{◌≡◌, ℕ, List, length, Option}
 use Rattle.layout_file.specs.declared.layouts.Layouts.{Layouts}
 use Rattle.bin_stream.specs.inside.Stages.{IsStage, fault_in}
@@ -10,11 +10,11 @@ use Rattle.bin_stream.specs.declared.reading.decoder.Decoder.{Decoder}
 abbrev pub fed_to : Decoder → ℕ
 fed_to decoder = decoder.fed
 
--- the fault with which a decoder refused, where it did
+-- the fault with which a decoder refused, if it did
 abbrev pub refusal_of : Decoder → Option BinFault
 refusal_of decoder = fault_in decoder.stage
 
--- A decoder stands for bytes under layouts: so many were fed to it, and it is at their stage.
+-- A decoder stands for bytes under layouts: they were fed to it, and it is at their stage.
 pub record StandsFor (layouts : Layouts) (bytes : List ℕ) (decoder : Decoder) : Type 0 where
   pub fed : fed_to decoder ≡ length bytes
   pub layouts_are : decoder.layouts ≡ layouts

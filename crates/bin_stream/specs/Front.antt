@@ -1,4 +1,5 @@
--- The front of a bitstream, which is all before its preamble, and the comment in it.
+-- The front of a bitstream, which is everything before its preamble, and the comment in it (Project IceStorm, 'Bitstream File Format
+-- Documentation'). Which pieces of a comment are lines is this project's choice.
 use Rattle.std.specs.Prelude.{ℕ, Bool, not, ◌&&◌, ◌||◌, List, [], ◌∷◌, length, take, drop, get_or, filter, bytes_eq, nat_lt, nat_le, ◌==◌, if◌then◌else◌, Option, Some, None}
 use Rattle.std.specs.List.{list_all}
 use Rattle.text_lines.specs.Lines.{with_byte}
@@ -25,7 +26,7 @@ abbrev pub is_comment_line : List ℕ → Bool
 is_comment_line line =
     nat_lt 0 (length line) && list_all (λ byte. nat_le 0x20 byte && nat_le byte 0x7E) line && not (get_or line 0 0 == 0x2E)
 
--- the comment of a front: it has one where it begins with FF 00
+-- the comment of a front: it has one if it begins with FF 00
 unfoldable pub comment_of : List ℕ → Option (List (List ℕ))
 comment_of front =
     if bytes_eq (take 2 front) (0xFF ∷ 0 ∷ []) then Some (filter is_comment_line (pieces_of (drop 2 front))) else None

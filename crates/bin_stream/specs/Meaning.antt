@@ -1,4 +1,4 @@
--- What commands configure.
+-- What commands configure (Project IceStorm, 'Bitstream File Format Documentation').
 use Rattle.std.specs.Prelude.{ℕ, ◌+◌, ◌-◌, ◌*◌, ◌/◌, ◌%◌, Bool, true, false, ◌&&◌, List, [], ◌∷◌, length, take, get_or, slice_get, nat_lt, nat_le, ◌==◌, if◌then◌else◌, Option, Some, None}
 use Rattle.place_search.specs.Places.{last_below}
 use Rattle.bit_plane.specs.BitList.{bits_of}
@@ -22,7 +22,7 @@ use Rattle.bin_stream.specs.Front.{comment_of}
 abbrev pub range_of : ℕ → Range
 range_of n = if n == 0 then Low else if n == 1 then Medium else High
 
--- bit 5 of the mode is the warm boot, bit 0 keeps the flash awake
+-- bit 5 of the mode enables warm boot, bit 0 keeps the flash awake
 abbrev pub settings_from : ℕ → ℕ → Settings
 settings_from range mode = record {
   range = range_of range;
@@ -40,7 +40,7 @@ is_same_kind Cram Cram = true
 is_same_kind Bram Bram = true
 is_same_kind kind other = false
 
--- whether a command gives the bit at a place of a kind's planes, where the commands before it are these
+-- whether a command gives the bit at a place of a kind's planes, if the commands before it are these
 abbrev pub gives : PlaneKind → Place → List Command → Option Command → Bool
 gives kind at before (Some (Data other payload body)) =
     is_same_kind other kind && (bank_after before == at.bank) && nat_le (first_row_after before) at.py && nat_lt at.py (first_row_after before + height_after before)
@@ -50,7 +50,7 @@ abbrev pub body_of : Option Command → List ℕ
 body_of (Some (Data kind payload body)) = body
 body_of command = []
 
--- the bit at a place in data, where the commands before them are these: row after row, each byte's highest bit first
+-- the bit at a place in data, if the commands before them are these: row after row, the most significant bit of each byte first
 abbrev pub bit_given : Place → List Command → Option Command → Bool
 bit_given at before command = get_or (bits_of (body_of command)) ((at.py - first_row_after before) * width_after before + at.px) false
 
@@ -58,7 +58,7 @@ abbrev pub bit_where : Place → List Command → Option ℕ → Bool
 bit_where at commands None = false
 bit_where at commands (Some index) = bit_given at (take index commands) (slice_get commands index)
 
--- The bit at a place is that of the last data that give it, and 0 where none do.
+-- The bit at a place is the one in the last data that give it, or 0 if none do.
 unfoldable pub plane_bit : PlaneKind → List Command → Place → Bool
 plane_bit kind commands at =
     bit_where at commands (last_below (length commands) (λ k. gives kind at (take k commands) (slice_get commands k)))

@@ -1,4 +1,4 @@
--- What is wrong with a command, by the commands before it: the first cause that holds, in the format's order.
+-- What is wrong with a command, by the commands before it: the first cause that applies, in the order of the bytes.
 use Rattle.std.specs.Prelude.{◌≡◌, ℕ, ◌+◌, ◌*◌, ◌/◌, ◌%◌, ◌<◌, Bool, true, false, not, ◌||◌, List, [], ◌∷◌, ◌++◌, length, take, drop, slice_get, nat_lt, ◌==◌, if◌then◌else◌, Option, Some, None}
 use Rattle.place_search.specs.Places.{any_below, or_else}
 use Rattle.bit_plane.specs.BitList.{bits_of}
@@ -13,19 +13,19 @@ use Rattle.bin_stream.specs.State.{height_after, first_row_after, width_after, s
 use Rattle.bin_stream.specs.declared.fault.BinCause.{BinCause}
 use Rattle.bin_stream.specs.declared.fault.BinCause.TheVariants.{Truncated, UnknownCommand, LongPayload, BadBank, BadWidth, BadHeight, DataEnd, Check, BadRange, BadMode, NoDevice}
 
--- a cause where a test passes
+-- a cause, if a test passes
 abbrev pub cause_if : Bool → BinCause → Option BinCause
 cause_if true cause = Some cause
 cause_if false cause = None
 
 -- ---- data
 
--- data of another width than the rows of the device's planes have, of which there may be none
+-- data of another width than the rows of the device's planes, or for a device whose planes have no rows
 abbrev pub width_cause : PlaneKind → Option DeviceName → ℕ → Option BinCause
 width_cause kind None columns = Some BadWidth
 width_cause kind (Some device) columns = cause_if (not (has_width kind device columns)) BadWidth
 
--- whether data have no row, rows past the plane's last, or a part of a byte
+-- whether data have no row, rows after the plane's last one, or a part of a byte
 abbrev pub is_bad_height : PlaneKind → DeviceName → ℕ → ℕ → ℕ → Bool
 is_bad_height kind device first rows columns = (rows == 0) || nat_lt (plane_height kind device) (first + rows) || not (columns * rows % 8 == 0)
 
@@ -33,7 +33,7 @@ abbrev pub height_cause : PlaneKind → Option DeviceName → ℕ → ℕ → �
 height_cause kind None first rows columns = None
 height_cause kind (Some device) first rows columns = cause_if (is_bad_height kind device first rows columns) BadHeight
 
--- the device of data: the one that is fixed, else that of their width
+-- the device of data: the one that earlier data fixed, or else the device whose planes have their width
 abbrev pub device_where : Option DeviceName → PlaneKind → ℕ → Option DeviceName
 device_where fixed kind columns = or_else fixed (device_with kind columns)
 
@@ -51,18 +51,18 @@ data_cause before kind =
 
 -- ---- other commands
 
--- whether so many rows are all of a configuration plane of the device, where there is one
+-- whether `rows` is the height of a configuration plane of the device, if there is one
 abbrev pub ends_plane : Option DeviceName → ℕ → Bool
 ends_plane None rows = false
 ends_plane (Some device) rows = rows == cram_height device
 
--- whether data give the last row of a configuration plane, by their first row, their height and their width; the device is
--- that of the width
+-- whether data give the last row of a configuration plane, by their first row, their height and their width; the device is the one whose
+-- planes have that width
 abbrev pub gives_last_where : PlaneKind → ℕ → ℕ → ℕ → Bool
 gives_last_where Cram first rows columns = ends_plane (device_with Cram columns) (first + rows)
 gives_last_where Bram first rows columns = false
 
--- whether a command gives the last row of a configuration plane, where the commands before it are these
+-- whether a command gives the last row of a configuration plane, if the commands before it are these
 abbrev pub gives_last_row : List Command → Option Command → Bool
 gives_last_row before (Some (Data kind payload body)) = gives_last_where kind (first_row_after before) (height_after before) (width_after before)
 gives_last_row before command = false
@@ -75,7 +75,7 @@ reached_in commands = any_below (length commands) (λ k. gives_last_row (take k 
 abbrev pub wake_up_cause : List Command → Option BinCause
 wake_up_cause before = cause_if (not (reached_in before)) NoDevice
 
--- the check value behind a command
+-- the check value after a command
 abbrev pub check_found : List Command → Command → ℕ
 check_found before command = check_value (bits_of (covered before ++ spelling command))
 
@@ -89,8 +89,8 @@ abbrev pub control_cause : Bool → ℕ → Option BinCause
 control_cause reached n =
     if n == reset_number then None else if n == wake_up_number then cause_if (not reached) NoDevice else Some UnknownCommand
 
--- What is wrong with a command that isn't data, by its opcode and its payload's number: whether the last row of a
--- configuration plane was given, and the check value behind the command, matter too.
+-- What is wrong with a command that isn't data, by its opcode and the value of its payload, by whether the last row of a configuration
+-- plane was given, and by the check value after the command.
 abbrev pub short_cause_where : Bool → ℕ → ℕ → ℕ → Option BinCause
 short_cause_where reached found opcode n =
     if opcode == control_opcode then control_cause reached n
@@ -109,7 +109,7 @@ short_cause before opcode payload = short_cause_where (reached_in before) (check
 
 -- ---- commands
 
--- the kind of data that an opcode and a payload's number begin
+-- the kind of data that begin with an opcode and the value of a payload
 abbrev pub data_kind : ℕ → ℕ → Option PlaneKind
 data_kind opcode n =
     if opcode == control_opcode then (if n == kind_number Cram then Some Cram else if n == kind_number Bram then Some Bram else None)
@@ -136,31 +136,31 @@ abbrev pub fault_where : ℕ → Option BinCause → Option Fault
 fault_where offset None = None
 fault_where offset (Some cause) = Some (fault_at offset cause)
 
--- what is wrong with the two bytes behind data
+-- what is wrong with the two bytes after data
 abbrev pub end_fault : ℕ → List ℕ → Option Fault
 end_fault offset [] = Some (fault_at offset Truncated)
 end_fault offset (byte ∷ []) = if byte == 0 then Some (fault_at (offset + 1) Truncated) else Some (fault_at offset DataEnd)
 end_fault offset (byte ∷ next ∷ rest) =
     if byte == 0 then (if next == 0 then None else Some (fault_at (offset + 1) DataEnd)) else Some (fault_at offset DataEnd)
 
--- what is wrong with so many bytes of data and the two behind them
+-- what is wrong with `size` bytes of data and the two bytes after them
 abbrev pub body_fault : ℕ → ℕ → List ℕ → Option Fault
 body_fault size offset bytes =
     if nat_lt (length bytes) size then Some (fault_at (offset + length bytes) Truncated)
     else end_fault (offset + size) (drop size bytes)
 
--- what is wrong with data at an offset, whose bytes begin at another
+-- what is wrong with data whose command begins at `offset` and whose bytes begin at `start`
 abbrev pub data_fault : List Command → PlaneKind → ℕ → ℕ → List ℕ → Option Fault
 data_fault before kind offset start bytes =
     or_else (fault_where offset (data_cause before kind)) (body_fault (size_after before) start bytes)
 
--- what is wrong with a command at an offset, by its payload and the bytes behind it
+-- what is wrong with a command at an offset, by its payload and the bytes after it
 abbrev pub payload_fault : List Command → ℕ → ℕ → List ℕ → Option PlaneKind → List ℕ → Option Fault
 payload_fault before offset opcode payload None bytes = fault_where offset (short_cause before opcode payload)
 payload_fault before offset opcode payload (Some kind) bytes = data_fault before kind offset (offset + 1 + length payload) bytes
 
--- What is wrong with the first byte and the payload of the first command of the bytes at an offset of the input. Where the
--- input ends, its length is the offset.
+-- What is wrong with the first byte and the payload of the first command of the bytes at an offset of the input. If the input
+-- ends too early, the offset of the fault is its length.
 abbrev pub head_fault : ℕ → List ℕ → Option Fault
 head_fault offset [] = Some (fault_at offset Truncated)
 head_fault offset (head ∷ rest) =
@@ -168,7 +168,7 @@ head_fault offset (head ∷ rest) =
     else if nat_lt (length rest) (head % 16) then Some (fault_at (offset + 1 + length rest) Truncated)
     else None
 
--- what is wrong with the first command of bytes that have its payload, where the commands before it are these
+-- what is wrong with the first command of bytes that have its payload, if the commands before it are these
 abbrev pub command_fault : List Command → ℕ → List ℕ → Option Fault
 command_fault before offset [] = None
 command_fault before offset (head ∷ rest) =

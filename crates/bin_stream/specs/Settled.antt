@@ -1,4 +1,4 @@
--- What the bytes so far settle, where more may follow.
+-- What the bytes so far settle, if more may follow.
 use Rattle.std.specs.Prelude.{◌≡◌, Bool, true, false, Result, Ok, Err}
 use Rattle.ice_image.specs.Configuration.{Configuration}
 use Rattle.bin_stream.specs.Refusals.{Fault, fault_at}
@@ -13,7 +13,7 @@ is_unfinished NoPreamble = true
 is_unfinished Truncated = true
 is_unfinished cause = false
 
--- a fault other than out of memory is that of the bytes, and not that they ended early
+-- a fault other than out of memory is the fault of the bytes, and not that they ended early
 abbrev pub Settles : Result Configuration Fault → BinFault → Type 0
 Settles read (At offset cause) = (read ≡ Err (fault_at offset cause)) × (is_unfinished cause ≡ false)
 Settles read (Memory e) = Unit {0}

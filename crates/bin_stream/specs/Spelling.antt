@@ -21,7 +21,7 @@ use Rattle.bin_stream.specs.declared.fault.BinFault.TheVariants.{At, Memory}
 abbrev pub IsAllowed : List Command → Type 0
 IsAllowed commands = (k : ℕ) (command : Command) → slice_get commands k ≡ Some command → IsAllowedAfter (take k commands) command
 
--- the first preamble is behind this front
+-- the first preamble is right after this front
 abbrev pub IsFront : List ℕ → List ℕ → Type 0
 IsFront front bytes = preamble_offset bytes ≡ Some (length front)
 
@@ -29,8 +29,8 @@ IsFront front bytes = preamble_offset bytes ≡ Some (length front)
 abbrev pub NoWakeUp : List Command → Type 0
 NoWakeUp commands = All (λ command. is_wake_up command ≡ false) commands
 
--- The bytes spell the image under the layouts: a front, the preamble, allowed commands with a wake-up as the last of
--- them and nowhere before, and anything behind it.
+-- The bytes spell the image under the layouts: a front, the preamble, allowed commands of which the last and no other is a wake-up,
+-- and any bytes after it.
 pub record Spells (layouts : Layouts) (bytes : List ℕ) (image : Configuration) : Type 0 where
   pub front : List ℕ
   pub commands : List Command
@@ -45,7 +45,7 @@ pub record Spells (layouts : Layouts) (bytes : List ℕ) (image : Configuration)
   pub layout : HasLayout layouts image.layout
   pub means : image ≡ meaning image.layout front (commands ++ wake_up ∷ [])
 
--- The bytes have a fault: behind a front, the preamble and allowed commands without a wake-up, something is
+-- The bytes have a fault: after a front, the preamble and allowed commands without a wake-up, something is
 -- wrong with the first command of the rest. So no longer list of allowed commands is spelled there.
 pub record FailsAt (bytes : List ℕ) (fault : Fault) : Type 0 where
   pub front : List ℕ
@@ -57,7 +57,7 @@ pub record FailsAt (bytes : List ℕ) (fault : Fault) : Type 0 where
   pub before : NoWakeUp commands
   pub wrong : first_fault commands (length front + 4 + length (spelled commands)) rest ≡ Some fault
 
--- bytes without a preamble fail at their end, others where their commands do
+-- bytes without a preamble fail at their end, others at the first wrong command
 abbrev pub IsRefused : List ℕ → Fault → Type 0
 IsRefused bytes fault = IsRefusedAt (preamble_offset bytes)
   where
@@ -78,13 +78,13 @@ first_command before (head ∷ rest) =
     let payload = take (head % 16) rest in
     command_of before (head / 16) payload (data_kind (head / 16) (number_of payload)) (drop (head % 16) rest)
 
--- a fault, or what there is at the wake-up, or what follows another command
+-- a fault, or all commands if the wake-up is reached, or else the commands that follow
 abbrev pub read_on : Option Fault → Bool → Result (List Command) Fault → Result (List Command) Fault → Result (List Command) Fault
 read_on (Some fault) ends all more = Err fault
 read_on None true all more = all
 read_on None false all more = more
 
--- the commands up to the wake-up, or the first fault; each takes a byte at least, so that a count above that of the bytes is
+-- the commands up to the wake-up, or the first fault; each command takes at least one byte, so a count above the number of bytes is
 -- never used up
 unfoldable pub commands_from : ℕ → List Command → ℕ → List ℕ → Result (List Command) Fault
 commands_from zero before offset bytes = Ok before
@@ -94,7 +94,7 @@ commands_from (suc most) before offset bytes =
     let size = length (spelling command) in
     read_on (first_fault before offset bytes) (is_wake_up command) (Ok commands) (commands_from most commands (offset + size) (drop size bytes))
 
--- the device, of which there is one where a wake-up is allowed
+-- the device; there is one if a wake-up is allowed
 abbrev pub device_or : Option DeviceName → DeviceName
 device_or None = K1
 device_or (Some device) = device
@@ -112,12 +112,12 @@ read_behind layouts bytes (Some offset) =
 unfoldable pub bin_read_of : Layouts → List ℕ → Result Configuration Fault
 bin_read_of layouts bytes = read_behind layouts bytes (preamble_offset bytes)
 
--- Each input has an image or a fault, not both, and only one: that which the program gives.
+-- Each input has exactly one image or exactly one fault, and not both: the one that the program gives.
 pub record IsDecided (layouts : Layouts) (bytes : List ℕ) : Type 0 where
   pub spelled : (image : Configuration) → Spells layouts bytes image ↔ (bin_read_of layouts bytes ≡ Ok image)
   pub refused : (fault : Fault) → IsRefused bytes fault ↔ (bin_read_of layouts bytes ≡ Err fault)
 
--- a fault other than out of memory is that one
+-- a fault other than out of memory is this one
 abbrev pub Tells : Result Configuration Fault → BinFault → Type 0
 Tells read (At offset cause) = read ≡ Err (fault_at offset cause)
 Tells read (Memory e) = Unit {0}

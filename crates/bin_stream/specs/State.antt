@@ -1,4 +1,5 @@
--- What holds behind a list of commands, by looking back in it.
+-- What holds after a list of commands, by looking back in it (Project IceStorm, 'Bitstream File Format Documentation'; the start values and
+-- how the device is found are this project's choice).
 use Rattle.std.specs.Prelude.{ℕ, ◌+◌, ◌*◌, ◌/◌, Bool, false, not, ◌&&◌, List, length, take, drop, slice_get, ◌==◌, if◌then◌else◌, Option, Some, None}
 use Rattle.place_search.specs.Places.{last_below, first_below}
 use Rattle.plane_map.specs.declared.device.DeviceName.{DeviceName}
@@ -12,7 +13,7 @@ abbrev pub has_opcode : ℕ → Option Command → Bool
 has_opcode opcode (Some (Short other payload)) = other == opcode
 has_opcode opcode command = false
 
--- the number of a command's payload
+-- the value of a command's payload
 abbrev pub number_in : Option Command → ℕ
 number_in None = 0
 number_in (Some (Short opcode payload)) = number_of payload
@@ -22,12 +23,12 @@ number_in (Some (Data kind payload body)) = number_of payload
 abbrev pub last_index : List Command → ℕ → Option ℕ
 last_index commands opcode = last_below (length commands) (λ k. has_opcode opcode (slice_get commands k))
 
--- the number that a command gives, or what held at the start
+-- the value that a command gives, or the start value
 abbrev pub given_or : List Command → Option ℕ → ℕ → ℕ
 given_or commands None start = start
 given_or commands (Some index) start = number_in (slice_get commands index)
 
--- the number that the last command of an opcode gives, or what held at the start
+-- the value that the last command of an opcode gives, or the start value
 unfoldable pub last_of : List Command → ℕ → ℕ → ℕ
 last_of commands opcode start = given_or commands (last_index commands opcode) start
 
@@ -40,19 +41,19 @@ range_after commands = last_of commands range_opcode 0
 abbrev pub height_after : List Command → ℕ
 height_after commands = last_of commands height_opcode 0
 
--- the row at which data begin behind these commands
+-- the row at which data begin after these commands
 abbrev pub first_row_after : List Command → ℕ
 first_row_after commands = last_of commands offset_opcode 0
 
 abbrev pub mode_after : List Command → ℕ
 mode_after commands = last_of commands mode_opcode 32
 
--- the width that a command gives: it is written less one
+-- the width that a command gives: it is written minus one
 abbrev pub width_given : List Command → Option ℕ → ℕ
 width_given commands None = 0
 width_given commands (Some index) = number_in (slice_get commands index) + 1
 
--- the width of data behind these commands, and 0 where none was given
+-- the width of data after these commands, or 0 if none was given
 unfoldable pub width_after : List Command → ℕ
 width_after commands = width_given commands (last_index commands width_opcode)
 
@@ -60,13 +61,13 @@ width_after commands = width_given commands (last_index commands width_opcode)
 abbrev pub size_where : ℕ → ℕ → ℕ
 size_where columns rows = columns * rows / 8
 
--- how many bytes data have behind these commands
+-- how many bytes data have after these commands
 abbrev pub size_after : List Command → ℕ
 size_after commands = size_where (width_after commands) (height_after commands)
 
 -- ---- the device
 
--- whether a device's planes of a kind have rows: those of RAM have none where the device has no RAM
+-- whether a device's planes of a kind have rows: RAM planes have none if the device has no RAM
 abbrev pub has_rows : PlaneKind → DeviceName → Bool
 has_rows kind device = not (plane_height kind device == 0)
 
@@ -82,22 +83,22 @@ device_with kind columns =
     else if has_width kind K8 columns then Some K8
     else None
 
--- the device that a command fixes, where the commands before it are these
+-- the device that a command fixes, if the commands before it are these
 abbrev pub device_in : List Command → Option Command → Option DeviceName
 device_in before (Some (Data kind payload body)) = device_with kind (width_after before)
 device_in before command = None
 
--- the device: that of the first data
+-- the device: the one that the first data fix
 unfoldable pub device_after : List Command → Option DeviceName
 device_after commands = first_below (length commands) (λ k. device_in (take k commands) (slice_get commands k))
 
 -- ---- the check value
 
--- the commands behind a index, and all of them where there is none
+-- the commands after an index, or all of them if there is no index
 abbrev pub behind_reset : List Command → Option ℕ → List Command
 behind_reset commands None = commands
 behind_reset commands (Some index) = drop (index + 1) commands
 
--- the bytes that the check value covers: those behind the last reset, and all where there was none
+-- the bytes that the check value covers: those after the last reset, or all if there was none
 unfoldable pub covered : List Command → List ℕ
 covered commands = spelled (behind_reset commands (last_below (length commands) (λ k. is_reset (slice_get commands k))))

@@ -1,5 +1,5 @@
--- What contracts within this crate cite. Of the public ones only those of a decoder stand on it, by StandsFor: there each clause
--- gives StandsFor or takes it, from no bytes on, so that none of what stands here need be believed.
+-- What contracts within this crate cite. Of the public contracts only those of a decoder rest on it, by StandsFor. Each of their clauses
+-- gives StandsFor or takes it, beginning with no bytes, so nothing that is defined here need be believed.
 pub mod Register
 pub mod Opcodes
 pub mod Heads

@@ -1,5 +1,5 @@
-// The check value of bytes, which the bitstream documentation calls the CRC: one register, which eight
-// bytes enter at a time, and what is left over by two and by one.
+// The check value of bytes, which is the CRC of the bitstream documentation: one register, which eight bytes enter at a time. The
+// remaining bytes enter two at a time and then one at a time.
 ghost use Rattle.std.specs.Prelude.{◌≡◌, ◌%◌, length, slice_index};
 ghost use Rattle.bit_plane.specs.BitList.{bits_of, byte_bits};
 ghost use Rattle.bin_stream.specs.CheckValue.{check_value};
@@ -9,10 +9,10 @@ mod tables;
 
 use tables::REMAINDERS;
 
-/// What the register holds before the first bit.
+/// The value of the register before the first bit.
 pub(crate) const START: u16 = 0xFFFF;
 
-/// The CRC of bytes, the most significant bit of each byte first. That of the text `123456789` is 29B1 (hexadecimal).
+/// The CRC of bytes, the most significant bit of each byte first. The CRC of the text `123456789` is 29B1 (hexadecimal).
 pub fn check_value(bytes: &[u8]) -> u16
     ensures { result ≡ check_value (bits_of bytes.now) }
 {
@@ -39,8 +39,8 @@ fn enter_eights(value: u16, bytes: &[u8]) -> u16
     value
 }
 
-/// The register after eight bytes have entered. Only the first two are combined with what it held, so the other six look-ups needn't
-/// wait for it.
+/// The register after eight bytes have entered. Only the first two bytes are combined with its old value, so the other six look-ups
+/// needn't wait for it.
 fn enter_eight(value: u16, bytes: &[u8]) -> u16
     requires { length bytes.now ≡ 8 }
     ensures { result ≡ entered_all value (bits_of bytes.now) }
@@ -87,7 +87,7 @@ fn enter_byte(value: u16, byte: u8) -> u16
     value << 8 ^ entry_of(&REMAINDERS[0], high ^ byte)
 }
 
-/// The entry of a byte.
+/// The entry of a byte in a table.
 fn entry_of(table: &[u16; 256], byte: u8) -> u16
     ensures { result ≡ slice_index table.now byte }
 {

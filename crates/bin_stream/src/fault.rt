@@ -14,7 +14,7 @@ pub enum BinCause {
     /// The input ends within a command or before the wake-up. The offset is the input's length.
     #[error("the bitstream ends too early")]
     Truncated,
-    /// An unknown command. The offset is that of its first byte, as for all causes below except `DataEnd`.
+    /// An unknown command. The offset is the offset of its first byte, as for all causes below except `DataEnd`.
     #[error("unknown command")]
     UnknownCommand,
     /// More than four bytes of payload.
@@ -23,16 +23,16 @@ pub enum BinCause {
     /// A bank above 3.
     #[error("a bank above 3")]
     BadBank,
-    /// Data of a width that no device's planes have, or that the device of earlier data doesn't have.
+    /// Data of a width that the planes of no device have, or that the planes of the device of earlier data don't have.
     #[error("no plane of the device has that width")]
     BadWidth,
-    /// Data without a row, with rows past the plane's last, or with a part of a byte at the end.
+    /// Data without a row, with rows after the plane's last one, or with a part of a byte at the end.
     #[error("the rows do not fit into the plane")]
     BadHeight,
-    /// One of the two bytes behind data isn't 00. The offset is that of the first such byte.
+    /// One of the two bytes after data isn't 00. The offset is the offset of the first such byte.
     #[error("a byte behind data is not 00")]
     DataEnd,
-    /// The CRC behind a check command isn't 0. `found` is that CRC.
+    /// The CRC after a check command isn't 0. `found` is that CRC.
     #[error("the CRC is {found} and not 0")]
     Check { found: u16 },
     /// A range above 2.
@@ -49,7 +49,7 @@ pub enum BinCause {
 /// Why a bitstream is refused.
 #[derive(Clone, Copy, Debug, PartialEq, Eq, Error)]
 pub enum BinFault {
-    /// Where the first fault is, in bytes from 0, and what is wrong there.
+    /// The offset of the first fault, in bytes from 0, and what is wrong there.
     #[error("offset {offset}: {cause}")]
     At { offset: u64, cause: BinCause },
     /// Out of memory. It may come in place of any other answer.

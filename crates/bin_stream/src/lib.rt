@@ -1,4 +1,4 @@
-//! Reads and writes bitstreams: the files that a device loads.
+//! Reads and writes bitstreams (`.bin`): the files that a device loads.
 #![tactic(auto)]
 
 mod check_value;

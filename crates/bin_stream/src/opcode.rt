@@ -1,4 +1,4 @@
-// What commands are for: their opcodes, and the numbers that payloads of control commands are.
+// What commands are for: their opcodes, and the values of the payloads of control commands.
 ghost use Rattle.std.specs.Prelude.{◌≡◌, ◌<◌, MatchOption};
 ghost use Rattle.bin_stream.specs.Commands.{kind_number};
 ghost use Rattle.bin_stream.specs.inside.Opcodes.{opcode_number, IsNoOpcode, control_number, IsNoControl};
@@ -8,17 +8,17 @@ use ice_image::PlaneKind;
 /// What a command is for. Its number is the high half of the command's first byte.
 #[derive(Clone, Copy)]
 pub(crate) enum Opcode {
-    /// Data, a reset of the CRC or the wake-up: the payload tells which.
+    /// Data, a reset of the CRC or the wake-up: the payload says which.
     Control = 0,
     /// The bank of the data that follow.
     Bank = 1,
-    /// A check: its payload is chosen so that the CRC is 0 behind it.
+    /// A check: its payload is chosen so that the CRC is 0 after it.
     Check = 2,
-    /// Where the device looks for the next image. It is passed over.
+    /// The flash address at which the device looks for the next image. It is ignored.
     BootAddress = 4,
-    /// The range of the oscillator.
+    /// The frequency range of the oscillator.
     Range = 5,
-    /// The width of the data that follow in bits, less one.
+    /// The width in bits of the data that follow, minus one.
     Width = 6,
     /// How many rows the data that follow have.
     Height = 7,
@@ -29,7 +29,7 @@ pub(crate) enum Opcode {
 }
 
 impl Opcode {
-    /// The opcode of a number, where there is one.
+    /// The opcode of a number, if there is one.
     pub(crate) fn from_number(number: u8) -> Option<Opcode>
         ensures { MatchOption result (IsNoOpcode number) (λ opcode. opcode_number opcode ≡ number) }
     {
@@ -56,21 +56,21 @@ impl Opcode {
     }
 }
 
-/// What a control command is for, which the number of its payload tells.
+/// What a control command is for, by the value of its payload.
 #[derive(Clone, Copy)]
 pub(crate) enum Control {
     /// Rows of a configuration plane follow.
     CramData = 1,
     /// Rows of a RAM plane follow.
     BramData = 3,
-    /// The CRC begins anew.
+    /// The CRC is reset.
     Reset = 5,
     /// The configuration ends.
     WakeUp = 6,
 }
 
 impl Control {
-    /// What a control command with that number is for, where there is such a command.
+    /// What a control command with this value is for, if there is such a command.
     pub(crate) fn from_number(number: u32) -> Option<Control>
         ensures { MatchOption result (IsNoControl number) (λ control. control_number control ≡ number) }
     {
@@ -83,14 +83,14 @@ impl Control {
         }
     }
 
-    /// The number of the payload.
+    /// The value of the payload.
     pub(crate) fn number(self) -> u8
         ensures { result ≡ control_number self }
     {
         self as u8
     }
 
-    /// What comes before data of a kind.
+    /// The control command with which data of a kind begin.
     pub(crate) fn of_data(kind: PlaneKind) -> Control
         ensures { control_number result ≡ kind_number kind }
     {

@@ -34,7 +34,7 @@ bytes_of-take (suc count) n bits within =
     let rest : drop 8 (take n bits) ≡ take (n - 8) (drop 8 bits) = ap (λ n. drop 8 (take n bits)) parts ∙ drop-take 8 (n - 8) bits in
     rw (first, rest) (ap (λ bytes. byte_of (take 8 bits) ∷ bytes) (bytes_of-take count (n - 8) (drop 8 bits) (omega arith)))
 
--- so many bytes as were asked for
+-- the number of bytes that was asked for
 pub length-bytes_of : (count : ℕ) (bits : List Bool) → length (bytes_of count bits) ≡ count
 unfolding bytes_of
 length-bytes_of zero bits = refl

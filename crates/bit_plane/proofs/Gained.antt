@@ -14,14 +14,14 @@ use Rattle.bit_plane.proofs.Packed.{bits_in_word, bits_in_words, packed-set_at, 
 
 -- ---- one word
 
--- the low bits of two numbers are the same, where each of them is
+-- the low bits of two numbers are the same, if each of them is
 same_bits : (count a b : ℕ) → ((i : ℕ) → i < count → bit_at a i ≡ bit_at b i) → word_bits count a ≡ word_bits count b
 same_bits count a b same =
     ext_get_or false (word_bits count a) (word_bits count b) (length-word_bits count a ∙ sym (length-word_bits count b)) (λ i inside.
     let within : i < count = omega (arith, length-word_bits count a) in
     get_or-word_bits count a i within ∙ ap (λ m. m == 1) (same i within) ∙ sym (get_or-word_bits count b i within))
 
--- a bit that a word gains where it gains some from a place on
+-- a bit that a word gains if it gains some from a place on
 bit_gained : (word at count bits i : ℕ) → at ≤ i → i < at + count → at + count ≤ 64 → bit_at (bit_or word (bits % 2 ^ count * 2 ^ at)) i ≡ bit_at (bit_or (word_of (take count (drop at (word_bits 64 word)))) bits) (i - at)
 bit_gained word at count bits i after within room =
     let j : ℕ = i - at in
@@ -31,7 +31,7 @@ bit_gained word at count bits i after within room =
     let new : bit_at (bits % 2 ^ count * 2 ^ at) i ≡ bit_at bits j = moved (bits % 2 ^ count) at i after ∙ bit_at-low bits count j (omega arith) in
     bit_at_or word (bits % 2 ^ count * 2 ^ at) i ∙ ap₂ max there new ∙ sym (bit_at_or (word_of (take count (drop at (word_bits 64 word)))) bits j)
 
--- a bit where nothing is gained
+-- a bit at which nothing is gained
 bit_kept : (word more i : ℕ) → bit_at more i ≡ 0 → bit_at (bit_or word more) i ≡ bit_at word i
 bit_kept word more i none = bit_at_or word more i ∙ omega (arith, none)
 

@@ -73,7 +73,7 @@ bytes_within size at count bits within =
     let e : size ≡ at + (size - at) = omega arith in
     ap (λ n. bytes_of count (drop at (take n bits))) e ∙ ap (bytes_of count) (drop-take at (size - at) bits) ∙ bytes_of-take count (size - at) (drop at bits) (omega arith)
 
--- the number of one bit tells the bit
+-- the number of one bit determines the bit
 pub one_read : (bits : List Bool) (at : ℕ) → at < length bits → (word_of (take 1 (drop at bits)) == 1) ≡ get_or bits at false
 unfolding word_of
 one_read [] at within = absurd (omega arith)
@@ -121,7 +121,7 @@ packed-same (x ∷ a) (y ∷ b) a_small b_small long same =
     let heads : x ≡ y = sym (word_of-word_bits 64 x (a_small 0)) ∙ ap word_of fronts ∙ word_of-word_bits 64 y (b_small 0) in
     ap₂ (λ first rest. first ∷ rest) heads (packed-same a b (λ i. a_small (suc i)) (λ i. b_small (suc i)) (omega (arith, long)) backs)
 
--- the same rows stand in words with the same bits, where those past the rows are clear
+-- the same rows stand in words with the same bits, if those past the rows are clear
 pub bits_same : (width height : ℕ) (a b : List ℕ) → length a ≡ width * height / 64 + 1 → length b ≡ width * height / 64 + 1 → IsClearFrom (width * height) a → IsClearFrom (width * height) b → rows_in width height a ≡ rows_in width height b → packed a ≡ packed b
 bits_same width height a b a_sized b_sized a_clear b_clear same =
     let size : ℕ = width * height in

@@ -18,11 +18,11 @@ pub mod Parts
 pub mod Places
 -- bytes of a stream, eight at once
 pub mod Streams
--- the table of bytes that are turned round
+-- the table of bytes that are reversed
 mod Table
 -- the rows of a tile, each the bits of a word
 pub mod TileRows
--- the two orders of bits: a number whose bits are turned round, last first
+-- the two orders of bits: a number whose bits are reversed
 pub mod Turned
 -- words and the bits that they are, the lowest first
 pub mod Words

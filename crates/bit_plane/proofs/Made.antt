@@ -4,7 +4,7 @@ use Rattle.std.proofs.lemmas.Bool.{cases_eq}
 use Rattle.std.proofs.lemmas.List.{length-append, get_or_append_left, get_or_push}
 use Rattle.bit_plane.specs.Rows.{IsGrid, row_at, bit_at, row_from, rows_from}
 
--- as many bits as were asked for
+-- the number of bits that was asked for
 pub length-row_from : (width : ℕ) (bit : ℕ → Bool) → length (row_from width bit) ≡ width
 unfolding row_from
 length-row_from zero bit = refl
@@ -20,7 +20,7 @@ get_or-row_from (suc width) bit x within =
       | inr before ↦ get_or_append_left (row_from width bit) (bit width ∷ []) false x (omega (arith, length-row_from width bit)) ∙ get_or-row_from width bit x (omega arith)
     ]
 
--- as many rows as were asked for
+-- the number of rows that was asked for
 pub length-rows_from : (width height : ℕ) (bit : ℕ → ℕ → Bool) → length (rows_from width height bit) ≡ height
 unfolding rows_from
 length-rows_from width zero bit = refl

@@ -22,7 +22,7 @@ placed-behind {A} at n part front back place =
     let tail : drop (n + length part) (front ++ back) ≡ drop (at + length part) back = ap (λ k. drop k (front ++ back)) past ∙ drop-append-add front back (at + length part) in
     ap₂ (λ (before after : List A). before ++ part ++ after) head tail ∙ ap (λ before. before ++ drop (at + length part) back) (append_assoc front (take at back) part) ∙ append_assoc front (take at back ++ part) (drop (at + length part) back)
 
--- the bits from a place of a word on are those of that word and those of the words behind it
+-- the bits from a place of a word on are those of that word and those of the words after it
 pub drop-packed : (words : List ℕ) (place at : ℕ) → place < length words → at ≤ 64 → drop (64 * place + at) (packed words) ≡ drop at (word_bits 64 (get_or words place 0)) ++ packed (drop (suc place) words)
 unfolding packed
 drop-packed [] place at within small = absurd (omega arith)
@@ -33,7 +33,7 @@ drop-packed (word ∷ words) (suc place) at within small =
     let e : 64 * suc place + at ≡ length (word_bits 64 word) + (64 * place + at) = omega (arith, length-word_bits 64 word) in
     ap (λ n. drop n (word_bits 64 word ++ packed words)) e ∙ drop-append-add (word_bits 64 word) (packed words) (64 * place + at) ∙ drop-packed words place at (omega arith) small
 
--- the first bits from a place of a word on, where they lie in it
+-- the first bits from a place of a word on, if they lie in it
 bits_at : (words : List ℕ) (place at count : ℕ) → place < length words → at + count ≤ 64 → take count (drop (64 * place + at) (packed words)) ≡ take count (drop at (word_bits 64 (get_or words place 0)))
 bits_at words place at count within small =
     let word : ℕ = get_or words place 0 in

@@ -92,7 +92,7 @@ moved m at i above =
     let e : m * 2 ^ at ≡ m * 2 ^ at + 0 = omega arith in
     ap (λ k. bit_at k i) e ∙ bit_at_cat_high m at 0 i (pow_pos at) above
 
--- the change of one bit of a word, where a part of it is changed by what it differs from other bits
+-- the change of one bit of a word, if a part of it is changed by what it differs from other bits
 bit_changed : (word at count bits i : ℕ) → at ≤ i → i < at + count → bit_at (bit_xor word (bit_xor (word / 2 ^ at) bits % 2 ^ count * 2 ^ at)) i ≡ bit_at bits (i - at)
 bit_changed word at count bits i after within =
     let j : ℕ = i - at in
@@ -102,7 +102,7 @@ bit_changed word at count bits i after within =
     let here : bit_at (change % 2 ^ count * 2 ^ at) i ≡ (bit_at (word / 2 ^ at) j + bit_at bits j) % 2 = moved (change % 2 ^ count) at i after ∙ bit_at-low change count j (omega arith) ∙ bit_at_xor (word / 2 ^ at) bits j in
     bit_at_xor word (change % 2 ^ count * 2 ^ at) i ∙ omega (arith, place, here, bit_at-lt word i, bit_at-lt bits j)
 
--- a bit where nothing is changed
+-- a bit at which nothing is changed
 bit_kept : (word change i : ℕ) → bit_at change i ≡ 0 → bit_at (bit_xor word change) i ≡ bit_at word i
 bit_kept word change i none =
     bit_at_xor word change i ∙ omega (arith, none, bit_at-lt word i)

@@ -15,7 +15,7 @@ length-placed at part whole within =
     let front : length (take at whole) ≡ at = length-take-le at whole (omega arith) in
     omega (arith, front, length-append (take at whole ++ part) (drop (at + length part) whole), length-append (take at whole) part, length-drop (at + length part) whole)
 
--- a part and the next one behind it are one part
+-- a part and the next one after it are one part
 pub placed-more : {A : Type 0} (at n : ℕ) (front more whole : List A) → n ≡ at + length front → n + length more ≤ length whole → placed n more (placed at front whole) ≡ placed at (front ++ more) whole
 placed-more {A} at n front more whole place within =
     let before : List A = take at whole ++ front in
@@ -26,7 +26,7 @@ placed-more {A} at n front more whole place within =
     let tail : drop (n + length more) (before ++ drop n whole) ≡ drop (n + length more) whole = ap (λ k. drop (k + length more) (before ++ drop n whole)) (sym before_long) ∙ drop-append-add before (drop n whole) (length more) ∙ drop-drop (length more) n whole in
     rw (e, past, head, tail) (ap (λ xs. xs ++ drop (n + length more) whole) (append_assoc (take at whole) front more))
 
--- a cut behind the part
+-- a cut after the part
 pub take-placed : {A : Type 0} (at n : ℕ) (part whole : List A) → at + length part ≤ n → n ≤ length whole → take n (placed at part whole) ≡ placed at part (take n whole)
 take-placed {A} at n part whole within long =
     let past : ℕ = at + length part in
@@ -37,7 +37,7 @@ take-placed {A} at n part whole within long =
     let tail : take (n - past) (drop past whole) ≡ drop past (take n whole) = sym (drop-take past (n - past) whole) ∙ ap (λ n. drop past (take n whole)) e in
     ap (λ n. take n (front ++ drop past whole)) parts ∙ take-append-add front (drop past whole) (n - past) ∙ ap (λ rest. front ++ rest) tail ∙ ap (λ before. before ++ part ++ drop past (take n whole)) (sym (take-take at n whole (omega arith)))
 
--- what is behind the part stays
+-- what is after the part stays
 pub drop-placed : {A : Type 0} (at n : ℕ) (part whole : List A) → at + length part ≤ n → n ≤ length whole → drop n (placed at part whole) ≡ drop n whole
 drop-placed {A} at n part whole within long =
     let past : ℕ = at + length part in
@@ -75,7 +75,7 @@ get_or-placed_before {A} at i part whole d before long =
     let back : List A = drop (at + length part) whole in
     ap (λ xs. get_or xs i d) (append_assoc (take at whole) part back) ∙ get_or_append_left (take at whole) (part ++ back) d i (omega arith) ∙ get_or-take at whole i d before
 
--- an item behind the part
+-- an item after the part
 pub get_or-placed_after : {A : Type 0} (at i : ℕ) (part whole : List A) (d : A) → at + length part ≤ i → at ≤ length whole → get_or (placed at part whole) i d ≡ get_or whole i d
 get_or-placed_after {A} at i part whole d after long =
     let past : ℕ = at + length part in

@@ -12,7 +12,7 @@ bits_of-take_eight bytes i =
     let e : 8 * (i + 1) ≡ 8 * i + 8 = omega arith in
     ap (λ n. bits_of (take n bytes)) e ∙ ap bits_of (take-add (8 * i) 8 bytes) ∙ flat_map-append byte_bits (take (8 * i) bytes) (take 8 (drop (8 * i) bytes))
 
--- the first bytes and those behind them
+-- the first bytes and those after them
 pub bytes_of-add : (first more : ℕ) (bits : List Bool) → bytes_of (first + more) bits ≡ bytes_of first bits ++ bytes_of more (drop (8 * first) bits)
 unfolding bytes_of
 bytes_of-add zero more bits =

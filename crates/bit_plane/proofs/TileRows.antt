@@ -7,7 +7,7 @@ use Rattle.bit_plane.specs.Rows.{Rows, IsGrid, row_at, bit_at, with_row, with_bi
 use Rattle.bit_plane.proofs.Words.{length-word_bits}
 use Rattle.bit_plane.proofs.Words.{get_or-word_bits, word_of-word_bits, word_bits-zeros}
 
--- as many bits in each row as were asked for
+-- each row has the width that was asked for
 pub IsGrid-words : (width height : ℕ) (words : List ℕ) → length words ≡ height → IsGrid width height (map (word_bits width) words)
 IsGrid-words width height words tall = record {
   height_is = length-map words (word_bits width) ∙ tall;

@@ -1,4 +1,4 @@
--- The two orders of bits: a number whose bits are turned round, last first.
+-- The two orders of bits: a number whose bits are reversed.
 use Rattle.std.proofs.Common.{◌≡◌, ℕ, zero, suc, ◌+◌, ◌-◌, ◌*◌, ◌/◌, ◌%◌, ◌==◌, ◌^◌, ◌<◌, Bool, false, List, [], ◌∷◌, ◌++◌, length, get_or, ext_get_or, inl, inr, refl, sym, ap, ap₂, ◌∙◌, arith, append_assoc, append-nil, reverse, flat_map, w8, w64}
 use Rattle.std.specs.Int.{reverse_bits, reverse_bits_onto, bit_at, from_le_bytes, from_be_bytes, to_le_bytes, to_be_bytes}
 use Rattle.std.proofs.lemmas.Bool.{cases_lt}
@@ -10,7 +10,7 @@ use Rattle.bit_plane.proofs.Words.{length-word_bits, get_or-word_bits, word_bits
 use Rattle.bit_plane.proofs.Parts.{word_bits-add, word_of-low}
 use Rattle.bit_plane.proofs.Bytes.{byte_of-byte_bits, bytes_of-bits_of}
 
--- the low bits turned round, before the bits of another number
+-- the low bits reversed, before the bits of another number
 turned_onto : (count more n a : ℕ) → word_bits (count + more) (reverse_bits_onto count n a) ≡ reverse (word_bits count n) ++ word_bits more a
 unfolding word_bits reverse_bits_onto
 turned_onto zero more n a = let e : 0 + more ≡ more = omega arith in rw e refl
@@ -21,14 +21,14 @@ turned_onto (suc count) more n a =
     let front : List Bool = word_bits count (n / 2) in
     ap (λ k. word_bits k (reverse_bits_onto count (n / 2) (a * 2 + n % 2))) e ∙ turned_onto count (suc more) (n / 2) (a * 2 + n % 2) ∙ ap₂ (λ m h. reverse front ++ (m == 1) ∷ word_bits more h) bit half ∙ sym (append_assoc (reverse front) ((n % 2 == 1) ∷ []) (word_bits more a)) ∙ ap (λ bits. bits ++ word_bits more a) (sym (reverse_onto front (n % 2 == 1) []))
 
--- the bits of a number turned round
+-- the bits of a number reversed
 turned : (count n : ℕ) → word_bits count (reverse_bits_onto count n 0) ≡ reverse (word_bits count n)
 unfolding word_bits
 turned count n =
     let e : count ≡ count + 0 = omega arith in
     ap (λ k. word_bits k (reverse_bits_onto count n 0)) e ∙ turned_onto count 0 n 0 ∙ append-nil (reverse (word_bits count n))
 
--- the bits of a byte of the stream are a number's, turned round
+-- the bits of a byte of the stream are a number's, reversed
 reverse-byte : (b : ℕ) → reverse (word_bits 8 b) ≡ byte_bits b
 unfolding word_bits
 reverse-byte b =
@@ -40,11 +40,11 @@ reverse-byte b =
     let seven : b / 64 / 2 ≡ b / 128 = omega arith in
     rw (two, three, four, five, six, seven) refl
 
--- a byte turned round has the bits of the byte in the stream
+-- a byte reversed has the bits of the byte in the stream
 pub turned-byte : (b : ℕ) → word_bits 8 (reverse_bits w8 b) ≡ byte_bits b
 turned-byte b = turned 8 b ∙ reverse-byte b
 
--- a number of eight bits turned round is the byte of the bits
+-- a number of eight bits reversed is the byte of the bits
 pub byte_of-turned : (bits : List Bool) (word : ℕ) → length bits ≡ 8 → word ≡ word_of bits → reverse_bits w8 word < 256 → reverse_bits w8 word ≡ byte_of bits
 byte_of-turned bits word long word_is small =
     let here : word_bits 8 word ≡ bits = ap₂ word_bits (sym long) word_is ∙ word_bits-word_of bits in
@@ -87,13 +87,13 @@ unfolding low_first
 from_le_bytes-is (a ∷ b ∷ c ∷ d ∷ e ∷ f ∷ g ∷ h ∷ []) eight = omega arith
 from_le_bytes-is _ eight = absurd (omega (arith, eight))
 
--- bytes whose last comes first have the bits of the number, turned round
+-- bytes whose last comes first have the bits of the number, reversed
 bits_of-reverse : (bytes : List ℕ) → bits_of (reverse bytes) ≡ reverse (flat_map (word_bits 8) bytes)
 bits_of-reverse [] = refl
 bits_of-reverse (byte ∷ bytes) =
     ap bits_of (reverse-append (byte ∷ []) bytes) ∙ sym (flat_map_more byte_bits [] (reverse bytes) byte) ∙ ap₂ (λ (front back : List Bool). front ++ back) (bits_of-reverse bytes) (sym (reverse-byte byte)) ∙ sym (reverse-append (word_bits 8 byte) (flat_map (word_bits 8) bytes))
 
--- the bits of a word turned round
+-- the bits of a word reversed
 reversed-bits : (word reversed : ℕ) → ((k : ℕ) → k < 64 → bit_at reversed k ≡ bit_at word (63 - k)) → word_bits 64 reversed ≡ reverse (word_bits 64 word)
 reversed-bits word reversed bits =
     let long : length (word_bits 64 word) ≡ 64 = length-word_bits 64 word in
@@ -108,7 +108,7 @@ unfolding low_first
 from_be_bytes-is (a ∷ b ∷ c ∷ d ∷ e ∷ f ∷ g ∷ h ∷ []) eight = omega arith
 from_be_bytes-is _ eight = absurd (omega (arith, eight))
 
--- the number of eight bytes turned round has their bits
+-- the number of eight bytes reversed has their bits
 pub reversed-number : (bytes : List ℕ) (reversed : ℕ) → length bytes ≡ 8 → ((i : ℕ) → get_or bytes i 0 < 256) → ((k : ℕ) → k < 64 → bit_at reversed k ≡ bit_at (from_be_bytes w64 bytes) (63 - k)) → word_bits 64 reversed ≡ bits_of bytes
 reversed-number bytes reversed eight small bits =
     let back : List ℕ = reverse bytes in
@@ -129,7 +129,7 @@ bytes-small n (suc (suc (suc (suc (suc (suc zero)))))) = omega arith
 bytes-small n (suc (suc (suc (suc (suc (suc (suc zero))))))) = omega arith
 bytes-small n (suc (suc (suc (suc (suc (suc (suc (suc i)))))))) = omega arith
 
--- the bytes of a number turned round are those of its bits
+-- the bytes of a number reversed are those of its bits
 pub reversed-bytes : (word reversed : ℕ) → ((k : ℕ) → k < 64 → bit_at reversed k ≡ bit_at word (63 - k)) → reversed < 2 ^ 64 → to_be_bytes w64 reversed ≡ bytes_of 8 (word_bits 64 word)
 reversed-bytes word reversed bits fits =
     let bytes : List ℕ = to_le_bytes w64 reversed in

@@ -13,7 +13,7 @@ pub bit_value-le : (bit : Bool) → bit_value bit ≤ 1
 bit_value-le true = omega arith
 bit_value-le false = omega arith
 
--- a word of so many bits is below that power of 2
+-- the word of n bits is below 2 ^ n
 pub word_of-lt : (bits : List Bool) → word_of bits < 2 ^ length bits
 unfolding word_of
 word_of-lt [] = omega arith
@@ -25,7 +25,7 @@ pub word_of-fits : (bits : List Bool) → length bits ≤ 64 → word_of bits < 
 word_of-fits bits short =
     omega (arith, word_of-lt bits, pow_mono {i = length bits} {j = 64} short)
 
--- the word from a place on: its first bit, and twice the word behind it
+-- the word from a place on: its first bit, and twice the word after it
 pub word_of-drop : (bits : List Bool) (i : ℕ) → i < length bits → word_of (drop i bits) ≡ bit_value (get_or bits i false) + 2 * word_of (drop (i + 1) bits)
 unfolding word_of
 word_of-drop bits i within = at_drop_more word_of bits i false within

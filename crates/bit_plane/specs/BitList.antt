@@ -1,14 +1,15 @@
 -- Bits as lists of Booleans, and the two orders in which numbers hold them: a row's word has its first bit as the
--- bit of value 1, a byte of the stream has its first bit as the bit of value 128.
+-- bit of value 1, a byte of the bitstream has its first bit as the bit of value 128. The order in a byte is that of Project IceStorm,
+-- 'Bitstream File Format Documentation'.
 use Rattle.std.specs.Prelude.{ℕ, zero, suc, ◌+◌, ◌*◌, ◌/◌, ◌%◌, Bool, true, false, List, [], ◌∷◌, ◌++◌, length, take, drop, fold, flat_map, ◌==◌}
 use Rattle.std.specs.Int.RustNames.{bit_or}
 
--- what a bit adds where it has value 1
+-- a bit as a number
 abbrev pub bit_value : Bool → ℕ
 bit_value false = 0
 bit_value true = 1
 
--- the low bits of a number, that many of them, the lowest first
+-- the `count` low bits of a number, the lowest first
 unfoldable pub word_bits : ℕ → ℕ → List Bool
 word_bits zero n = []
 word_bits (suc count) n = (n % 2 == 1) ∷ word_bits count (n / 2)
@@ -32,7 +33,7 @@ byte_of bits = fold (λ n bit. 2 * n + bit_value bit) 0 bits
 abbrev pub bits_of : List ℕ → List Bool
 bits_of bytes = flat_map byte_bits bytes
 
--- that many bytes, eight bits a byte, from the front of the bits on
+-- `count` bytes, eight bits each, from the front of the bits
 unfoldable pub bytes_of : ℕ → List Bool → List ℕ
 bytes_of zero bits = []
 bytes_of (suc count) bits = byte_of (take 8 bits) ∷ bytes_of count (drop 8 bits)
@@ -41,6 +42,6 @@ bytes_of (suc count) bits = byte_of (take 8 bits) ∷ bytes_of count (drop 8 bit
 abbrev pub placed : {A : Type 0} → ℕ → List A → List A → List A
 placed at part whole = take at whole ++ part ++ drop (at + length part) whole
 
--- the list with 1 also where `count` bits of a number have it, the bit of value 1 standing at place `at`
+-- the list with the low `count` bits of a number ORed into it from `at` on, the lowest first
 abbrev pub gained : ℕ → ℕ → ℕ → List Bool → List Bool
 gained at count ones whole = placed at (word_bits count (bit_or (word_of (take count (drop at whole))) ones)) whole

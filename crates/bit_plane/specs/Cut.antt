@@ -3,7 +3,7 @@ use Rattle.std.proofs.Common.{◌≡◌, ℕ, zero, suc, ◌+◌, ◌*◌, ◌<�
 use Rattle.std.proofs.lemmas.Nat.{mul-le}
 use Rattle.bit_plane.specs.Rows.{IsGrid, row_at, rows_of}
 
--- there are as many rows as were asked for
+-- there are `height` rows
 pub length-rows_of : (width height : ℕ) (bits : List Bool) → length (rows_of width height bits) ≡ height
 unfolding rows_of
 length-rows_of width zero bits = refl

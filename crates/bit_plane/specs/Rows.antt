@@ -4,7 +4,7 @@ use Rattle.std.specs.Prelude.{◌≡◌, ℕ, zero, suc, ◌<◌, Bool, false, L
 abbrev pub Rows : Type 0
 Rows = List (List Bool)
 
--- row y, and no bits past the last row
+-- row y, or no bits after the last row
 abbrev pub row_at : Rows → ℕ → List Bool
 row_at rows y = get_or rows y []
 
@@ -20,7 +20,7 @@ with_row rows y row = set rows y row
 abbrev pub with_bit : Rows → ℕ → ℕ → Bool → Rows
 with_bit rows x y bit = with_row rows y (set (row_at rows y) x bit)
 
--- so many rows, each of so many bits
+-- `height` rows, each of `width` bits
 pub record IsGrid (width height : ℕ) (rows : Rows) : Type 0 where
   pub height_is : length rows ≡ height
   pub width_is : (y : ℕ) → y < height → length (row_at rows y) ≡ width
@@ -34,7 +34,7 @@ unfoldable pub flat : Rows → List Bool
 flat [] = []
 flat (row ∷ rows) = row ++ flat rows
 
--- bits cut into rows, that many rows of that width
+-- bits cut into `height` rows of `width` bits
 unfoldable pub rows_of : ℕ → ℕ → List Bool → Rows
 rows_of width zero bits = []
 rows_of width (suc height) bits = take width bits ∷ rows_of width height (drop width bits)

@@ -1,4 +1,4 @@
-// What every plane of bits can do, however it keeps them.
+// What every plane of bits can do, however it stores them.
 ghost use Rattle.std.specs.Prelude.{◌≡◌, ℕ, ◌+◌, ◌*◌, ◌/◌, ◌%◌, ◌<◌, ◌≤◌, ◌↔◌, ◌++◌, List, Bool, length, take, drop, IfOk, IsTrue};
 ghost use Rattle.bit_plane.specs.BitList.{word_bits, word_of, byte_bits, byte_of, bits_of, bytes_of, gained, placed};
 ghost use Rattle.bit_plane.specs.Rows.{Rows, IsGrid, row_at, bit_at, with_row, with_bit, blank, flat, rows_of};
@@ -20,7 +20,10 @@ pub trait Bits: Sized + Drop {
     /// The rows, row 0 first, each its bits from column 0 on.
     ghost rows: { Self → Rows };
 
-    /// All bits 0.
+    /// A plane whose bits are all 0.
+    ///
+    /// # Errors
+    /// `AllocError` if memory is out, or if the plane has more bits than a `usize` can count.
     fn zeroed(alloc: Global) -> Result<Self, AllocError>
         ensures { IfOk result (λ plane. rows plane ≡ blank WIDTH HEIGHT) };
 
@@ -36,14 +39,14 @@ pub trait Bits: Sized + Drop {
         requires row { y < HEIGHT }
         ensures { rows self.new ≡ with_bit (rows self.old) x y bit };
 
-    /// `count` bits of row y, from column x on. The first is the bit of value 1.
+    /// `count` bits of row y, from column x on, as a number. Column x is its lowest bit.
     fn row_bits(&self, x: usize, y: usize, count: usize) -> u64
         requires count { count ≤ 64 }
         requires columns { x + count ≤ WIDTH }
         requires row { y < HEIGHT }
         ensures { result ≡ word_of (take count (drop x (row_at (rows self.now) y))) };
 
-    /// Sets `count` bits of row y, from column x on, to the low bits of `bits`. The first gets the bit of value 1.
+    /// Sets `count` bits of row y, from column x on, to the low bits of `bits`. Column x gets the lowest bit.
     fn set_row_bits(&mut self, x: usize, y: usize, count: usize, bits: u64)
         requires count { count ≤ 64 }
         requires columns { x + count ≤ WIDTH }
@@ -51,15 +54,14 @@ pub trait Bits: Sized + Drop {
         ensures { rows self.new ≡ with_row (rows self.old) y
             (placed x (word_bits count bits) (row_at (rows self.old) y)) };
 
-    /// Sets to 1 each of `count` bits of row y, from column x on, for which `bits` has a 1; the others stay. The first is the bit of
-    /// value 1.
+    /// ORs the low `count` bits of `bits` into row y, from column x on. Column x gets the lowest bit.
     fn gain_row_bits(&mut self, x: usize, y: usize, count: usize, bits: u64)
         requires count { count ≤ 64 }
         requires columns { x + count ≤ WIDTH }
         requires row { y < HEIGHT }
         ensures { rows self.new ≡ with_row (rows self.old) y (gained x count bits (row_at (rows self.old) y)) };
 
-    /// Sets the eight bits from a position on to those of a byte, the most significant first.
+    /// Sets the eight bits from a position on to the bits of a byte, the most significant first.
     fn put_byte(&mut self, position: usize, byte: u8)
         requires { position + 8 ≤ WIDTH * HEIGHT }
         ensures { rows self.new ≡ rows_of WIDTH HEIGHT

@@ -1,5 +1,5 @@
 // The two orders in which numbers hold bits, over slices of words. Bit p of such a slice is bit p % 64 of word p / 64.
-// One bit at least follows those that are read or written, so that a word is there even where no bit is.
+// A slice has at least one bit more than those that are read or written, so the word at a position exists even if no bit of it is used.
 ghost use Rattle.std.specs.Prelude.{◌≡◌, ◌+◌, ◌*◌, ◌/◌, ◌%◌, ◌^◌, ◌<◌, ◌≤◌, ◌↔◌, IsTrue, length, take, drop};
 ghost use Rattle.bit_plane.specs.BitList.{word_bits, word_of, byte_bits, byte_of, bits_of, bytes_of, gained, placed};
 ghost use Rattle.std.specs.Int.{w8, reverse_bits};
@@ -7,7 +7,7 @@ ghost use Rattle.bit_plane.specs.inside.Packed.{packed};
 
 use crate::reversal::reversed;
 
-/// Each byte with its bits turned round, the last first.
+/// Each byte with its bits in reverse order.
 static TURNED: [u8; 256] = [
     0x00, 0x80, 0x40, 0xC0, 0x20, 0xA0, 0x60, 0xE0, 0x10, 0x90, 0x50, 0xD0, 0x30, 0xB0, 0x70, 0xF0,
     0x08, 0x88, 0x48, 0xC8, 0x28, 0xA8, 0x68, 0xE8, 0x18, 0x98, 0x58, 0xD8, 0x38, 0xB8, 0x78, 0xF8,
@@ -27,14 +27,14 @@ static TURNED: [u8; 256] = [
     0x0F, 0x8F, 0x4F, 0xCF, 0x2F, 0xAF, 0x6F, 0xEF, 0x1F, 0x9F, 0x5F, 0xDF, 0x3F, 0xBF, 0x7F, 0xFF,
 ];
 
-/// The byte with its bits turned round, the last first.
+/// The byte with its bits in reverse order.
 fn turned(byte: u8) -> u8
     ensures { result ≡ reverse_bits w8 byte }
 {
     TURNED[usize::from(byte)]
 }
 
-/// The number of the low bits of a word, that many of them.
+/// The low `count` bits of a word, as a number.
 fn low(word: u64, count: usize) -> u64
     requires { count ≤ 64 }
     ensures { result ≡ word % 2 ^ count }
@@ -46,7 +46,7 @@ fn low(word: u64, count: usize) -> u64
     }
 }
 
-/// The number of `count` bits of a word from a place on.
+/// `count` bits of a word from bit `at` on, as a number.
 fn part(word: u64, at: usize, count: usize) -> u64
     requires at { at < 64 }
     requires count { at + count ≤ 64 }
@@ -55,7 +55,7 @@ fn part(word: u64, at: usize, count: usize) -> u64
     low(word >> at, count)
 }
 
-/// The word with `count` bits from a place on set to the low bits of a number.
+/// The word with its `count` bits from bit `at` on set to the low bits of `bits`.
 fn replaced(word: u64, at: usize, count: usize, bits: u64) -> u64
     requires at { at < 64 }
     requires count { at + count ≤ 64 }
@@ -64,7 +64,7 @@ fn replaced(word: u64, at: usize, count: usize, bits: u64) -> u64
     word ^ low(word >> at ^ bits, count) << at
 }
 
-/// The word in which each of `count` bits from a place on is 1 that was 1 or for which a number has a 1.
+/// The word with the low `count` bits of `bits` ORed into it from bit `at` on.
 fn gained(word: u64, at: usize, count: usize, bits: u64) -> u64
     requires at { at < 64 }
     requires count { at + count ≤ 64 }
@@ -73,7 +73,7 @@ fn gained(word: u64, at: usize, count: usize, bits: u64) -> u64
     word | low(bits, count) << at
 }
 
-/// The number that has `count` bits from a position on. The first is the bit of value 1.
+/// `count` bits from a position on, as a number. The first one is its lowest bit.
 pub fn take_word(words: &[u64], position: usize, count: usize) -> u64
     requires count { count ≤ 64 }
     requires words { position + count < 64 * length words.now }
@@ -89,7 +89,7 @@ pub fn take_word(words: &[u64], position: usize, count: usize) -> u64
     }
 }
 
-/// Sets `count` bits from a position on to the low bits of a number. The first gets the bit of value 1.
+/// Sets `count` bits from a position on to the low bits of `bits`. The first one gets the lowest bit.
 pub fn put_word(words: &mut [u64], position: usize, count: usize, bits: u64)
     requires count { count ≤ 64 }
     requires words { position + count < 64 * length words.old }
@@ -106,7 +106,7 @@ pub fn put_word(words: &mut [u64], position: usize, count: usize, bits: u64)
     }
 }
 
-/// Sets to 1 each of `count` bits from a position on for which a number has a 1; the others stay. The first is the bit of value 1.
+/// ORs the low `count` bits of `bits` into the bits from a position on. The first one gets the lowest bit.
 pub fn gain_word(words: &mut [u64], position: usize, count: usize, bits: u64)
     requires count { count ≤ 64 }
     requires words { position + count < 64 * length words.old }
@@ -123,7 +123,7 @@ pub fn gain_word(words: &mut [u64], position: usize, count: usize, bits: u64)
     }
 }
 
-/// Sets the eight bits from a position on to those of a byte, the most significant first.
+/// Sets the eight bits from a position on to the bits of a byte, the most significant first.
 pub fn put_byte(words: &mut [u64], position: usize, byte: u8)
     requires { position + 8 < 64 * length words.old }
     ensures { packed words.new ≡ placed position (byte_bits byte) (packed words.old) }
@@ -139,7 +139,7 @@ pub fn take_byte(words: &[u64], position: usize) -> u8
     turned(take_word(words, position, 8) as u8)
 }
 
-/// The number of the bits of eight bytes, the first the bit of value 1.
+/// The word of the bits of eight bytes: the first bit of the first byte is its lowest bit.
 fn word_of_bytes(bytes: &[u8]) -> u64
     requires { length bytes.now ≡ 8 }
     ensures { word_bits 64 result ≡ bits_of bytes.now }
@@ -149,14 +149,14 @@ fn word_of_bytes(bytes: &[u8]) -> u64
     ]))
 }
 
-/// The eight bytes of the bits of a word, its bit of value 1 the first.
+/// The eight bytes of the bits of a word, its lowest bit first.
 fn bytes_of_word(word: u64) -> [u8; 8]
     ensures { result ≡ bytes_of 8 (word_bits 64 word) }
 {
     reversed(word).to_be_bytes()
 }
 
-/// Sets the bits from a position on to those of the bytes, eight bytes at once.
+/// Sets the bits from a position on to the bits of the bytes, eight bytes at once.
 fn put_eights(words: &mut [u64], position: usize, bytes: &[u8])
     requires whole { length bytes.now % 8 ≡ 0 }
     requires words { position + 8 * length bytes.now < 64 * length words.old }
@@ -169,7 +169,7 @@ fn put_eights(words: &mut [u64], position: usize, bytes: &[u8])
     }
 }
 
-/// Sets the bits from a position on to those of the bytes, one byte after the other.
+/// Sets the bits from a position on to the bits of the bytes, one byte after the other.
 fn put_each(words: &mut [u64], position: usize, bytes: &[u8])
     requires words { position + 8 * length bytes.now < 64 * length words.old }
     requires fits { position + 8 * length bytes.now < 2 ^ 64 }
@@ -180,7 +180,7 @@ fn put_each(words: &mut [u64], position: usize, bytes: &[u8])
     }
 }
 
-/// Sets the bits from a position on to those of the bytes.
+/// Sets the bits from a position on to the bits of the bytes.
 pub fn put_bytes(words: &mut [u64], position: usize, bytes: &[u8])
     requires words { position + 8 * length bytes.now < 64 * length words.old }
     requires fits { position + 8 * length bytes.now < 2 ^ 64 }
@@ -191,7 +191,7 @@ pub fn put_bytes(words: &mut [u64], position: usize, bytes: &[u8])
     put_each(words, position + 8 * whole, &bytes[whole..]);
 }
 
-/// Sets eight bytes from a place on.
+/// Sets eight bytes from index `at` on.
 fn set_eight(bytes: &mut [u8], at: usize, eight: [u8; 8])
     requires { at + 8 ≤ length bytes.old }
     ensures { bytes.new ≡ placed at eight bytes.old }
@@ -199,7 +199,7 @@ fn set_eight(bytes: &mut [u8], at: usize, eight: [u8; 8])
     bytes[at..at + 8].copy_from_slice(&eight);
 }
 
-/// Fills the bytes, up to the last eight whole ones, with the bits from a position on.
+/// Fills all whole groups of eight bytes with the bits from a position on.
 fn take_eights(words: &[u64], position: usize, bytes: &mut [u8])
     requires words { position + 8 * length bytes.old < 64 * length words.now }
     requires fits { position + 8 * length bytes.old < 2 ^ 64 }
@@ -211,7 +211,7 @@ fn take_eights(words: &[u64], position: usize, bytes: &mut [u8])
     }
 }
 
-/// Fills the bytes from one on with the bits that stand there, where those before it are filled.
+/// Fills the bytes from index `first` on with their bits, if the bytes before it are filled.
 fn take_each(words: &[u64], position: usize, bytes: &mut [u8], first: usize)
     requires first { first ≤ length bytes.old }
     requires filled { take first bytes.old ≡ bytes_of first (drop position (packed words.now)) }

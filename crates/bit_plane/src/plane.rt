@@ -1,4 +1,4 @@
-// A plane that keeps its bits in words.
+// A plane that keeps its bits in words of 64 bits.
 ghost use Rattle.std.specs.Prelude.{◌≡◌, ◌+◌, ◌*◌, ◌/◌, ◌^◌, ◌<◌, vec_len};
 ghost use Rattle.bit_plane.specs.inside.Packed.{IsClearFrom};
 
@@ -8,7 +8,7 @@ use std::alloc::{AllocError, Global};
 
 /// `H` rows of `W` bits, one row after the other in words of sixty-four bits.
 ///
-/// Position p is the bit of value 2^(p % 64) in word p / 64. The bits past the last position are 0.
+/// Position p is the bit of value 2^(p % 64) in word p / 64. The bits after the last position are 0.
 #[derive(Drop)]
 pub struct Plane<const W: usize, const H: usize> {
     words: Vec<u64>,

@@ -1,9 +1,9 @@
-// Words with their bits in the other order.
+// Words with their bits in reverse order.
 ghost use Rattle.std.specs.Prelude.{◌≡◌, ℕ, ◌-◌, ◌<◌};
 ghost use Rattle.std.specs.Int.{bit_at};
 ghost use Rattle.bit_plane.specs.inside.Pairs.{ArePairs, partner};
 
-/// A word with its bits turned round, the last first.
+/// A word with its bits in reverse order.
 pub fn reversed(word: u64) -> u64
     ensures { (k : ℕ) → k < 64 → bit_at result k ≡ bit_at word (63 - k) }
 {
@@ -15,7 +15,7 @@ pub fn reversed(word: u64) -> u64
     exchanged(sixteens, 32, 0x0000_0000_ffff_ffff)
 }
 
-/// A word with each two bits exchanged that are so many places apart; the mask has the lower one of each two.
+/// A word in which the two bits of each pair are exchanged, which are `shift` places apart; the mask has the lower one of each pair.
 fn exchanged(word: u64, shift: u32, mask: u64) -> u64
     requires shift { shift < 64 }
     requires pairs { ArePairs shift mask }

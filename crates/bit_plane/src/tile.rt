@@ -67,7 +67,7 @@ impl<const C: usize> Tile<C> {
         self.words[row]
     }
 
-    /// Sets the bits of a row to those of a word.
+    /// Sets the bits of a row to the low bits of a word.
     pub fn set_row(&mut self, row: usize, bits: u64)
         requires row { row < 16 }
         requires bits { bits < 2 ^ C }

@@ -1,4 +1,4 @@
--- The first text behind the layout file, and the answer that is made of it.
+-- The first text after the layout file, and the answer for it.
 use Rattle.std.proofs.Common.{◌≡◌, ◌∙◌, ◌∷◌, ◌++◌, [], Bool, true, false, ℕ, List, length, drop, refl, sym, ap, subst}
 use Rattle.std.specs.Prelude.{get_or, Result, Ok}
 use Rattle.layout_file.specs.declared.layouts.Layouts.{Layouts}
@@ -9,7 +9,7 @@ use Rattle.tool_parts.specs.Layouts.{answer_under, behind_layout, layouts_for}
 use Rattle.tool_parts.specs.Taking.{texts_behind}
 use Rattle.bitstream_tools.specs.Reading.{ReadsFirst}
 
--- the first text behind the layout file, by its place among all
+-- the first text after the layout file, by its index among all texts
 first_behind : (named : Bool) (texts : List (List ℕ)) → get_or (texts_behind named texts) 0 [] ≡ get_or texts (behind_layout named 0) []
 first_behind false texts = refl
 first_behind true [] = refl
@@ -21,7 +21,7 @@ first_read : {R : Type 0} (stands : Layouts → List ℕ → R → Type 0) (layo
 first_read stands layouts texts reader true reads = subst (λ (all : List (List ℕ)). stands layouts (get_or all 0 []) reader) (sym reads.0) reads.1
 first_read stands layouts texts reader false reads = subst (λ (all : List (List ℕ)). stands layouts (get_or all 0 []) reader) (sym reads.2) reads.3
 
--- the text that is open ends: it is the first, or passed over behind the first
+-- the text that is open ends: it is the first, or one after the first, which is skipped
 pub first_closed : {R : Type 0} (stands : Layouts → List ℕ → R → Type 0) (layouts : Layouts) (texts : List (List ℕ)) (bytes : List ℕ) (reader : R) (is_open : Bool) → ReadsFirst stands layouts texts bytes reader is_open
     → ReadsFirst stands layouts (texts ++ bytes ∷ []) [] reader false
 first_closed stands layouts texts bytes reader true reads = (bytes, [], ap (λ (all : List (List ℕ)). all ++ bytes ∷ []) reads.0, reads.1)

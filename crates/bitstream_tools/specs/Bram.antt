@@ -1,4 +1,5 @@
--- `icebram`: a text with other contents of its RAMs.
+-- `icebram`: replaces the contents of RAMs in a text. FROM and TO are arguments of Project IceStorm's `icebram` (its usage text),
+-- `--by-mode` is this project's own.
 use Rattle.std.specs.Prelude.{◌≡◌, ℕ, Bool, true, false, List, [], ◌∷◌, codes, get_or, Option, None, Some, option_map}
 use Rattle.clap.specs.Words.{App, Row, Text, first_of}
 use Rattle.place_search.specs.Places.{or_else}
@@ -20,16 +21,16 @@ use Rattle.bitstream_tools.specs.declared.bram.TheConstants.{ICEBRAM_HELP}
 use Rattle.bitstream_tools.specs.Faults.{bram_fault_text, hex_fault_text}
 use Rattle.bitstream_tools.specs.Pack.{text_limit}
 
--- ---- what is made of the two files of words and of the text
+-- ---- the answer for the two files of words and the text
 
--- why nothing is replaced: the first file is read before the second one, and both before the text
+-- why nothing is replaced: a fault of the first file goes before one of the second file, and that before one of the text
 abbrev pub why_not : List ℕ → List ℕ → List ℕ → Option (List ℕ)
 why_not from to text =
     or_else (option_map (hex_fault_text (codes "from")) (hex_fault_of from))
     (or_else (option_map (hex_fault_text (codes "to")) (hex_fault_of to))
     (option_map bram_fault_text (bram_fault text (contents_of from) (contents_of to))))
 
--- bytes, where there is no reason against them
+-- these bytes, or the reason against them, if there is one
 abbrev pub unless : Option (List ℕ) → List ℕ → Answer
 unless None bytes = Done bytes
 unless (Some why) bytes = Refused why
@@ -41,7 +42,7 @@ replaced_answer modes from to text =
 abbrev pub icebram_answer : ReadModes → List (List ℕ) → Answer
 icebram_answer modes texts = replaced_answer modes (get_or texts 0 []) (get_or texts 1 []) (get_or texts 2 [])
 
--- a stop tells that reason, or that there is no memory
+-- a stop tells that reason, or that memory is out
 abbrev pub TellsWhy : Option (List ℕ) → Stop → Type 0
 TellsWhy why (StopsRefused refusal) = why ≡ Some (refusal_text refusal)
 TellsWhy why (StopsUntaken refusal) = ⊥
@@ -58,7 +59,7 @@ icebram_usage = codes "icebram [--by-mode] FROM TO"
 abbrev pub icebram_command : App
 icebram_command = command icebram_name (long_flag (codes "by-mode") ∷ required (codes "from") ∷ required (codes "to") ∷ [])
 
--- `--by-mode` follows read modes
+-- with `--by-mode` the read mode of each RAM is followed
 abbrev pub modes_wanted : Bool → ReadModes
 modes_wanted false = Ignored
 modes_wanted true = Followed
@@ -72,7 +73,7 @@ replace_needs from to =
 abbrev pub replace_task : ReadModes → Text → Text → Task
 replace_task modes from to = record { tool_name = icebram_name; needs = replace_needs from to; target = None; answer = icebram_answer modes }
 
--- both files have to be named
+-- both files must be named
 abbrev pub icebram_task_of : Bool → Option Text → Option Text → Task
 icebram_task_of by_mode (Some from) (Some to) = replace_task (modes_wanted by_mode) from to
 icebram_task_of by_mode (Some from) None = usage_error icebram_name icebram_usage
@@ -85,7 +86,7 @@ icebram_task_by rows = icebram_task_of (has_flag (codes "by-mode") rows) (first_
 abbrev pub icebram : Manual
 icebram = record { name = icebram_name; usage = icebram_usage; help = ICEBRAM_HELP.now; app = icebram_command; task = icebram_task_by }
 
--- what the arguments of `icebram` ask for, its help among that
+-- what the arguments of `icebram` ask for, which may be its help
 abbrev pub icebram_outcome : List Text → Task
 icebram_outcome args = outcome icebram args
 

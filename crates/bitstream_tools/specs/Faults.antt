@@ -1,4 +1,4 @@
--- What a tool says of a fault.
+-- The messages for faults of joining, of files of words and of replacing.
 use Rattle.std.specs.Prelude.{ℕ, List, ◌++◌, codes, decimal}
 use Rattle.asc_text.specs.declared.fault.AscFault.TheVariants.{At as TextAt, Memory as TextMemory}
 use Rattle.bram_replace.specs.declared.fault.HexFault.{HexFault}
@@ -19,7 +19,7 @@ multi_fault_text (PowerOn index) = codes "PowerOn " ++ decimal index
 multi_fault_text (Address index) = codes "Address " ++ decimal index
 multi_fault_text (OutOfMemory e) = codes "out of memory"
 
--- ---- a fault of memory arguments
+-- ---- a fault of files of words, and of replacing
 
 -- a fault of a file of words; the name says which file
 abbrev pub hex_fault_text : List ℕ → HexFault → List ℕ

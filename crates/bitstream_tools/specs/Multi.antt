@@ -1,4 +1,4 @@
--- `icemulti`: several bitstreams in one boot file.
+-- `icemulti`: joins several bitstreams to one boot file. The options are those of Project IceStorm's `icemulti` (its usage text).
 use Rattle.std.specs.Prelude.{ℕ, Bool, true, false, not, ◌&&◌, ◌==◌, List, [], ◌∷◌, codes, length, map, nat_le, if◌then◌else◌, Option, None, Some, option_map}
 use Rattle.clap.specs.Words.{App, Row, Text, first_of}
 use Rattle.text_lines.specs.Words.{number_of}
@@ -29,16 +29,16 @@ icemulti_command = command icemulti_name (
 
 -- ---- options
 
--- the number of one to three decimal digits
+-- the number that one to three decimal digits write
 unfoldable pub short_number : Text → Option ℕ
 short_number text = if nat_le (length text) 3 then number_of text else None
 
--- the number of an option that may be missing: nothing where it isn't written so
+-- the number of an option that may be missing (`Some None`); `None` if the value isn't one to three decimal digits
 abbrev pub number_given : Option Text → Option (Option ℕ)
 number_given None = Some None
 number_given (Some text) = option_map Some (short_number text)
 
--- `-a` aligns all images except the first, `-A` the first too, and only one of them may be there
+-- `-a` aligns all images except the first, `-A` the first too; both together aren't taken
 abbrev pub aligned_by : Options → Option (Option ℕ) → Option (Option ℕ) → Option Options
 aligned_by options (Some None) (Some None) = Some options
 aligned_by options (Some (Some n)) (Some None) = Some (record options { align = Some n })
@@ -47,7 +47,7 @@ aligned_by options (Some (Some m)) (Some (Some n)) = None
 aligned_by options None all = None
 aligned_by options (Some align) None = None
 
--- `-p` chooses the image of power-on; with `-c` the pins do, and it may only be 0
+-- `-p` chooses the image at power-on; with `-c` the pins choose it, and `-p` may only be 0
 abbrev pub powered_by : Bool → Option (Option ℕ) → Option Options
 powered_by cold None = None
 powered_by cold (Some None) = Some (record { cold = cold; power_on = 0; align = None; align_first = false })
@@ -73,7 +73,7 @@ join_answer options images = joined images options (join_fault images options)
 abbrev pub image_need : Text → Need
 image_need name = record { name = Some name; limit = text_limit }
 
--- what the number of images and the options refuse by themselves is refused before anything is read
+-- if the number of images or the options alone are a fault, it is refused before anything is read
 abbrev pub join_task : List Need → Options → Option Text → Option MultiFault → Task
 join_task images options output None = record { tool_name = icemulti_name; needs = images; target = output; answer = join_answer options }
 join_task images options output (Some fault) = at_once icemulti_name None (Refused (multi_fault_text fault))
@@ -89,7 +89,7 @@ icemulti_task_by rows = icemulti_task_of (map image_need (values_of (codes "imag
 abbrev pub icemulti : Manual
 icemulti = record { name = icemulti_name; usage = icemulti_usage; help = ICEMULTI_HELP.now; app = icemulti_command; task = icemulti_task_by }
 
--- what the arguments of `icemulti` ask for, its help among that
+-- what the arguments of `icemulti` ask for, which may be its help
 abbrev pub icemulti_outcome : List Text → Task
 icemulti_outcome args = outcome icemulti args
 
@@ -98,7 +98,7 @@ abbrev pub icemulti_task_for : Option MultiRequest → Task
 icemulti_task_for None = usage_error icemulti_name icemulti_usage
 icemulti_task_for (Some request) = icemulti_task_of (map need_of request.loads.items) (text_of request.output) (Some request.options)
 
--- each image is a file that may be loaded
+-- the images of a request are files that may be loaded
 abbrev pub LoadsFiles : Option MultiRequest → Type 0
 LoadsFiles None = Unit {0}
 LoadsFiles (Some request) = IsSound (map need_of request.loads.items)

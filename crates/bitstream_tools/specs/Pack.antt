@@ -1,4 +1,5 @@
--- `icepack`: the bitstream of a text.
+-- `icepack`: packs a text into a bitstream. `-u` and `-s` are options of Project IceStorm's `icepack` (its usage text), `--layout` is this
+-- project's own.
 use Rattle.std.specs.Prelude.{ℕ, Bool, true, false, List, [], ◌∷◌, codes, get_or, is_some, Option, None, Some}
 use Rattle.clap.specs.Words.{App, Row, Text, first_of}
 use Rattle.layout_file.specs.declared.layouts.Layouts.{Layouts}
@@ -18,16 +19,16 @@ use Rattle.tool_parts.specs.Faults.{asc_fault_text}
 use Rattle.tool_parts.specs.Layouts.{answer_under, behind_layout, layouts_for, with_layout}
 use Rattle.bitstream_tools.specs.Unpack.{unpack_task}
 
--- the most bytes of a text
+-- the most bytes that a text may have
 abbrev pub text_limit : ℕ
 text_limit = 16777216
 
--- the bytes of what a text configures; each text without a fault configures something
+-- the bytes of the image that a text configures; each text without a fault configures one
 abbrev pub bytes_of : Bool → Option Configuration → List ℕ
 bytes_of no_sleep None = []
 bytes_of no_sleep (Some image) = canonical_bytes (awake_where no_sleep image)
 
--- the bitstream of a text by what it configures, or its fault
+-- the bitstream of a text, by the image that it configures, or its fault
 abbrev pub packed : Bool → Option Configuration → Option Fault → Answer
 packed no_sleep image None = Done (bytes_of no_sleep image)
 packed no_sleep image (Some fault) = Refused (asc_fault_text fault.line fault.tile fault.cause)
@@ -36,7 +37,7 @@ packed no_sleep image (Some fault) = Refused (asc_fault_text fault.line fault.ti
 abbrev pub packed_under : Bool → List ℕ → Layouts → Answer
 packed_under no_sleep text layouts = packed no_sleep (asc_image_of layouts text) (asc_fault_of layouts text)
 
--- `named` tells whether a layout file was loaded before the text
+-- the answer for the texts that were loaded: the layout file if it is `named`, and the text
 abbrev pub pack_answer : Bool → Bool → List (List ℕ) → Answer
 pack_answer named no_sleep texts = answer_under (layouts_for named texts) (packed_under no_sleep (get_or texts (behind_layout named 0) []))
 
@@ -49,7 +50,7 @@ icepack_usage = codes "icepack [-u] [-s] [--layout FILE] [INPUT [OUTPUT]]"
 abbrev pub icepack_command : App
 icepack_command = command icepack_name (flag (codes "unpack") 117 ∷ flag (codes "no_sleep") 115 ∷ long_option (codes "layout") ∷ positional (codes "input") ∷ positional (codes "output") ∷ [])
 
--- a text to a bitstream
+-- the task of packing a text into a bitstream
 abbrev pub pack_task : Bool → Option Text → Option Text → Option Text → Task
 pack_task no_sleep layout input output = record {
   tool_name = icepack_name;
@@ -58,7 +59,7 @@ pack_task no_sleep layout input output = record {
   answer = pack_answer (is_some layout) no_sleep;
 }
 
--- `-u` unpacks, and then nothing may be set
+-- with `-u` it unpacks, and then `-s` may not be there
 abbrev pub icepack_task_of : Bool → Bool → Option Text → Option Text → Option Text → Task
 icepack_task_of false no_sleep layout input output = pack_task no_sleep layout input output
 icepack_task_of true false layout input output = unpack_task icepack_name layout input output
@@ -71,7 +72,7 @@ icepack_task_by rows = icepack_task_of (has_flag (codes "unpack") rows) (has_fla
 abbrev pub icepack : Manual
 icepack = record { name = icepack_name; usage = icepack_usage; help = ICEPACK_HELP.now; app = icepack_command; task = icepack_task_by }
 
--- what the arguments of `icepack` ask for, its help among that
+-- what the arguments of `icepack` ask for, which may be its help
 abbrev pub icepack_outcome : List Text → Task
 icepack_outcome args = outcome icepack args
 

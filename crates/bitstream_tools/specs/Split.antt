@@ -1,4 +1,4 @@
--- `icesplit`: the images of a boot file.
+-- `icesplit`: tells the images of a boot file, or takes one out.
 use Rattle.std.specs.Prelude.{ℕ, Bool, true, false, List, [], ◌∷◌, ◌++◌, codes, decimal, get_or, length, slice_get, Option, None, Some, Result, Ok, Err}
 use Rattle.clap.specs.Words.{App, Row, Text, first_of}
 use Rattle.place_search.specs.Places.{gathered_below}
@@ -16,18 +16,18 @@ use Rattle.bitstream_tools.specs.declared.split.TheConstants.{ICESPLIT_HELP}
 use Rattle.bitstream_tools.specs.Multi.{number_given}
 use Rattle.bitstream_tools.specs.SplitFaults.{split_fault_text}
 
--- the most bytes of a boot file
+-- the most bytes that a boot file may have
 abbrev pub boot_limit : ℕ
 boot_limit = 67108864
 
 -- ---- the lines
 
--- whether the pins choose the image at a cold boot
+-- the line that tells whether the pins choose the image at a cold boot
 abbrev pub cold_line : Bool → List ℕ
 cold_line true = codes "cold yes" ++ 10 ∷ []
 cold_line false = codes "cold no" ++ 10 ∷ []
 
--- the image that is booted at power-on
+-- the line with the index of the image that is booted at power-on
 abbrev pub power_line : ℕ → List ℕ
 power_line index = codes "power " ++ decimal index ++ 10 ∷ []
 
@@ -35,7 +35,7 @@ abbrev pub image_line : ℕ → PlacedImage → List ℕ
 image_line index placed =
     codes "image " ++ decimal index ++ codes " at " ++ decimal placed.address ++ codes " device " ++ device_word placed.image.layout.device ++ 10 ∷ []
 
--- the line of an image that is there
+-- the line of an image; nothing if there is none of this index
 abbrev pub image_line_at : ℕ → Option PlacedImage → List ℕ
 image_line_at index None = []
 image_line_at index (Some placed) = image_line index placed
@@ -49,17 +49,17 @@ listed boot = cold_line boot.cold ++ power_line boot.power ++ image_lines boot.i
 
 -- ---- the answer
 
--- the canonical bytes of an image that is there
+-- the canonical bytes of an image; a refusal if there is none of this index
 abbrev pub extracted : ℕ → Option PlacedImage → Answer
 extracted index None = Refused (codes "NoImage " ++ decimal index)
 extracted index (Some placed) = Done (canonical_bytes placed.image)
 
--- with a number the image that has it, else the lines
+-- the image of a number if one is given, and else the lines
 abbrev pub boot_answer : Option ℕ → Boot → Answer
 boot_answer None boot = Done (listed boot)
 boot_answer (Some index) boot = extracted index (slice_get boot.images index)
 
--- a fault of the boot file goes before an image that isn't there
+-- a fault of the boot file goes before an image that is missing
 abbrev pub split_answer : Option ℕ → Result Boot SplitFault → Answer
 split_answer wanted (Ok boot) = boot_answer wanted boot
 split_answer wanted (Err fault) = Refused (split_fault_text fault)
@@ -85,7 +85,7 @@ split_needs boot = record { name = Some boot; limit = boot_limit } ∷ []
 abbrev pub split_task : Option ℕ → Text → Option Text → Task
 split_task wanted boot output = record { tool_name = icesplit_name; needs = split_needs boot; target = output; answer = icesplit_answer wanted }
 
--- the number has to be written as one, and there has to be a boot file
+-- the number, if it is there, must be one, and there must be a boot file
 abbrev pub icesplit_task_of : Option (Option ℕ) → Option Text → Option Text → Task
 icesplit_task_of (Some wanted) (Some boot) output = split_task wanted boot output
 icesplit_task_of (Some wanted) None output = usage_error icesplit_name icesplit_usage
@@ -98,7 +98,7 @@ icesplit_task_by rows = icesplit_task_of (number_given (first_of (codes "image")
 abbrev pub icesplit : Manual
 icesplit = record { name = icesplit_name; usage = icesplit_usage; help = ICESPLIT_HELP.now; app = icesplit_command; task = icesplit_task_by }
 
--- what the arguments of `icesplit` ask for, its help among that
+-- what the arguments of `icesplit` ask for, which may be its help
 abbrev pub icesplit_outcome : List Text → Task
 icesplit_outcome args = outcome icesplit args
 

@@ -1,4 +1,4 @@
--- What is said of a fault of a boot file.
+-- The messages for faults of a boot file.
 use Rattle.std.specs.Prelude.{◌≡◌, ℕ, List, ◌++◌, codes, decimal, Option, Some}
 use Rattle.bin_stream.specs.declared.fault.BinFault.TheVariants.{At, Memory as StreamMemory}
 use Rattle.boot_file.specs.declared.split_fault.SplitFault.{SplitFault}
@@ -17,7 +17,7 @@ split_fault_text (Image index (At offset cause)) = codes "image " ++ decimal ind
 split_fault_text (Image index (StreamMemory e)) = codes "out of memory"
 split_fault_text (Memory e) = codes "out of memory"
 
--- a stop tells the fault that there is
+-- a stop tells the fault that was found, or that memory is out
 abbrev pub StopsSplit : Option SplitFault → Stop → Type 0
 StopsSplit found (Refused refusal) = (fault : SplitFault) × (found ≡ Some fault) × (refusal_text refusal ≡ split_fault_text fault)
 StopsSplit found (UsageError refusal) = ⊥

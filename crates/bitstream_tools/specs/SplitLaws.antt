@@ -1,4 +1,4 @@
--- What holds of the command line of `icesplit`: its command is simple, and each task is told under its name.
+-- Laws of the command line of `icesplit`: its command is simple, as `clap`'s statement needs it, and each task has its name.
 use Rattle.std.specs.Prelude.{◌≡◌, ℕ, true, List, codes, refl, Option, None, Some}
 use Rattle.clap.specs.Words.{Row, Text, first_of, is_simple_and_free}
 use Rattle.clap.proofs.OnLiterals.{clap_on_literals}

@@ -1,4 +1,4 @@
--- `iceunpack`, and what `icepack -u` does too: the text of a bitstream.
+-- `iceunpack`, and `icepack -u`, which does the same: unpacks a bitstream to a text.
 use Rattle.std.specs.Prelude.{ℕ, Bool, List, [], ◌∷◌, codes, get_or, is_some, Option, Result, Ok, Err}
 use Rattle.clap.specs.Words.{App, Row, Text, first_of}
 use Rattle.layout_file.specs.declared.layouts.Layouts.{Layouts}
@@ -13,20 +13,20 @@ use Rattle.bitstream_tools.specs.declared.unpack.TheConstants.{ICEUNPACK_HELP}
 use Rattle.tool_parts.specs.Faults.{bin_fault_text}
 use Rattle.tool_parts.specs.Layouts.{answer_under, behind_layout, layouts_for, with_layout}
 
--- the most bytes of a bitstream
+-- the most bytes that a bitstream may have
 abbrev pub stream_limit : ℕ
 stream_limit = 4194304
 
--- the canonical text of what a bitstream spells, or its fault
+-- the canonical text of the image that a bitstream spells, or its fault
 abbrev pub unpacked : Result Configuration Fault → Answer
 unpacked (Ok image) = Done (asc_text_of image)
 unpacked (Err fault) = Refused (bin_fault_text fault.offset fault.cause)
 
--- the same under layouts
+-- the canonical text of a bitstream under layouts, or its fault
 abbrev pub unpacked_under : List ℕ → Layouts → Answer
 unpacked_under bytes layouts = unpacked (bin_read_of layouts bytes)
 
--- `named` tells whether a layout file was loaded before the bitstream
+-- the answer for the texts that were loaded: the layout file if it is `named`, and the bitstream
 abbrev pub unpack_answer : Bool → List (List ℕ) → Answer
 unpack_answer named texts = answer_under (layouts_for named texts) (unpacked_under (get_or texts (behind_layout named 0) []))
 
@@ -39,7 +39,7 @@ iceunpack_usage = codes "iceunpack [--layout FILE] [INPUT [OUTPUT]]"
 abbrev pub iceunpack_command : App
 iceunpack_command = command iceunpack_name (long_option (codes "layout") ∷ positional (codes "input") ∷ positional (codes "output") ∷ [])
 
--- a bitstream to a text
+-- the task of unpacking a bitstream to a text
 abbrev pub unpack_task : List ℕ → Option Text → Option Text → Option Text → Task
 unpack_task tool_name layout input output = record {
   tool_name = tool_name;
@@ -55,6 +55,6 @@ iceunpack_task_by rows = unpack_task iceunpack_name (first_of (codes "layout") r
 abbrev pub iceunpack : Manual
 iceunpack = record { name = iceunpack_name; usage = iceunpack_usage; help = ICEUNPACK_HELP.now; app = iceunpack_command; task = iceunpack_task_by }
 
--- what the arguments of `iceunpack` ask for, its help among that
+-- what the arguments of `iceunpack` ask for, which may be its help
 abbrev pub iceunpack_outcome : List Text → Task
 iceunpack_outcome args = outcome iceunpack args

@@ -1,4 +1,4 @@
-// The lines that tell what a boot file has.
+// The lines that tell what is in a boot file.
 ghost use Rattle.std.specs.Prelude.{◌≡◌, ◌++◌, map, IfOk, OnOk};
 ghost use Rattle.boot_file.specs.Meaning.{boot_of, placed_of};
 ghost use Rattle.bitstream_tools.specs.Split.{cold_line, image_line, image_lines, listed, power_line};
@@ -19,7 +19,7 @@ pub(crate) fn listed(alloc: Global, file: &BootFile) -> Result<Vec<u8>, AllocErr
     Ok(text)
 }
 
-// Appends whether the pins choose the image at a cold boot.
+// Appends the line that tells whether the pins choose the image at a cold boot.
 fn append_cold(text: &mut Vec<u8>, cold: bool) -> Result<(), AllocError>
     ensures { OnOk result (text.new.items ≡ text.old.items ++ cold_line cold) }
 {
@@ -30,7 +30,7 @@ fn append_cold(text: &mut Vec<u8>, cold: bool) -> Result<(), AllocError>
     }
 }
 
-// Appends the index of the image that is booted at power-on.
+// Appends the line with the index of the image that is booted at power-on.
 fn append_power(text: &mut Vec<u8>, index: u32) -> Result<(), AllocError>
     ensures { OnOk result (text.new.items ≡ text.old.items ++ power_line index) }
 {
@@ -50,7 +50,7 @@ fn append_images(text: &mut Vec<u8>, images: &[BootImage]) -> Result<(), AllocEr
     Ok(())
 }
 
-// Appends the line of an image.
+// Appends the line of an image: its index, its address and its device.
 fn append_image(text: &mut Vec<u8>, index: usize, placed: &BootImage) -> Result<(), AllocError>
     ensures { OnOk result (text.new.items ≡ text.old.items ++ image_line index (placed_of placed.now)) }
 {

@@ -1,4 +1,4 @@
-// `icebram`: a text with other contents of its RAMs.
+// `icebram`: replaces the contents of RAMs in a text.
 ghost use Rattle.std.specs.Prelude.{◌≡◌, None, map, option_map, string_bytes, IfOk, OnOk, IfErr};
 ghost use Rattle.clap.specs.Words.{app_of, found_of, rows_of};
 ghost use Rattle.text_lines.specs.Lines.{lines_of};
@@ -84,7 +84,7 @@ impl Tool for Replacing {
     }
 }
 
-// The words of a file of that name. More bytes than its limit are never loaded.
+// The words of a file, by its name. The file is never longer than its limit, since it wouldn't be loaded.
 fn words_of(alloc: Global, name: &'static str, bytes: &[u8]) -> Result<HexFile, Stop<'static>>
     ensures words { IfOk result (λ words. words ≡ contents_of bytes.now) }
     ensures accepted { OnOk result (hex_fault_of bytes.now ≡ None) }
@@ -100,7 +100,7 @@ fn words_of(alloc: Global, name: &'static str, bytes: &[u8]) -> Result<HexFile, 
     }
 }
 
-// The text with the RAMs replaced.
+// The text with the contents of its RAMs replaced.
 fn replaced(
     alloc: Global,
     modes: ReadModes,
@@ -119,7 +119,8 @@ fn replaced(
     }
 }
 
-// The text with the RAMs replaced, from the bytes of the two files.
+// The text with the contents of its RAMs replaced, from the bytes of the two files of words. A fault of the first file goes before one of
+// the second file, and that before one of the text.
 fn replaced_by(
     alloc: Global,
     modes: ReadModes,
@@ -139,7 +140,7 @@ fn replaced_by(
     }
 }
 
-// What the command line asks for: the files of words, and whether read modes are followed.
+// What the arguments ask for: the files of words, and whether read modes are followed.
 #[derive(Clone, Copy)]
 pub(crate) struct Request<'a> {
     modes: ReadModes,
@@ -147,7 +148,7 @@ pub(crate) struct Request<'a> {
     to: &'a str,
 }
 
-// Whether read modes are followed.
+// Read modes are followed with `--by-mode`, and ignored without it.
 fn modes_wanted(by_mode: bool) -> ReadModes
     ensures { result ≡ modes_wanted by_mode }
 {
@@ -157,7 +158,7 @@ fn modes_wanted(by_mode: bool) -> ReadModes
     }
 }
 
-// The request, where both files of words are named.
+// The request, if both files of words are named.
 fn wanted<'a>(by_mode: bool, from: Option<&'a str>, to: Option<&'a str>) -> Option<Request<'a>>
     ensures { icebram_task_for result ≡ icebram_task_of by_mode (text_of from.entry) (text_of to.entry) }
 {
@@ -178,7 +179,7 @@ fn command<'a>(alloc: Global) -> Result<Command<'a>, AllocError>
     with(command, required(alloc, "to"))
 }
 
-// What was found in the arguments.
+// The request of the arguments, or `None` if they aren't taken.
 fn request_in<'a>(matches: &ArgMatches<'a>) -> Option<Request<'a>>
     ensures { icebram_task_for result ≡ icebram_task_by (rows_of (found_of matches.now)) }
 {
@@ -186,7 +187,7 @@ fn request_in<'a>(matches: &ArgMatches<'a>) -> Option<Request<'a>>
     wanted(by_mode, value(matches, "from"), value(matches, "to"))
 }
 
-// Replaces from standard input to standard output.
+// Does a request: the text comes from standard input, and goes to standard output.
 fn replace_between<H: Host>(alloc: Global, request: Request<'_>, host: &mut H) -> u8
     ensures { Does H.outside (replace_task request.entry.modes request.entry.from.now request.entry.to.now) result (H.scene host.old) (H.scene host.new) }
 {
@@ -252,7 +253,7 @@ impl CommandLine for Icebram {
     ghost speaks = { icebram-speaks };
 }
 
-/// Runs `icebram` with these arguments, of which the first is its name.
+/// Runs `icebram` with these arguments, the first of which is its name, and answers the exit status.
 pub fn run_icebram<H: Host>(alloc: Global, args: &[String], host: &mut H) -> u8
     ensures { Does H.outside (icebram_outcome (map string_bytes args.now)) result (H.scene host.old) (H.scene host.new) }
 {

@@ -1,4 +1,4 @@
-// What a tool says of a fault.
+// The messages for faults of joining, of files of words and of replacing.
 ghost use Rattle.std.specs.Prelude.{◌≡◌, ◌++◌};
 ghost use Rattle.tool_run.specs.Lines.{phrase_text, refusal_text};
 ghost use Rattle.bitstream_tools.specs.Faults.{bram_fault_text, hex_fault_text, multi_fault_text};
@@ -9,7 +9,7 @@ use bram_replace::{BramFault, HexFault};
 use tool_parts::{asc_refusal, refusal, whole};
 use tool_run::{Phrase, Refusal, decimal, text};
 
-/// Why images aren't joined.
+/// The refusal to join images with this fault.
 pub(crate) fn multi_refusal(fault: MultiFault) -> Refusal<'static>
     ensures { refusal_text result ≡ multi_fault_text fault }
 {
@@ -24,7 +24,7 @@ pub(crate) fn multi_refusal(fault: MultiFault) -> Refusal<'static>
     refusal(phrase, text(""))
 }
 
-// A refusal of a file of that name: where, and the cause.
+// A refusal of a file: its name, the place in it, and the cause.
 fn file_refusal(name: &'static str, place: Phrase<'static>, cause: &'static str) -> Refusal<'static>
     ensures { refusal_text result ≡ name.now ++ phrase_text place.entry ++ cause.now }
 {
@@ -36,7 +36,7 @@ fn file_refusal(name: &'static str, place: Phrase<'static>, cause: &'static str)
     }
 }
 
-/// Why a file of words of that name isn't read.
+/// The refusal of a file of words, by its name.
 pub(crate) fn hex_refusal(name: &'static str, fault: HexFault) -> Refusal<'static>
     ensures { refusal_text result ≡ hex_fault_text name.now fault }
 {
@@ -48,7 +48,7 @@ pub(crate) fn hex_refusal(name: &'static str, fault: HexFault) -> Refusal<'stati
     }
 }
 
-/// Why the contents of RAMs aren't replaced.
+/// The refusal to replace the contents of RAMs.
 pub(crate) fn bram_refusal(fault: BramFault) -> Refusal<'static>
     ensures { refusal_text result ≡ bram_fault_text fault }
 {

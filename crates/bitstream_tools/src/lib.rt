@@ -1,6 +1,6 @@
 //! The tools that read and write bitstreams and their texts: `icepack`, `iceunpack`, `icemulti`, `icesplit` and `icebram`.
 //!
-//! Each tool is one module, with its command line, its usage line and what it makes of what it loads. The function that
+//! Each tool is one module, with its command line, its usage line and its answer for what it loads. The function that
 //! runs it has one clause: a run does the task that the arguments ask for.
 #![tactic(auto)]
 

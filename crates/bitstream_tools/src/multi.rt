@@ -1,4 +1,4 @@
-// `icemulti`: several bitstreams in one boot file.
+// `icemulti`: joins several bitstreams to one boot file.
 ghost use Rattle.std.specs.Prelude.{◌≡◌, [], Some, map, option_map, string_bytes, unwrap_or, IfOk};
 ghost use Rattle.clap.specs.Words.{app_of, found_of, rows_of};
 ghost use Rattle.tool_run.specs.Needs.{IsSound, need_of, text_of};
@@ -65,7 +65,7 @@ impl Tool for Joining {
     }
 }
 
-// The number of one to three decimal digits.
+// The number that one to three decimal digits write.
 #[tactic(auto, unfolding(crate::specs::Multi::short_number))]
 fn short_number(text: &str) -> Option<u32>
     ensures { result ≡ short_number text.now }
@@ -77,7 +77,7 @@ fn short_number(text: &str) -> Option<u32>
     }
 }
 
-/// The number of an option that may be missing: nothing where it isn't written so.
+/// The number of an option that may be missing (`Some(None)`). `None` if the value isn't one to three decimal digits.
 pub(crate) fn number_given(text: Option<&str>) -> Option<Option<u32>>
     ensures { result ≡ number_given (text_of text.entry) }
 {
@@ -90,7 +90,7 @@ pub(crate) fn number_given(text: Option<&str>) -> Option<Option<u32>>
     }
 }
 
-// The options except the alignment: `-p` chooses the image of power-on; with `-c` the pins do, and it may only be 0.
+// The options except the alignment. `-p` chooses the image at power-on; with `-c` the pins choose it, and `-p` may only be 0.
 fn powered_by(cold: bool, power_on: Option<Option<u32>>) -> Option<Options>
     ensures { result ≡ powered_by cold power_on }
 {
@@ -112,7 +112,7 @@ fn powered_by(cold: bool, power_on: Option<Option<u32>>) -> Option<Options>
     })
 }
 
-// The options with the alignment: `-a` aligns all images except the first, `-A` the first too.
+// The options with the alignment: `-a` aligns all images except the first, `-A` the first too. Both together aren't taken.
 fn aligned_by(
     options: Options,
     align: Option<Option<u32>>,
@@ -207,7 +207,7 @@ fn options_in(matches: &ArgMatches<'_>) -> Option<Options>
     options_by(powered, align, all)
 }
 
-// The request that was found.
+// The request of the arguments, or `None` if they aren't taken.
 fn request_in<'a>(
     alloc: Global,
     matches: &ArgMatches<'a>,
@@ -226,7 +226,7 @@ fn request_in<'a>(
     }
 }
 
-// Joins the images of a request, or tells why not before anything is loaded.
+// Does a request. If the number of images or the options alone are a fault, it is refused before anything is loaded.
 fn join_images<H: Host>(alloc: Global, request: &MultiRequest<'_>, host: &mut H) -> u8
     requires { IsSound (map need_of request.now.loads.items) }
     ensures { Does H.outside (icemulti_task_for (Some request.now)) result (H.scene host.old) (H.scene host.new) }
@@ -292,7 +292,7 @@ impl CommandLine for Icemulti {
     ghost speaks = { icemulti-speaks };
 }
 
-/// Runs `icemulti` with these arguments, of which the first is its name.
+/// Runs `icemulti` with these arguments, the first of which is its name, and answers the exit status.
 pub fn run_icemulti<H: Host>(alloc: Global, args: &[String], host: &mut H) -> u8
     ensures { Does H.outside (icemulti_outcome (map string_bytes args.now)) result (H.scene host.old) (H.scene host.new) }
 {

@@ -1,4 +1,4 @@
-// `icepack`: the bitstream of a text.
+// `icepack`: packs a text into a bitstream.
 ghost use Rattle.std.specs.Prelude.{◌≡◌, Some, map, string_bytes, IfOk};
 ghost use Rattle.clap.specs.Words.{app_of, found_of, rows_of};
 ghost use Rattle.tool_run.specs.Needs.{text_of};
@@ -17,7 +17,7 @@ use tool_parts::{
 };
 use tool_run::{Host, Job, Load, PieceTool, Stop};
 
-/// The most bytes of a text.
+/// The most bytes that a text may have.
 pub(crate) const TEXT_LIMIT: usize = 16_777_216;
 
 /// The command line of `icepack`.
@@ -51,8 +51,8 @@ failed; 4 writing failed; 5 out of memory; 6 FILE or the input is longer than
 its limit.
 ";
 
-/// Packs the text that it takes, under the layouts of a file that it takes before where one is named. The flash stays awake
-/// where `no_sleep` is true, whatever the text says.
+/// Packs a text. If a layout file is named, it comes before the text, and the text is read under its layouts. If `no_sleep` is true, the
+/// flash stays awake, whatever the text says.
 #[derive(Clone, Copy, Debug, PartialEq, Eq)]
 pub(crate) struct Pack {
     /// Whether a layout file comes first.
@@ -97,7 +97,7 @@ impl PieceTool for Pack {
     }
 }
 
-// What the arguments ask for, where they are taken: to pack, or to unpack.
+// What the arguments ask for, if they are taken: to pack, or to unpack.
 #[derive(Clone, Copy)]
 pub(crate) enum Request<'a> {
     Pack { no_sleep: bool, names: Names<'a> },
@@ -116,7 +116,7 @@ fn command<'a>(alloc: Global) -> Result<Command<'a>, AllocError>
     with(command, positional(alloc, "output"))
 }
 
-// What the arguments ask for by what was found in them: `-u` unpacks, and then nothing may be set.
+// The request, from what was found in the arguments. With `-u` it is to unpack, and then `-s` may not be there.
 fn wanted<'a>(unpacks: bool, no_sleep: bool, names: Names<'a>) -> Option<Request<'a>>
     ensures { icepack_task_for result ≡ icepack_task_of unpacks no_sleep (text_of names.entry.layout) (text_of names.entry.input) (text_of names.entry.output) }
 {
@@ -127,7 +127,7 @@ fn wanted<'a>(unpacks: bool, no_sleep: bool, names: Names<'a>) -> Option<Request
     }
 }
 
-// What was found in the arguments asks for.
+// The request of the arguments, or `None` if they aren't taken.
 fn request_in<'a>(matches: &ArgMatches<'a>) -> Option<Request<'a>>
     ensures { icepack_task_for result ≡ icepack_task_by (rows_of (found_of matches.now)) }
 {
@@ -210,7 +210,24 @@ impl CommandLine for Icepack {
     ghost speaks = { icepack-speaks };
 }
 
-/// Runs `icepack` with these arguments, of which the first is its name.
+/// Runs `icepack` with these arguments, the first of which is its name, and answers the exit status: 0 if all was done, and else as
+/// `ICEPACK_HELP` says.
+///
+/// # Example
+/// ```ignore
+/// // Packs blink.asc into blink.bin. `rt` is the `HostRuntime` that `main` is given.
+/// let mut host = FilesAndStreams {
+///     files: DirFiles::new(&rt),
+///     input: StdSource::new(rt.stdin()),
+///     output: StdSink::new(rt.stdout()),
+///     errors: StdSink::new(rt.stderr()),
+/// };
+/// let mut args = Vec::new(rt.alloc());
+/// for word in ["icepack", "blink.asc", "blink.bin"] {
+///     args.push(String::from_str(rt.alloc(), word)?)?;
+/// }
+/// let status = run_icepack(rt.alloc(), &args, &mut host);
+/// ```
 pub fn run_icepack<H: Host>(alloc: Global, args: &[String], host: &mut H) -> u8
     ensures { Does H.outside (icepack_outcome (map string_bytes args.now)) result (H.scene host.old) (H.scene host.new) }
 {

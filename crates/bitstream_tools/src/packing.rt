@@ -1,4 +1,4 @@
-// A text that comes in pieces, packed.
+// Packs a text that comes in pieces.
 ghost use Rattle.std.specs.Prelude.{◌≡◌, [], ℕ, List, IfOk, IfErr};
 ghost use Rattle.tool_run.specs.Stops.{StopsWith};
 ghost use Rattle.tool_run.specs.Tasks.{Done};
@@ -15,8 +15,8 @@ use std::alloc::Global;
 use tool_parts::{Taking, asc_refusal};
 use tool_run::Stop;
 
-/// The bitstream of the text behind the layout file, or why there is none, after the last piece. The flash stays awake where
-/// `no_sleep` is true.
+/// The bitstream of the text that comes after the layout file, or why there is none. Called after the last piece. If `no_sleep` is
+/// true, the flash stays awake.
 pub(crate) fn packed_after(
     alloc: Global,
     named: bool,
@@ -34,7 +34,7 @@ pub(crate) fn packed_after(
     }
 }
 
-/// The bitstream of what was fed to a reader, or why there is none.
+/// The bitstream of the text that was fed to a reader, or why there is none.
 fn packed(alloc: Global, no_sleep: bool, reader: AscReader) -> Result<Vec<u8>, Stop<'static>>
     ensures bytes { IfOk result (λ made. (layouts : Layouts) (text : List ℕ) → StandsFor layouts text reader
         → packed_under no_sleep text layouts ≡ Done made.items) }

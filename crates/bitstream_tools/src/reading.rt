@@ -15,21 +15,21 @@ use std::alloc::Global;
 use tool_parts::{Taking, TextTaker};
 use tool_run::Stop;
 
-/// A reader of one text that comes in pieces. It keeps what it refuses.
+/// A reader of one text that comes in pieces. It keeps its refusal until the end.
 pub(crate) trait PieceReader: Drop {
-    /// Under these layouts it stands for this text.
+    /// Under these layouts it has read this text so far.
     ghost stands: { Layouts → List ℕ → Self → Type 0 };
 
     /// How many bytes were fed to it.
     ghost fed: { Self → ℕ };
 
-    /// A reader under the layouts, to which nothing was fed.
+    /// A reader under the layouts, to which nothing was fed yet.
     fn reading(alloc: Global, layouts: Layouts) -> Self
         requires { AreLayouts layouts }
         ensures stands { stands layouts [] result }
         ensures none { fed result ≡ 0 };
 
-    /// Reads a piece behind those before.
+    /// Reads the next piece.
     fn read_piece(&mut self, piece: &[u8])
         requires { fed self.old + length piece.now < 2 ^ 32 }
         ensures stands { (layouts : Layouts) (text : List ℕ) → stands layouts text self.old → stands layouts (text ++ piece.now) self.new }
@@ -49,7 +49,7 @@ impl PieceReader for AscReader {
     }
 
     fn read_piece(&mut self, piece: &[u8]) {
-        // The reader keeps what it refuses.
+        // The reader keeps its refusal until the end.
         let _ = self.feed(piece);
     }
 }
@@ -67,12 +67,12 @@ impl PieceReader for Decoder {
     }
 
     fn read_piece(&mut self, piece: &[u8]) {
-        // The decoder keeps what it refuses.
+        // The decoder keeps its refusal until the end.
         let _ = self.feed(piece);
     }
 }
 
-/// A reader of the first text. Texts behind it are passed over.
+/// A reader of the first text. Texts after it are skipped.
 #[derive(Drop)]
 pub(crate) struct First<R: PieceReader> {
     reader: R,
@@ -104,7 +104,7 @@ impl<R: PieceReader> TextTaker for First<R> {
     }
 }
 
-/// The reader of the text behind the layout file, or why nothing has read it.
+/// The reader of the text after the layout file, or why the layout file is refused.
 pub(crate) fn reader_of<R: PieceReader>(
     alloc: Global,
     taking: Taking<First<R>>,

@@ -1,4 +1,4 @@
-// `icesplit`: the images of a boot file.
+// `icesplit`: tells the images of a boot file, or takes one out.
 ghost use Rattle.std.specs.Prelude.{◌≡◌, None, Some, map, slice_get, string_bytes, IfOk, IfErr};
 ghost use Rattle.clap.specs.Words.{app_of, found_of, rows_of};
 ghost use Rattle.boot_file.specs.Meaning.{placed_of};
@@ -50,10 +50,10 @@ command line isn't taken; 3 reading failed; 4 writing failed; 5 out of memory; 6
 the boot file is longer than its limit.
 ";
 
-/// The most bytes of a boot file.
+/// The most bytes that a boot file may have.
 const BOOT_LIMIT: usize = 67_108_864;
 
-/// Tells what the boot file that it loads has, or takes an image out of it.
+/// Tells what is in the boot file that it loads, or takes an image out of it.
 #[derive(Clone, Copy, Debug, PartialEq, Eq)]
 pub(crate) struct Splitting {
     pub(crate) wanted: Option<u32>,
@@ -71,7 +71,7 @@ impl Tool for Splitting {
     }
 }
 
-// The lines of a boot file, or the image that is wanted.
+// The lines of a boot file, or the bitstream of the wanted image.
 fn split_bytes(alloc: Global, bytes: &[u8], wanted: Option<u32>) -> Result<Vec<u8>, Stop<'static>>
     ensures bytes { IfOk result (λ answer. split_answer wanted (boot_read_of bytes.now) ≡ Done answer.items) }
     ensures stops { IfErr result (StopsWith (split_answer wanted (boot_read_of bytes.now))) }
@@ -85,7 +85,7 @@ fn split_bytes(alloc: Global, bytes: &[u8], wanted: Option<u32>) -> Result<Vec<u
     }
 }
 
-// The canonical bytes of an image, where there is one of that number.
+// The canonical bytes of the image of that number, or a refusal if there is none.
 fn image_bytes(alloc: Global, images: &[BootImage], index: u32) -> Result<Vec<u8>, Stop<'static>>
     ensures bytes { IfOk result (λ bytes. extracted index (slice_get (map placed_of images.now) index) ≡ Done bytes.items) }
     ensures stops { IfErr result (StopsWith (extracted index (slice_get (map placed_of images.now) index))) }
@@ -97,7 +97,7 @@ fn image_bytes(alloc: Global, images: &[BootImage], index: u32) -> Result<Vec<u8
     }
 }
 
-// What the arguments ask for: the number of an image where one is wanted, and the boot file.
+// What the arguments ask for: the number of an image if one is wanted, the boot file, and the target.
 #[derive(Clone, Copy)]
 pub(crate) struct SplitRequest<'a> {
     wanted: Option<u32>,
@@ -105,7 +105,7 @@ pub(crate) struct SplitRequest<'a> {
     output: Option<&'a str>,
 }
 
-// What the arguments ask for by what was found in them.
+// The request, from what was found in the arguments: the number, if it is there, must be one, and there must be a boot file.
 fn request_of<'a>(
     wanted: Option<Option<u32>>,
     boot: Option<&'a str>,
@@ -133,7 +133,7 @@ fn command<'a>(alloc: Global) -> Result<Command<'a>, AllocError>
     with(command, positional(alloc, "output"))
 }
 
-// The request that was found in the arguments.
+// The request of the arguments, or `None` if they aren't taken.
 fn request_in<'a>(matches: &ArgMatches<'a>) -> Option<SplitRequest<'a>>
     ensures { icesplit_task_for result ≡ icesplit_task_by (rows_of (found_of matches.now)) }
 {
@@ -143,7 +143,7 @@ fn request_in<'a>(matches: &ArgMatches<'a>) -> Option<SplitRequest<'a>>
     request_of(wanted, boot, output)
 }
 
-// Splits the boot file of a request.
+// Does a request.
 fn split_file<H: Host>(alloc: Global, request: SplitRequest<'_>, host: &mut H) -> u8
     ensures { Does H.outside (icesplit_task_for (Some request.entry)) result (H.scene host.old) (H.scene host.new) }
 {
@@ -199,7 +199,7 @@ impl CommandLine for Icesplit {
     ghost speaks = { icesplit-speaks };
 }
 
-/// Runs `icesplit` with these arguments, of which the first is its name.
+/// Runs `icesplit` with these arguments, the first of which is its name, and answers the exit status.
 pub fn run_icesplit<H: Host>(alloc: Global, args: &[String], host: &mut H) -> u8
     ensures { Does H.outside (icesplit_outcome (map string_bytes args.now)) result (H.scene host.old) (H.scene host.new) }
 {

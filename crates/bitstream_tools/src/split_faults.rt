@@ -1,4 +1,4 @@
-// What is said of a fault of a boot file.
+// The messages for faults of a boot file.
 ghost use Rattle.std.specs.Prelude.{◌≡◌, Option};
 ghost use Rattle.boot_file.specs.declared.split_fault.SplitFault.{SplitFault as Fault};
 ghost use Rattle.boot_file.specs.Reading.{Tells};
@@ -9,7 +9,7 @@ use boot_file::{BinFault, SplitFault};
 use tool_parts::{bin_cause, refusal, whole};
 use tool_run::{Refusal, Stop, decimal, text};
 
-/// Why a boot file isn't split.
+/// The stop for a boot file with this fault.
 pub(crate) fn split_stop(fault: SplitFault) -> Stop<'static>
     ensures { (found : Option Fault) → Tells found fault → StopsSplit found result }
 {
@@ -19,7 +19,7 @@ pub(crate) fn split_stop(fault: SplitFault) -> Stop<'static>
     }
 }
 
-// What is said of a fault.
+// The refusal for a fault.
 fn split_refusal(fault: SplitFault) -> Refusal<'static>
     ensures { refusal_text result ≡ split_fault_text fault }
 {

@@ -1,4 +1,4 @@
-// `iceunpack`, and what `icepack -u` does too: the text of a bitstream.
+// `iceunpack`, and `icepack -u`, which does the same: unpacks a bitstream to a text.
 ghost use Rattle.std.specs.Prelude.{◌≡◌, codes, map, string_bytes, IfOk};
 ghost use Rattle.clap.specs.Words.{app_of, first_of, found_of, rows_of};
 ghost use Rattle.tool_run.specs.Runs.{Does};
@@ -47,10 +47,10 @@ failed; 4 writing failed; 5 out of memory; 6 FILE or the input is longer than
 its limit.
 ";
 
-/// The most bytes of a bitstream.
+/// The most bytes that a bitstream may have.
 pub(crate) const STREAM_LIMIT: usize = 4_194_304;
 
-/// Unpacks the bitstream that it takes, under the layouts of a file that it takes before where one is named.
+/// Unpacks a bitstream. If a layout file is named, it comes before the bitstream, which is read under its layouts.
 #[derive(Clone, Copy, Debug, PartialEq, Eq)]
 pub(crate) struct Unpack {
     /// Whether a layout file comes first.
@@ -94,7 +94,7 @@ impl PieceTool for Unpack {
     }
 }
 
-// The names that the arguments give.
+// The file names that the arguments give.
 #[derive(Clone, Copy)]
 pub(crate) struct Names<'a> {
     pub(crate) layout: Option<&'a str>,
@@ -102,7 +102,7 @@ pub(crate) struct Names<'a> {
     pub(crate) output: Option<&'a str>,
 }
 
-/// The names that were found in the arguments.
+/// The file names that were found in the arguments.
 pub(crate) fn names_in<'a>(matches: &ArgMatches<'a>) -> Names<'a>
     ensures layout { text_of result.layout ≡ first_of (codes "layout") (rows_of (found_of matches.now)) }
     ensures input { text_of result.input ≡ first_of (codes "input") (rows_of (found_of matches.now)) }
@@ -192,7 +192,7 @@ impl CommandLine for Iceunpack {
     ghost speaks = { iceunpack-speaks };
 }
 
-/// Runs `iceunpack` with these arguments, of which the first is its name.
+/// Runs `iceunpack` with these arguments, the first of which is its name, and answers the exit status.
 pub fn run_iceunpack<H: Host>(alloc: Global, args: &[String], host: &mut H) -> u8
     ensures { Does H.outside (iceunpack_outcome (map string_bytes args.now)) result (H.scene host.old) (H.scene host.new) }
 {

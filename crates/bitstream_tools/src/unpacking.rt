@@ -1,4 +1,4 @@
-// A bitstream that comes in pieces, unpacked.
+// Unpacks a bitstream that comes in pieces.
 ghost use Rattle.std.specs.Prelude.{◌≡◌, [], ℕ, List, Result, IfOk, IfErr};
 ghost use Rattle.tool_run.specs.Stops.{StopsWith};
 ghost use Rattle.tool_run.specs.Tasks.{Done};
@@ -20,7 +20,7 @@ use std::alloc::Global;
 use tool_parts::{Taking, bin_refusal};
 use tool_run::Stop;
 
-/// The text of the bitstream behind the layout file, or why there is none, after the last piece.
+/// The text of the bitstream that comes after the layout file, or why there is none. Called after the last piece.
 pub(crate) fn unpacked_after(
     alloc: Global,
     named: bool,
@@ -37,7 +37,7 @@ pub(crate) fn unpacked_after(
     }
 }
 
-/// The text of what was fed to a decoder, or its first fault.
+/// The text of the bitstream that was fed to a decoder, or its first fault.
 fn text_of(alloc: Global, decoder: Decoder) -> Result<CanonicalText, Stop<'static>>
     ensures text { IfOk result (λ text. (layouts : Layouts) (bytes : List ℕ) → StandsFor layouts bytes decoder
         → unpacked_under bytes layouts ≡ Done (canonical_in text)) }
@@ -50,7 +50,7 @@ fn text_of(alloc: Global, decoder: Decoder) -> Result<CanonicalText, Stop<'stati
     }
 }
 
-/// Why there is no text of a bitstream with a fault.
+/// The stop for a bitstream with this fault.
 pub(crate) fn stop_of(fault: BinFault) -> Stop<'static>
     ensures { (read : Result Configuration Fault) → Tells read fault → StopsWith (unpacked read) result }
 {

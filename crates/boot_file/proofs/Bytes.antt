@@ -25,7 +25,7 @@ lies_in-within : (images : List (List ℕ)) (options : Options) (offset index : 
 lies_in-within images options offset index from to =
     rw (le-leb (place_of images options index) offset from, lt-ltb offset (end_of images options index) to) refl
 
--- an offset before an image and behind those before it lies in none
+-- an offset before an image and after those before it lies in none
 found-none : (images : List (List ℕ)) (options : Options) (offset index : ℕ) → start_of images options index ≤ offset → offset < place_of images options index
     → find (lies_in images options offset) (range_with_len 0 (length images)) ≡ None
 found-none images options offset index from to = find-none (lies_in images options offset) 0 (length images) (λ k within. elim (cases_lt k index) [
@@ -62,7 +62,7 @@ boot_byte-image images options offset index within from to =
 
 -- ---- a file that grows
 
--- a file with more bytes behind it
+-- a file with more bytes after it
 HasBytes-append : (byte : ℕ → ℕ) (size more_size : ℕ) (file more : List ℕ) → HasBytes byte size file → size + length more ≡ more_size
     → ((k : ℕ) → k < length more → get_or more k 0 ≡ byte (size + k)) → HasBytes byte more_size (file ++ more)
 HasBytes-append byte size more_size file more has e follows = record {

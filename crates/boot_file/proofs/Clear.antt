@@ -1,4 +1,4 @@
--- What is told where no fault is found.
+-- What is answered if no fault is found.
 use Rattle.std.proofs.Common.{◌≡◌, ℕ, ◌+◌, ◌<◌, ◌≤◌, Bool, true, false, List, [], ◌∷◌, ◌++◌, length, get_or, take, refl, sym, ap, ap₂, ◌∙◌, subst, inl, inr}
 use Rattle.std.specs.Prelude.{nat_lt, nat_le, not, if◌then◌else◌, Option, Some, None, filter_map, map, option_map, Result, Ok, Err, All}
 use Rattle.std.proofs.lemmas.Bool.{cases_lt, lt-ltb, le-ltb, ltb-true}
@@ -45,7 +45,7 @@ passes : (test : Bool) → not test ≡ false → test ≡ true
 passes true fails = refl
 passes false fails = absurd cc
 
--- where a test fails nothing is told
+-- if a test fails nothing is reported
 told-unless : (test : Bool) (fault : SplitFault) → (if test then None else Some fault) ≡ None → test ≡ true
 told-unless true fault none = refl
 told-unless false fault none = absurd cc

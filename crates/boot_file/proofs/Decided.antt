@@ -40,7 +40,7 @@ found-within test (x ∷ xs) some = elim (cases_Bool (test x)) [
   | inr away ↦ let later : list_any test xs ≡ true = rw away at some in rw away (omega (arith, found-within test xs later))
 ]
 
--- the first item that passes, where some item does
+-- the first item that passes, if some item does
 position-known : (test : ℕ → Bool) (xs : List ℕ) → list_any test xs ≡ true → position test xs ≡ Some (unwrap_or (position test xs) 0)
 position-known test xs some = rw (lt-ltb (position_or_len test xs) (length xs) (found-within test xs some)) refl
 
@@ -157,7 +157,7 @@ none-means bytes none =
       spelled = found-spelled bytes (image_addresses bytes) clear.1;
     }
 
--- what is read where there is a fault, or none
+-- what is read if there is a fault, or none
 read-clear : (fault : Option SplitFault) (read boot : Boot) → read_where fault read ≡ Ok boot → (fault ≡ None) × (read ≡ boot)
 read-clear None read boot is = (refl, cc)
 read-clear (Some fault) read boot is = absurd cc
@@ -176,7 +176,7 @@ decided bytes = record {
   refused = λ fault. (λ is. ap (λ found. read_where found (boot_in bytes)) is, read-refused (split_fault bytes) (boot_in bytes) fault);
 }
 
--- what is read where no fault was found
+-- what is read if no fault was found
 pub read-is : (bytes : List ℕ) (boot : Boot) → headers_fault bytes ≡ None → images_fault bytes ≡ None
     → boot.cold ≡ is_cold bytes → boot.power ≡ index_at bytes (address_of bytes 0)
     → boot.entries ≡ map (λ entry. index_at bytes (entry_address bytes entry)) entries_in

@@ -10,11 +10,11 @@ use Rattle.boot_file.specs.Headers.{entry_address}
 use Rattle.boot_file.specs.Parts.{is_named, part_end}
 
 module _ (bytes : List ℕ) (address : ℕ) where
-  -- whether an offset may be the end: it is behind the address, and an entry names it
+  -- whether an offset may be the end: it is after the address, and an entry names it
   abbrev pub ends : ℕ → Bool
   ends offset = nat_lt address offset && is_named bytes offset
 
-  -- such an offset is behind the address
+  -- such an offset is after the address
   ends-behind : (offset : ℕ) → ends offset ≡ true → address < offset
   ends-behind offset passes = ltb-true address offset (first_true (nat_lt address offset) (is_named bytes offset) passes)
 
@@ -24,13 +24,13 @@ module _ (bytes : List ℕ) (address : ℕ) where
       let found = any_below-place 4 (λ entry. entry_address bytes entry == offset) (second_true (nat_lt address offset) (is_named bytes offset) passes) in
       (found.0, found.1, eqb-true (entry_address bytes found.0) offset found.2)
 
-  -- the address of an entry behind it is such an offset
+  -- the address of an entry after it is such an offset
   ends-at : (entry offset : ℕ) → entry < 4 → offset ≡ entry_address bytes entry → address < offset → ends offset ≡ true
   ends-at entry offset within is behind =
       let named : is_named bytes offset ≡ true = any_below-at 4 entry (λ k. entry_address bytes k == offset) within (eq-eqb (entry_address bytes entry) offset (sym is)) in
       rw (lt-ltb address offset behind, named) refl
 
-  -- the least of the addresses behind this one that so many entries name, and of the length
+  -- the least of the addresses after this one that the first entries name, and of the length
   pub record IsEnd (count end : ℕ) : Type 0 where
     pub within : end ≤ length bytes
     pub named : end < length bytes → ends end ≡ true
@@ -91,7 +91,7 @@ module _ (bytes : List ℕ) (address : ℕ) where
       let least = least_below-place (length bytes) ends end is in
       (ends-behind end least.passes, omega (arith, least.within))
 
-  -- behind its address, and within the file
+  -- after its address, and within the file
   pub part_end-bounds : address < length bytes → (address < part_end bytes address) × (part_end bytes address ≤ length bytes)
   unfolding part_end
   part_end-bounds inside = bounds (least_below (length bytes) ends) refl inside

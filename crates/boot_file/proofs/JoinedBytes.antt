@@ -30,7 +30,7 @@ none-mapped : (value : Option ℕ) → option_map Address value ≡ None → val
 none-mapped None none = refl
 none-mapped (Some value) none = absurd cc
 
--- where no number is found none passes
+-- if no number is found none passes
 none-found : (test : ℕ → Bool) (from count k : ℕ) → find test (range_with_len from count) ≡ None → k < count → test (from + k) ≡ false
 none-found test from zero k none below = absurd (omega arith)
 none-found test from (suc count) zero none below = elim (cases_Bool (test from)) [

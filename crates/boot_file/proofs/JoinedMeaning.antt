@@ -29,7 +29,7 @@ use Rattle.boot_file.proofs.JoinedBytes.{MayJoin, may_join, end-within, file-add
 
 -- ---- bitstreams
 
--- bytes that spell an image spell it with anything behind them
+-- bytes that spell an image spell it with anything after them
 spells-grown : (layouts : Layouts) (bytes more : List ℕ) (image : Configuration) → Spells layouts bytes image → Spells layouts (bytes ++ more) image
 spells-grown layouts bytes more image spells = record {
   front = spells.front;
@@ -84,7 +84,7 @@ gathered-range f from (suc n) =
     (gathered_below-same n (λ k. f (from + (1 + k)) ∷ []) (λ k. f (from + 1 + k) ∷ []) (λ k below. let same : from + (1 + k) ≡ from + 1 + k = omega arith in ap (λ j. f j ∷ []) same)
     ∙ gathered-range f (from + 1) n)
 
--- the place of a number among those that a function gives, where no earlier one is the same
+-- the place of a number among those that a function gives, if no earlier one is equal
 position-given : (f : ℕ → ℕ) (n k : ℕ) → k < n → ((j : ℕ) → j < k → f j < f k) → position (λ y. y == f k) (map f (range_with_len 0 n)) ≡ Some k
 position-given f n k below rises =
     let xs = map f (range_with_len 0 n) in
@@ -153,7 +153,7 @@ module _ (images : List (List ℕ)) (options : Options) (spelled : List Configur
   place-above : (earlier later : ℕ) → earlier < later → later < count → place earlier < place later
   place-above earlier later less below = omega (arith, place-rises earlier later less below, image-some earlier (omega arith))
 
-  -- an entry is the first to name its address where there is an image of its turn
+  -- an entry is the first to name its address if there is an image for it
   named-once : (entry : ℕ) → entry < count → is_named_before file entry ≡ false
   named-once entry below = any_below-none entry (λ earlier. entry_address file earlier == entry_address file entry)
       (λ earlier less. ne_eqb (entry_address file earlier) (entry_address file entry) (λ same. absurd (omega (

@@ -1,6 +1,6 @@
 -- the first of some numbers in a row that passes a test
 pub mod Found
--- images stand one behind the other, and behind the headers
+-- images stand one after the other, and after the headers
 pub mod Order
 -- what the bytes of a boot file are, one image after the other
 pub mod Bytes
@@ -14,7 +14,7 @@ pub mod Named
 pub mod Ends
 -- a fault of a bitstream lies within it
 pub mod Offsets
--- what is told where no fault is found
+-- what is answered if no fault is found
 pub mod Clear
 -- bytes mean a boot file, or have a fault
 pub mod Decided

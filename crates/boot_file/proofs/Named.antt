@@ -16,7 +16,7 @@ module _ (bytes : List ℕ) where
   abbrev names : ℕ → ℕ → Bool
   names n address = any_below n (λ entry. entry_address bytes entry == address)
 
-  -- what an entry adds, where an earlier one names its address or none does, and it has the address or not
+  -- what an entry adds, if an earlier one names its address or none does, and it has the address or not
   adds : (earlier before same : Bool) → (before ≡ true → same ≡ true → earlier ≡ true) → (earlier || (if before then false else same)) ≡ (earlier || same)
   adds true before same known = refl
   adds false false same known = refl
@@ -28,7 +28,7 @@ module _ (bytes : List ℕ) where
   in_added true added address = refl
   in_added false added address = or-false (added == address)
 
-  -- an address is among those that are listed where an entry names it
+  -- an address is among those that are listed if an entry names it
   pub listed : (n address : ℕ) → list_any (λ named. named == address) (gathered_below n (first_named bytes)) ≡ names n address
   unfolding gathered_below any_below
   listed zero address = refl
@@ -48,7 +48,7 @@ module _ (bytes : List ℕ) where
       ∙ ap (λ list. list ++ first_named bytes n) so_far
       ∙ sym (gathered_below-more n (first_named bytes))
 
-  -- an address is among those of the images where an entry names it
+  -- an address is among those of the images if an entry names it
   pub among : (address : ℕ) → list_any (λ named. named == address) (image_addresses bytes) ≡ is_named bytes address
   unfolding image_addresses
   among address = listed 4 address

@@ -13,7 +13,7 @@ use Rattle.bin_stream.specs.Refusals.{Fault, body_fault, command_fault, data_cau
 use Rattle.bin_stream.specs.Front.{preamble, preamble_offset}
 use Rattle.bin_stream.specs.Spelling.{FailsAt, IsRefused}
 
--- a fault, if there is one, isn't behind an offset
+-- a fault, if there is one, isn't after an offset
 abbrev Within : ℕ → Option Fault → Type 0
 Within bound None = Unit {0}
 Within bound (Some fault) = fault.offset ≤ bound

@@ -1,4 +1,4 @@
--- Images stand one behind the other, and behind the headers.
+-- Images stand one after the other, and after the headers.
 use Rattle.std.proofs.Common.{◌≡◌, ℕ, zero, suc, ◌<◌, ◌≤◌, Bool, true, false, List, subst, inl, inr, arith}
 use Rattle.std.specs.Prelude.{Option, Some, None, if◌then◌else◌}
 use Rattle.std.proofs.lemmas.Bool.{cases_lt}
@@ -13,13 +13,13 @@ first_place-above : (align_first : Bool) (align : Option ℕ) → 160 ≤ (if al
 first_place-above true align = aligned-above align 160
 first_place-above false align = omega arith
 
--- an image stands behind the one before
+-- an image stands after the one before
 pub place-start : (images : List (List ℕ)) (options : Options) (index : ℕ) → start_of images options index ≤ place_of images options index
 unfolding place_of
 place-start images options zero = first_place-above options.align_first options.align
 place-start images options (suc index) = aligned-above options.align _
 
--- and behind each earlier one
+-- and after each earlier one
 pub place-later : (images : List (List ℕ)) (options : Options) (earlier later : ℕ) → earlier < later → end_of images options earlier ≤ start_of images options later
 place-later images options earlier zero below = absurd (omega arith)
 place-later images options earlier (suc later) below = elim (cases_lt earlier later) [
@@ -34,7 +34,7 @@ place-rises images options earlier later upto = elim (cases_lt earlier later) [
   | inr more ↦ let e : earlier ≡ later = omega arith in subst (λ n. place_of images options earlier ≤ place_of images options n) e (omega arith)
 ]
 
--- and behind the headers
+-- and after the headers
 pub start-first : (images : List (List ℕ)) (options : Options) (index : ℕ) → 160 ≤ start_of images options index
 start-first images options zero = omega arith
 start-first images options (suc index) = omega (arith, start-first images options index, place-start images options index)

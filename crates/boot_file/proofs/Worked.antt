@@ -17,7 +17,7 @@ options = record { cold = true; power_on = 1; align = Some 8; align_first = fals
 
 -- ---- places
 
--- the first image stands right behind the headers
+-- the first image is right after the headers
 first : place_of two options 0 ≡ 160
 unfolding place_of
 first = refl
@@ -27,7 +27,7 @@ second : place_of two options 1 ≡ 256
 unfolding place_of
 second = refl
 
--- the first image is aligned too where that is asked for
+-- the first image is aligned too if that is asked for
 first_aligned : place_of two (record options { align_first = true }) 0 ≡ 256
 unfolding place_of
 first_aligned = refl
@@ -36,7 +36,7 @@ second_aligned : place_of two (record options { align_first = true }) 1 ≡ 512
 unfolding place_of
 second_aligned = refl
 
--- without alignment each stands right behind the one before
+-- without alignment each is right after the one before
 second_unaligned : place_of two (record options { align = None }) 1 ≡ 163
 unfolding place_of
 second_unaligned = refl
@@ -60,7 +60,7 @@ modes : map (λ index. boot_byte two options (32 * index + 6)) (range_with_len 0
 unfolding place_of boot_byte
 modes = refl
 
--- the addresses: of the image at power-on, the first, the second, and the first twice where there is no third and no fourth
+-- the addresses: of the image at power-on, the first, the second, and the first twice as there is no third and no fourth
 addresses_high : map (λ index. boot_byte two options (32 * index + 10)) (range_with_len 0 5) ≡ 1 ∷ 0 ∷ 1 ∷ 0 ∷ 0 ∷ []
 unfolding place_of boot_byte
 addresses_high = refl
@@ -69,7 +69,7 @@ addresses_low : map (λ index. boot_byte two options (32 * index + 11)) (range_w
 unfolding place_of boot_byte
 addresses_low = refl
 
--- behind the headers the first image, FF up to the second one, and the second
+-- after the headers the first image, FF up to the second one, and the second
 behind_headers : drop 160 (boot_file two options) ≡ 1 ∷ 2 ∷ 3 ∷ replicate 93 0xFF ++ 4 ∷ []
 unfolding place_of boot_byte boot_file
 behind_headers = refl

@@ -39,7 +39,7 @@ second_end : part_end file 256 ≡ 257
 unfolding place_of boot_byte boot_file any_below least_below part_end
 second_end = refl
 
--- the first image is none, which is told where its part ends
+-- the first image spells none, which is reported at the end of its part
 no_image : split_fault file ≡ Some (Image 0 (At 256 NoPreamble))
 unfolding place_of boot_byte boot_file any_below first_below least_below gathered_below preamble_offset bin_read_of image_addresses part_end headers_fault images_fault
 no_image = refl

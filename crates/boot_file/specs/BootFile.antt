@@ -1,5 +1,6 @@
 -- The boot file: five headers of 32 bytes, then the images. Each byte of it is a function of its offset. Images, headers
--- and offsets count from 0.
+-- and offsets count from 0. The options are those of the usage text of Project IceStorm's `icemulti`; the headers consist of commands of
+-- its 'Bitstream File Format Documentation'.
 use Rattle.std.specs.Prelude.{◌≡◌, ℕ, ◌<◌, zero, suc, ◌+◌, ◌-◌, ◌/◌, ◌%◌, ◌^◌, Bool, ◌&&◌, List, [], ◌∷◌, length, get_or, map, find, nat_lt, nat_le, ◌==◌, if◌then◌else◌, Option, Some, None, Vec}
 use Rattle.std.specs.Int.{next_multiple_of}
 use Rattle.std.specs.List.{range_with_len}
@@ -12,31 +13,31 @@ bytes_of images = map (λ image. image.items) images.items
 
 -- ---- places
 
--- the least multiple of 2 ^ n that isn't below an offset, and that offset where no n is given
+-- the least multiple of 2 ^ n that isn't below an offset, or that offset if no n is given
 abbrev pub aligned : Option ℕ → ℕ → ℕ
 aligned None offset = offset
 aligned (Some n) offset = next_multiple_of offset (2 ^ n)
 
--- an image by its index, and no bytes past the last
+-- an image by its index, and no bytes after the last
 abbrev pub image_at : List (List ℕ) → ℕ → List ℕ
 image_at images index = get_or images index []
 
--- the first image stands behind the headers, aligned only where that is asked for
+-- the first image is right after the headers, and aligned only if that is asked for
 abbrev pub first_place : Options → ℕ
 first_place options = if options.align_first then aligned options.align 160 else 160
 
--- where an image stands: each but the first one at the aligned end of the one before
+-- the offset of an image: each but the first one begins at the aligned end of the one before
 unfoldable pub place_of : List (List ℕ) → Options → ℕ → ℕ
 place_of images options zero = first_place options
 place_of images options (suc index) = aligned options.align (place_of images options index + length (image_at images index))
 
--- where an image ends
+-- the offset at which an image ends
 abbrev pub end_of : List (List ℕ) → Options → ℕ → ℕ
 end_of images options index = place_of images options index + length (image_at images index)
 
 -- ---- headers
 
--- a header: the mode, which is 16 for the choice of an image by the pins at a cold boot, and the address of an image
+-- a header: the mode, which is 16 if the pins choose the image at a cold boot, and the address of an image
 abbrev pub header : Bool → ℕ → List ℕ
 header cold address =
     0x7E ∷ 0xAA ∷ 0x99 ∷ 0x7E ∷ 0x92 ∷ 0x00 ∷ (if cold then 0x10 else 0x00)
@@ -44,15 +45,15 @@ header cold address =
     ∷ 0x82 ∷ 0x00 ∷ 0x00 ∷ 0x01 ∷ 0x08
     ∷ 0 ∷ 0 ∷ 0 ∷ 0 ∷ 0 ∷ 0 ∷ 0 ∷ 0 ∷ 0 ∷ 0 ∷ 0 ∷ 0 ∷ 0 ∷ 0 ∷ 0 ∷ []
 
--- Of so many images, the one that a header boots: the first header that of power-on, each further one the image of its
--- turn. Where there is no such image it is the first one, which is this project's choice.
+-- Of `count` images, the one that a header boots: the first header boots the image of power-on, and each further header the next image
+-- in order. If there is no such image, it boots the first one, which is this project's choice.
 abbrev pub image_booted : ℕ → Options → ℕ → ℕ
 image_booted count options index =
     if index == 0 then options.power_on
     else if nat_le index count then index - 1
     else 0
 
--- a header by its index, from the place of each image; only the first one has the mode of cold boot
+-- a header by its index, from the offset of each image; only the first one may have the mode of cold boot
 abbrev pub header_at : ℕ → (ℕ → ℕ) → Options → ℕ → List ℕ
 header_at count place options index = header (options.cold && (index == 0)) (place (image_booted count options index))
 
@@ -81,7 +82,7 @@ boot_byte images options offset =
 abbrev pub boot_length : List (List ℕ) → Options → ℕ
 boot_length images options = end_of images options (length images - 1)
 
--- the whole file, where there is an image
+-- the whole file, if there is an image
 unfoldable pub boot_file : List (List ℕ) → Options → List ℕ
 boot_file images options = map (boot_byte images options) (range_with_len 0 (boot_length images options))
 
@@ -90,7 +91,7 @@ pub record HasBytes (byte : ℕ → ℕ) (size : ℕ) (file : List ℕ) : Type 0
   pub size_is : length file ≡ size
   pub bytes_are : (offset : ℕ) → offset < size → get_or file offset 0 ≡ byte offset
 
--- where the image before one ends, and the headers before the first
+-- the offset at which the image before one ends, or the headers before the first image
 abbrev pub start_of : List (List ℕ) → Options → ℕ → ℕ
 start_of images options zero = 160
 start_of images options (suc index) = end_of images options index

@@ -1,4 +1,4 @@
--- Why a boot file isn't split: the first cause that holds.
+-- Why a boot file isn't split: the first cause that applies.
 use Rattle.std.specs.Prelude.{ℕ, ◌+◌, ◌/◌, not, List, length, get_or, nat_lt, if◌then◌else◌, Option, Some, None, option_map, Result, Ok, Err}
 use Rattle.place_search.specs.Places.{first_below, least_below, or_else}
 use Rattle.ice_image.specs.Configuration.{Configuration}
@@ -11,7 +11,7 @@ use Rattle.boot_file.specs.declared.split_fault.SplitFault.TheVariants.{Short, H
 use Rattle.boot_file.specs.Headers.{address_of, entry_address, is_formed, is_within}
 use Rattle.boot_file.specs.Parts.{image_addresses, is_named, part_of}
 
--- the headers aren't there
+-- the file is shorter than the headers
 abbrev pub short_fault : List ℕ → Option SplitFault
 short_fault bytes = if nat_lt (length bytes) 160 then Some (Short (length bytes)) else None
 
@@ -22,7 +22,7 @@ unformed_offset bytes = least_below 160 (λ offset. not (is_formed bytes offset)
 abbrev pub header_fault : List ℕ → Option SplitFault
 header_fault bytes = option_map (λ offset. Header (offset / 32) offset) (unformed_offset bytes)
 
--- the least entry whose address lies in the headers or behind the end
+-- the least entry whose address lies in the headers or after the end
 abbrev pub outside_entry : List ℕ → Option ℕ
 outside_entry bytes = least_below 4 (λ entry. not (is_within bytes (entry_address bytes entry)))
 

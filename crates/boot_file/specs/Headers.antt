@@ -1,19 +1,20 @@
--- The headers of a boot file: five of 32 bytes, counted from 0. Each of the last four is an entry, entry 0 being header 1.
+-- The headers of a boot file: five of 32 bytes, counted from 0. Each of the last four is an entry, entry 0 being header 1. They consist of
+-- commands of Project IceStorm, 'Bitstream File Format Documentation'.
 use Rattle.std.specs.Prelude.{ℕ, ◌+◌, ◌*◌, ◌%◌, Bool, false, ◌&&◌, ◌||◌, List, length, get_or, nat_lt, nat_le, ◌==◌}
 use Rattle.boot_file.specs.BootFile.{header}
 
 abbrev pub byte_at : List ℕ → ℕ → ℕ
 byte_at bytes offset = get_or bytes offset 0
 
--- the three bytes of a header at which its address stands
+-- the three bytes of a header that are its address
 abbrev pub is_address_place : ℕ → Bool
 is_address_place place = nat_le 9 place && nat_lt place 12
 
--- the mode of header 0 where the pins choose the image at a cold boot
+-- the mode of header 0 if the pins choose the image at a cold boot
 abbrev pub is_cold_mode : ℕ → ℕ → Bool
 is_cold_mode offset byte = (offset == 6) && (byte == 0x10)
 
--- whether headers may have a byte at an offset: any in an address, else that of the form
+-- whether headers may have a byte at an offset: any byte in an address, or else the one that each header has there
 abbrev pub is_header_byte : ℕ → ℕ → Bool
 is_header_byte offset byte =
     is_address_place (offset % 32) || (is_cold_mode offset byte || (byte == get_or (header false 0) (offset % 32) 0))
@@ -34,6 +35,6 @@ address_of bytes index = 65536 * byte_at bytes (32 * index + 9) + 256 * byte_at 
 abbrev pub entry_address : List ℕ → ℕ → ℕ
 entry_address bytes entry = address_of bytes (entry + 1)
 
--- an image stands behind the headers, and within the file
+-- an image begins after the headers, and within the file
 abbrev pub is_within : List ℕ → ℕ → Bool
 is_within bytes address = nat_le 160 address && nat_lt address (length bytes)

@@ -1,4 +1,4 @@
--- What a boot file means that was joined of images.
+-- What a boot file means that was joined from images.
 use Rattle.std.specs.Prelude.{◌≡◌, ℕ, List, length, map, None}
 use Rattle.std.specs.List.{AllZip, enumerate_from, range_with_len}
 use Rattle.ice_image.specs.Configuration.{Configuration}
@@ -9,7 +9,7 @@ use Rattle.boot_file.specs.Refusals.{join_fault}
 use Rattle.bin_stream.specs.Spelling.{Spells}
 use Rattle.boot_file.specs.Meaning.{Boot, Means, PlacedImage}
 
--- images in their order at their places
+-- images in their order at their offsets
 abbrev pub placed : List (List ℕ) → Options → List Configuration → List PlacedImage
 placed images options spelled = map (λ one. record { address = place_of images options one.0; image = one.1 }) (enumerate_from 0 spelled)
 
@@ -22,8 +22,8 @@ joined_boot images options spelled = record {
   images = placed images options spelled;
 }
 
--- Where each of some images spells one, and they may be joined by the options, the file that joins them means these images in their order
--- at their places, with the flag and the image of power-on of the options.
+-- If each of some bitstreams spells an image, and they may be joined by the options, the file that joins them means these images in their
+-- order at their offsets, with the flag of cold boot and the image of power-on of the options.
 abbrev pub JoinedMeans : List (List ℕ) → Options → List Configuration → Type 0
 JoinedMeans images options spelled =
     AllZip (Spells standard_layouts) images spelled → join_fault images options ≡ None

@@ -23,7 +23,7 @@ pub record Boot : Type 0 where
   pub entries : List ℕ
   pub images : List PlacedImage
 
--- what a `BootFile` is
+-- the images and boot files that the code has, as data
 abbrev pub placed_of : BootImage → PlacedImage
 placed_of placed = record { address = placed.address; image = configuration_of placed.image }
 
@@ -34,8 +34,8 @@ boot_of file = record { cold = file.cold; power = file.power; entries = file.ent
 abbrev pub entries_in : List ℕ
 entries_in = range_with_len 0 4
 
--- Bytes mean a boot file: five headers of the form, the entries' addresses behind them and within the file, header 0 with the address of
--- an entry. The images are those of the addresses that the entries name, and the part of each spells it under the standard layouts.
+-- Bytes mean a boot file: five headers of the right form, the entries' addresses after them and within the file, header 0 with the address
+-- of an entry. The images are at the addresses that the entries name, and the part of each spells it under the standard layouts.
 pub record Means (bytes : List ℕ) (boot : Boot) : Type 0 where
   pub headers : 160 ≤ length bytes
   pub formed : (offset : ℕ) → offset < 160 → IsTrue (is_formed bytes offset)

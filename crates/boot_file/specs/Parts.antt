@@ -1,4 +1,4 @@
--- Where the images of a boot file stand, and which part of it each has.
+-- The addresses of the images of a boot file, and which part of the file each image has.
 use Rattle.std.specs.Prelude.{ℕ, Bool, ◌&&◌, List, [], ◌∷◌, length, position, slice_range, unwrap_or, nat_lt, ◌==◌, if◌then◌else◌, Option}
 use Rattle.place_search.specs.Places.{any_below, gathered_below, least_below}
 use Rattle.boot_file.specs.Headers.{entry_address}
@@ -19,11 +19,11 @@ first_named bytes entry = if is_named_before bytes entry then [] else entry_addr
 unfoldable pub image_addresses : List ℕ → List ℕ
 image_addresses bytes = gathered_below 4 (first_named bytes)
 
--- which of the images stands at an address
+-- the index of the image at an address
 abbrev pub image_index : List ℕ → ℕ → Option ℕ
 image_index bytes address = position (λ named. named == address) (image_addresses bytes)
 
--- the part of an image goes to the next greater address that an entry names, else to the end
+-- the part of an image ends at the next greater address that an entry names, or else at the end of the file
 unfoldable pub part_end : List ℕ → ℕ → ℕ
 part_end bytes address = unwrap_or (least_below (length bytes) (λ offset. nat_lt address offset && is_named bytes offset)) (length bytes)
 

@@ -1,4 +1,4 @@
--- A boot file as one small program gives it, which is what its bytes mean.
+-- The meaning of a boot file as one small program.
 use Rattle.std.specs.Prelude.{◌≡◌, ℕ, List, map, filter_map, unwrap_or, Option, Some, None, option_map, Result, Ok, Err, ◌↔◌}
 use Rattle.std.specs.Result.{result_ok}
 use Rattle.layout_file.specs.Layouts.{standard_layouts}
@@ -10,7 +10,7 @@ use Rattle.boot_file.specs.Parts.{image_addresses, image_index, part_of}
 use Rattle.boot_file.specs.Meaning.{Boot, Means, PlacedImage, entries_in}
 use Rattle.boot_file.specs.Faults.{split_fault}
 
--- the index of the image at an address, where there is one
+-- the index of the image at an address, or 0 if there is none
 abbrev pub index_at : List ℕ → ℕ → ℕ
 index_at bytes address = unwrap_or (image_index bytes address) 0
 
@@ -19,7 +19,7 @@ abbrev pub image_in : List ℕ → ℕ → Option PlacedImage
 image_in bytes address =
     option_map (λ image. record { address = address; image = image }) (result_ok (bin_read_of standard_layouts (part_of bytes address)))
 
--- the boot file, where there is no fault
+-- the boot file, if there is no fault
 unfoldable pub boot_in : List ℕ → Boot
 boot_in bytes = record {
   cold = is_cold bytes;
@@ -36,12 +36,12 @@ read_where (Some fault) boot = Err fault
 unfoldable pub boot_read_of : List ℕ → Result Boot SplitFault
 boot_read_of bytes = read_where (split_fault bytes) (boot_in bytes)
 
--- Bytes mean at most one boot file, and none exactly where they have a fault: the program gives it, or the first fault.
+-- Bytes mean at most one boot file, and none exactly if they have a fault: the program gives the boot file, or the first fault.
 pub record IsDecided (bytes : List ℕ) : Type 0 where
   pub means : (boot : Boot) → Means bytes boot ↔ (boot_read_of bytes ≡ Ok boot)
   pub refused : (fault : SplitFault) → (split_fault bytes ≡ Some fault) ↔ (boot_read_of bytes ≡ Err fault)
 
--- a refusal is the first fault, except where memory ran out
+-- a refusal is the first fault, unless memory ran out
 abbrev pub Tells : Option SplitFault → SplitFault → Type 0
 Tells fault (Memory e) = Unit {0}
 Tells fault told = fault ≡ Some told

@@ -1,4 +1,4 @@
--- Why images aren't joined: the first cause that holds.
+-- Why images aren't joined: the first cause that applies.
 use Rattle.std.specs.Prelude.{◌≡◌, ℕ, ◌^◌, List, length, find, nat_lt, nat_le, ◌==◌, if◌then◌else◌, Option, Some, None}
 use Rattle.std.specs.List.{range_with_len}
 use Rattle.std.specs.Option.{option_or, option_map}
@@ -12,7 +12,7 @@ abbrev pub align_fault : Option ℕ → Option MultiFault
 align_fault None = None
 align_fault (Some n) = if nat_lt 24 n then Some (Align n) else None
 
--- what the number of images and the options tell by themselves
+-- the causes that follow from the number of images and the options alone
 unfoldable pub check_fault : ℕ → Options → Option MultiFault
 check_fault count options =
     if count == 0 then Some NoImage
@@ -29,7 +29,7 @@ address_fault images options =
 abbrev pub join_fault : List (List ℕ) → Options → Option MultiFault
 join_fault images options = option_or (check_fault (length images) options) (address_fault images options)
 
--- a refusal is that one, except where memory ran out
+-- a refusal is this one, unless memory ran out
 abbrev pub Tells : Option MultiFault → MultiFault → Type 0
 Tells fault (Memory e) = Unit {0}
 Tells fault told = fault ≡ Some told

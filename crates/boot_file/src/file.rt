@@ -4,7 +4,7 @@ use ice_image::AnyImage;
 /// An image of a boot file.
 #[derive(Drop)]
 pub struct BootImage {
-    /// Where it stands in the file.
+    /// Its offset in the file.
     pub address: u32,
     pub image: AnyImage,
 }
@@ -12,7 +12,7 @@ pub struct BootImage {
 /// A boot file that was split.
 #[derive(Drop)]
 pub struct BootFile {
-    /// At a cold boot the pins choose the image.
+    /// Whether the pins choose the image at a cold boot.
     pub cold: bool,
     /// The index of the image that is booted at power-on.
     pub power: u32,

@@ -5,7 +5,7 @@ ghost use Rattle.boot_file.specs.BootFile.{header};
 /// How many bytes a header has.
 pub(crate) const HEADER_SIZE: usize = 32;
 
-/// A header that boots the image at an address; `cold` sets the mode of cold boot.
+/// A header that boots the image at an address. `cold` sets the mode in which the pins choose the image at a cold boot.
 pub(crate) fn header(cold: bool, address: u32) -> [u8; HEADER_SIZE]
     requires { address < 2 ^ 24 }
     ensures { result ≡ header cold address }

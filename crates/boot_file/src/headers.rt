@@ -14,19 +14,19 @@ const HEADER_SIZE: usize = 32;
 /// How many bytes all headers have.
 const HEADERS_SIZE: usize = 160;
 
-/// How many headers name an image beside header 0, which names one of theirs.
+/// How many entries there are: the headers after header 0. Header 0 has the address of one of them.
 pub(crate) const ENTRY_COUNT: usize = 4;
 
-/// Where the address stands in a header.
+/// The offset of the address in a header.
 const ADDRESS_PLACE: usize = 9;
 
 /// How many bytes an address has.
 const ADDRESS_SIZE: usize = 3;
 
-/// Where the mode stands in header 0.
+/// The offset of the mode in header 0.
 const MODE_OFFSET: usize = 6;
 
-/// The mode of header 0 where the pins choose the image at a cold boot.
+/// The mode of header 0 if the pins choose the image at a cold boot.
 const COLD_MODE: u8 = 0x10;
 
 /// A header with the usual mode and the address 0.
@@ -35,7 +35,7 @@ const HEADER: [u8; HEADER_SIZE] = [
     0, 0, 0, 0, 0, 0, 0, 0, 0, 0,
 ];
 
-/// What is wrong with the headers.
+/// Tests the headers; the error is what is wrong with them.
 #[tactic(auto, unfolding(crate::specs::Faults::headers_fault))]
 pub(crate) fn check_headers(bytes: &[u8]) -> Result<(), SplitFault>
     ensures checked { result_err result ≡ headers_fault bytes.now }
@@ -65,7 +65,7 @@ pub(crate) fn check_headers(bytes: &[u8]) -> Result<(), SplitFault>
     Ok(())
 }
 
-/// The least offset in the headers whose byte isn't one of theirs.
+/// The least offset in the headers whose byte is none that headers have there.
 fn unformed_offset(bytes: &[u8]) -> Option<usize>
     requires { 160 ≤ length bytes.now }
     ensures is { result ≡ unformed_offset bytes.now }
@@ -87,7 +87,7 @@ fn is_header_byte(offset: usize, byte: u8) -> bool
     is_address_place(place) || is_cold_mode(offset, byte) || byte == form_byte(&HEADER, place)
 }
 
-/// Whether a part of an address stands at a place of a header.
+/// Whether the byte at this place of a header is one of its address.
 fn is_address_place(place: usize) -> bool
     ensures { result ≡ is_address_place place }
 {
@@ -109,7 +109,7 @@ fn form_byte(header: &[u8; HEADER_SIZE], place: usize) -> u8
     header[place]
 }
 
-/// The least entry whose address lies in the headers or behind the end.
+/// The least entry whose address lies in the headers or after the end.
 fn outside_entry(bytes: &[u8]) -> Option<usize>
     requires { 160 ≤ length bytes.now }
     ensures is { result ≡ outside_entry bytes.now }
@@ -123,7 +123,7 @@ fn outside_entry(bytes: &[u8]) -> Option<usize>
     None
 }
 
-/// Whether an address lies behind the headers and within the file.
+/// Whether an address lies after the headers and within the file.
 fn is_within(bytes: &[u8], address: u32) -> bool
     ensures { result ≡ is_within bytes.now address }
 {

@@ -1,4 +1,4 @@
-// Images joined to a boot file.
+// Joining images to a boot file.
 ghost use Rattle.std.specs.Prelude.{◌≡◌, ◌<◌, ◌≤◌, ◌+◌, ◌*◌, ◌^◌, ◌&&◌, ◌==◌, ℕ, None, length, get_or, IfOk, OnOk, IfErr, unwrap_or};
 ghost use Rattle.std.specs.Result.{result_err};
 ghost use Rattle.boot_file.specs.BootFile.{HasBytes, boot_byte, boot_file, boot_length, bytes_of, header_byte, image_booted, place_of, start_of};
@@ -16,10 +16,14 @@ const HEADER_COUNT: usize = 5;
 /// The most images that the headers can name.
 const MOST_IMAGES: usize = 4;
 
-/// The greatest power of two that images can be aligned to.
+/// The greatest exponent of two to which images can be aligned.
 const MOST_ALIGNMENT: u32 = 24;
 
-/// Whether that many images can be joined so, as far as their number and the options tell. It takes no memory.
+/// Tests whether `count` images can be joined with these options, as far as that follows from their number and the options alone. It
+/// allocates nothing.
+///
+/// # Errors
+/// The first cause in the order of [`MultiFault`] among `NoImage`, `TooMany`, `Align` and `PowerOn`.
 #[tactic(auto, unfolding(crate::specs::Refusals::check_fault))]
 pub fn check(count: usize, options: Options) -> Result<(), MultiFault>
     ensures { result_err result ≡ check_fault count options }
@@ -45,7 +49,19 @@ pub fn check(count: usize, options: Options) -> Result<(), MultiFault>
     Ok(())
 }
 
-/// The boot file of one to four images: five headers, then the images at their places, with FF between.
+/// The boot file of one to four images: five headers, then the images at their offsets, with FF between them.
+///
+/// # Errors
+/// The first cause in the order of [`MultiFault`]; `MultiFault::Memory` if memory is out.
+///
+/// # Example
+/// ```ignore
+/// let mut images = Vec::new(alloc);
+/// images.push(first)?;
+/// images.push(second)?;
+/// let options = Options { cold: false, power_on: 0, align: Some(8), align_first: false };
+/// let file = join(alloc, &images, options)?;
+/// ```
 pub fn join(alloc: Global, images: &Vec<Vec<u8>>, options: Options) -> Result<Vec<u8>, MultiFault>
     ensures joined { IfOk result (λ file. file.items ≡ boot_file (bytes_of images.now) options) }
     ensures accepted { OnOk result (join_fault (bytes_of images.now) options ≡ None) }
@@ -62,7 +78,7 @@ pub fn join(alloc: Global, images: &Vec<Vec<u8>>, options: Options) -> Result<Ve
     Ok(file)
 }
 
-/// Where the last image ends, of images with those places: room for no more bytes than the file has.
+/// The offset at which the last of the images ends, by their offsets. It is never more than the length of the file.
 fn size(places: &[u32], images: &Vec<Vec<u8>>) -> usize
     requires { length places.now ≡ length images.now.items }
     ensures { (options : Options) → ((index : ℕ) → index < length images.now.items → get_or places.now index 0 ≡ place_of (bytes_of images.now) options index)
@@ -74,7 +90,7 @@ fn size(places: &[u32], images: &Vec<Vec<u8>>) -> usize
     }
 }
 
-/// The headers, from the places of the images, with room for as many bytes in all.
+/// The headers, from the offsets of the images, in a vector with room for `room` bytes.
 fn headers(
     alloc: Global,
     places: &[u32],
@@ -95,7 +111,7 @@ fn headers(
     Ok(file)
 }
 
-/// The image that a header boots.
+/// The index of the image that a header boots.
 fn image_booted(count: usize, options: Options, header: usize) -> usize
     requires { options.power_on < count }
     ensures is { result ≡ image_booted count options header }
@@ -111,7 +127,7 @@ fn image_booted(count: usize, options: Options, header: usize) -> usize
     }
 }
 
-/// Whether a header has the mode of cold boot: the first one alone.
+/// Whether a header has the mode in which the pins choose the image at a cold boot: only the first one may.
 fn is_cold(options: Options, header: usize) -> bool
     ensures { result ≡ (options.cold && (header == 0)) }
 {

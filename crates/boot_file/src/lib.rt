@@ -1,9 +1,8 @@
-//! Boot files: several images in one file, behind headers that tell where each of them stands. Images are joined to a file, and a file
-//! is read back.
+//! Boot files: several images in one file, after headers with the address of each image.
 //!
-//! [`join`] makes the file, and [`split`] gives the images that several entries name, and where each of them stands. `Means` (in
+//! [`join`] makes a boot file. [`split`] reads one back: it gives the images that the entries name, and the address of each. `Means` (in
 //! `specs/Meaning.antt`) says what a boot file means, and `split_fault` (in `specs/Faults.antt`) why it means nothing. The clause of
-//! [`joined_file_means_its_images`] is the law about what is joined: it means the images that were joined.
+//! [`joined_file_means_its_images`] is the law about the files that [`join`] makes: such a file means the images that were joined.
 #![tactic(auto)]
 
 mod file;

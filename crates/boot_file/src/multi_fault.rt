@@ -4,7 +4,7 @@ ghost use Rattle.boot_file.specs.declared.multi_fault.MultiFault.TheVariants.{Me
 
 use std::alloc::{AllocError, AllocFailed};
 
-/// Why images aren't joined; an earlier one goes before a later one.
+/// Why images aren't joined. If there are several causes, the first in this list is reported.
 #[derive(Clone, Copy, Debug, PartialEq, Eq)]
 pub enum MultiFault {
     /// There is no image.
@@ -13,9 +13,9 @@ pub enum MultiFault {
     TooMany { n: u64 },
     /// Images are to be aligned to 2 to the power of `n`, and `n` is above 24.
     Align { n: u64 },
-    /// The image that is to be booted at power-on isn't there.
+    /// There is no image of the index that is to be booted at power-on.
     PowerOn { index: u64 },
-    /// The first image whose place is 2 to the power of 24 or later: an address has three bytes.
+    /// The first image whose offset is 2 to the power of 24 or more: an address has three bytes.
     Address { index: u64 },
     /// Out of memory. It may come in place of any other answer.
     Memory(AllocError),

@@ -3,12 +3,12 @@
 /// How images are joined.
 #[derive(Clone, Copy, Debug, PartialEq, Eq)]
 pub struct Options {
-    /// At a cold boot the pins choose the image.
+    /// Whether the pins choose the image at a cold boot.
     pub cold: bool,
     /// The index of the image that is booted at power-on.
     pub power_on: u32,
-    /// Images stand at multiples of 2 to the power of this.
+    /// If it is given, images begin at multiples of 2 to the power of it.
     pub align: Option<u32>,
-    /// The first image stands at such a multiple too, and not right behind the headers.
+    /// Whether the first image begins at such a multiple too, and not right after the headers.
     pub align_first: bool,
 }

@@ -1,4 +1,4 @@
-// Where the images of a boot file stand, and which part of it each has.
+// The addresses of the images of a boot file, and which part of the file each image has.
 ghost use Rattle.std.specs.Prelude.{◌≡◌, ◌<◌, ◌≤◌, length, IfOk};
 ghost use Rattle.boot_file.specs.Parts.{image_addresses, part_end};
 

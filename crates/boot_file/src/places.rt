@@ -1,4 +1,4 @@
-// Where images stand.
+// The offsets of the images in a boot file.
 ghost use Rattle.std.specs.Prelude.{◌≡◌, ◌<◌, ◌≤◌, ◌+◌, ◌^◌, ℕ, None, length, get_or, IfOk, OnOk, IfErr};
 ghost use Rattle.boot_file.specs.BootFile.{aligned, bytes_of, first_place, place_of};
 ghost use Rattle.boot_file.specs.Refusals.{Tells, address_fault, align_fault};
@@ -10,10 +10,10 @@ use std::alloc::Global;
 /// How many bytes all headers have.
 const HEADERS_SIZE: usize = 160;
 
-/// The first place that an address of three bytes doesn't reach.
+/// The first offset that doesn't fit an address of three bytes.
 const ADDRESS_LIMIT: usize = 1 << 24;
 
-/// The place of each image.
+/// The offset of each image.
 pub(crate) fn places(
     alloc: Global,
     images: &Vec<Vec<u8>>,
@@ -41,7 +41,7 @@ pub(crate) fn places(
     Ok(places)
 }
 
-/// Where the first image stands.
+/// The offset of the first image.
 fn first_place(options: Options) -> usize
     requires { align_fault options.align ≡ None }
     ensures { result ≡ first_place options }
@@ -53,8 +53,8 @@ fn first_place(options: Options) -> usize
     }
 }
 
-/// Where the image behind one of that place and length stands. A place that an address doesn't reach may come too early,
-/// but still where no address reaches it.
+/// The offset of the image after one of this offset and length. If it doesn't fit an address, the answer may be less than the true
+/// offset, but it doesn't fit an address either.
 fn place_after(align: Option<u32>, place: usize, length: usize) -> usize
     requires within { place < 2 ^ 24 }
     requires alignment { align_fault align ≡ None }

@@ -5,18 +5,18 @@ ghost use Rattle.boot_file.specs.declared.split_fault.SplitFault.TheVariants.{Me
 use bin_stream::BinFault;
 use std::alloc::{AllocError, AllocFailed};
 
-/// Why a boot file isn't split; an earlier one goes before a later one.
+/// Why a boot file isn't split. If there are several causes, the first in this list is reported.
 #[derive(Clone, Copy, Debug, PartialEq, Eq)]
 pub enum SplitFault {
     /// There are fewer than the 160 bytes of the headers.
     Short { length: u64 },
-    /// The byte at an offset isn't that of a header, which is the header of that index.
+    /// The byte at `offset`, which is in the header of this index, is none that a header has there.
     Header { index: u32, offset: u64 },
-    /// The header of that index, 1 to 4, has an address in the headers or behind the end.
+    /// The header of this index, 1 to 4, has an address in the headers or after the end of the file.
     Address { index: u32, address: u32 },
     /// No other header has the address of header 0.
     PowerOn { address: u32 },
-    /// The image of that index has a fault, whose offset is that in the boot file.
+    /// The image of this index has a fault. Its offset counts from the start of the boot file.
     Image { index: u32, fault: BinFault },
     /// Out of memory. It may come in place of any other answer.
     Memory(AllocError),

@@ -1,4 +1,4 @@
-// A boot file split into its images.
+// Splitting a boot file into its images.
 ghost use Rattle.std.specs.Prelude.{◌≡◌, ◌<◌, ◌≤◌, ◌==◌, Ok, None, IfOk, OnOk, IfErr, IfSome, length, map, position, unwrap_or};
 ghost use Rattle.boot_file.specs.Headers.{entry_address};
 ghost use Rattle.boot_file.specs.Meaning.{Means, boot_of, entries_in};
@@ -13,7 +13,21 @@ use crate::parts::image_addresses;
 use crate::split_fault::SplitFault;
 use std::alloc::Global;
 
-/// The images of a boot file and what its headers say of them, or its first fault.
+/// The images of a boot file, and what its headers say of them. The images are read under the standard layouts.
+///
+/// # Errors
+/// The first cause in the order of [`SplitFault`]; `SplitFault::Memory` if memory is out.
+///
+/// # Example
+/// ```ignore
+/// match split(alloc, bytes) {
+///     Ok(file) => match file.images.as_slice().get(file.power as usize) {
+///         Some(booted) => Some(booted.address),
+///         None => None,
+///     },
+///     Err(_) => None,
+/// }
+/// ```
 #[tactic(auto, using(crate::proofs::Decided::decided))]
 pub fn split(alloc: Global, bytes: &[u8]) -> Result<BootFile, SplitFault>
     // The bytes mean one boot file or have a fault, and not both.
@@ -50,7 +64,7 @@ fn entries(bytes: &[u8], addresses: &[u32]) -> [u32; 4]
     ]
 }
 
-/// The index of an address, and 0 where it isn't there.
+/// The index of an address among the addresses, or 0 if it isn't one of them.
 fn index_of(addresses: &[u32], address: u32) -> u32
     requires { length addresses.now ≤ 4 }
     ensures { result ≡ unwrap_or (position (λ named. named == address) addresses.now) 0 }
@@ -61,7 +75,7 @@ fn index_of(addresses: &[u32], address: u32) -> u32
     }
 }
 
-/// Where an address stands, if it is there.
+/// The index of an address among the addresses, if it is one of them.
 fn position_of(addresses: &[u32], address: u32) -> Option<usize>
     ensures is { result ≡ position (λ named. named == address) addresses.now }
     ensures within { IfSome result (λ index. index < length addresses.now) }

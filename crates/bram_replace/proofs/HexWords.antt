@@ -115,7 +115,7 @@ digits_set-more : (words : List (List ℕ)) (word : List ℕ) (others : List (Li
 digits_set-more [] word others = refl
 digits_set-more (first ∷ words) word others = refl
 
--- a word that fits has as many digits as the others
+-- a word that fits has the number of digits of the others
 pub misfit-parts : (digits : ℕ) (word : List ℕ) → is_misfit digits word ≡ false → (length (digits_in word) ≡ digits) × (length (digits_in word) ≤ 64)
 misfit-parts digits word fits = let parts = or_parts (not (length (digits_in word) == digits)) (nat_lt 64 (length (digits_in word))) fits in
     (eqb-true (length (digits_in word)) digits (not-false (length (digits_in word) == digits) parts.0), ltb-false 64 (length (digits_in word)) parts.1)
@@ -164,7 +164,7 @@ fits-from words word digits bits count wide holds is tested holds_so =
 
 -- ---- the words of a line
 
--- of the words of a line the front was taken, behind words from earlier lines
+-- the first words of a line were taken, after words from earlier lines
 pub record Went (words all rest : List (List ℕ)) (digits : Option ℕ) (bits : List Bool) : Type 0 where
   pub front : List (List ℕ)
   pub cut : all ≡ front ++ rest
@@ -226,7 +226,7 @@ tells-width false number fault (Width line) tells is = absurd cc
 tells-width false number fault Depth tells is = absurd cc
 tells-width false number fault (Memory e) tells is = tt
 
--- what the refusal of a word tells of its line
+-- what the refusal of a word says of its line
 pub Went-refused : (words all rest more : List (List ℕ)) (word : List ℕ) (digits : Option ℕ) (bits : List Bool) (number : ℕ) (told : HexFault) → Went words all rest digits bits
     → rest ≡ word ∷ more → list_all is_word all ≡ true
     → ((before : List (List ℕ)) → Holds before digits bits → TellsHex (if is_misfit (digits_set (before ++ word ∷ [])) word then Some (Width number) else None) told)
@@ -260,7 +260,7 @@ take_while-few test (byte ∷ bytes) =
       | false ↦ omega arith
     ])
 
--- a word and what stands behind it are no longer than the line
+-- a word and the text after it are no longer than the line
 pub word-room : (line word behind : List ℕ) → word ≡ first_word Whitespace line → behind ≡ behind_word Whitespace line → length word + length behind ≤ length line
 word-room line word behind is rest =
     let start = from_word Whitespace line in

@@ -4,7 +4,7 @@ mod Worked
 pub mod Made
 -- columns that are equal, and columns that are all different
 pub mod Same
--- columns as four numbers are equal exactly where their bits are
+-- columns as four numbers are equal exactly if their bits are
 pub mod Packing
 -- words of hexadecimal digits, one after the other
 pub mod HexWords
@@ -12,7 +12,7 @@ pub mod HexWords
 pub mod HexLines
 -- words kept as one list of bits
 pub mod Memory
--- the columns of a file, one after the other: where each was first, and which are repeated
+-- the columns of a file, one after the other: the first index of each, and which are repeated
 pub mod Repeats
 -- the statement of a RAM in a text that can be read, and the tiles that it names
 pub mod Statements
@@ -26,5 +26,5 @@ pub mod Rams
 pub mod Putting
 -- a text that can be read, with its RAMs replaced line by line
 pub mod Steps
--- lines that are passed over up to the next RAM
+-- lines that are skipped up to the next RAM
 pub mod Passed

@@ -1,4 +1,4 @@
--- Lines that are passed over up to the next RAM.
+-- Lines that are skipped up to the next RAM.
 use Rattle.std.proofs.Common.{◌≡◌, ℕ, zero, suc, ◌+◌, ◌-◌, ◌≤◌, false, List, [], ◌∷◌, ◌++◌, length, take, refl, sym, ap, ap₂, ◌∙◌, subst, arith, le_refl, append-nil, append_assoc, length-append}
 use Rattle.std.proofs.lemmas.List.{take-append-le, take_all}
 use Rattle.text_lines.specs.Lines.{lines_of, whole_lines_of}
@@ -21,7 +21,7 @@ Passes-more text passed middle content whole rest p lines wholes parts other = r
   parts = p.parts ∙ ap (λ xs. passed ++ xs) parts ∙ sym (append_assoc passed whole rest);
 }
 
--- the bytes that are passed over
+-- the bytes that are skipped
 pub passed-is : (text passed rest : List ℕ) → Passes text passed rest → take (length text - length rest) text ≡ passed
 passed-is text passed rest p =
     let size : length text ≡ length passed + length rest = ap length p.parts ∙ length-append passed rest in
@@ -47,7 +47,7 @@ pub Progress-passes : (from to : Contents) (modes : Modes) (text left out found 
 Progress-passes from to modes text left out found passed rest new p passes is =
     subst (λ xs. Progress from to modes text rest xs found) (sym is) (Progress-lines from to modes text left out found passes.count passed rest p passes.lines)
 
--- there are no more lines behind them
+-- there are no more lines after them
 lines-shorter : (text : List ℕ) (count : ℕ) (passed rest : List ℕ) → PassesLines text count passed rest → length (lines_of rest) ≤ length (lines_of text)
 lines-shorter text zero passed rest lines = omega (arith, ap (λ xs. length (lines_of xs)) lines.1)
 lines-shorter text (suc count) passed rest lines = omega (arith, ap length lines.4.lines, lines-shorter text count lines.0 lines.2 lines.3)

@@ -25,7 +25,7 @@ use Rattle.asc_text.proofs.RamLines.{no_empty}
 
 -- ---- one word
 
--- half of what is left
+-- half of the rest
 pub rest-more : (value rest bit : ℕ) → rest ≡ value / 2 ^ bit → rest / 2 ≡ value / 2 ^ (bit + 1)
 rest-more value rest bit is =
     let twice : 2 ^ bit * 2 ≡ 2 ^ (bit + 1) = rw add-one (omega (arith, two-pow-succ bit)) in

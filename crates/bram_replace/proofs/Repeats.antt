@@ -1,4 +1,4 @@
--- The columns of a file, one after the other: where each was first, and which are repeated.
+-- The columns of a file, one after the other: the first index of each, and which are repeated.
 use Rattle.std.proofs.Common.{◌≡◌, ℕ, zero, suc, ◌+◌, ◌<◌, Bool, true, false, cond, List, refl, sym, ap, ◌∙◌, inl, inr, arith}
 use Rattle.std.specs.Prelude.{Option, Some, None, nat_lt}
 use Rattle.std.specs.Option.{option_map}
@@ -114,7 +114,7 @@ repeats-new file place found finds none =
     without_last file place ∙ first_below-same place (repeat_among file (place + 1)) (repeat_among file place)
     (λ k below. kept file place k (least_below-clear place k (tests file (column_bit file place)) clear below))
 
--- where the first repeat is found
+-- the place at which the first repeat is found
 record IsFirst (n : ℕ) (given : ℕ → Option BramFault) (fault : BramFault) : Type 0 where
   place : ℕ
   within : place < n

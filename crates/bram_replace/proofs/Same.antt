@@ -75,7 +75,7 @@ match-only file bits place column none found within =
       ])
     ]
 
--- where none is found none is equal
+-- if none is found none is equal
 pub match-none : (file : Contents) (bits : List Bool) (column : ℕ) → match_of file bits ≡ None → column < column_count file → is_same (column_at file column) bits ≡ false
 unfolding match_of
 match-none file bits column none within = least_below-clear (column_count file) column (λ column. is_same (column_at file column) bits) none within

@@ -29,7 +29,7 @@ use Rattle.asc_text.proofs.RamLines.{fine, ram_line-from}
 
 -- ---- the numbers of the statement
 
--- the statement of a RAM's contents by what stands behind its first word
+-- the statement of a RAM's contents by the text after its first word
 pub ram-spelled : (line : List ℕ) → is_ram_data (statement_in line) ≡ true → statement_in line ≡ ram_data_of_numbers (numbers_of (words_of Spaces (behind_word Spaces (trimmed line))))
 unfolding statement_in
 ram-spelled line is =
@@ -51,7 +51,7 @@ two-numbers (Some (x ∷ [])) is = absurd (false≢true is)
 two-numbers (Some (x ∷ y ∷ [])) is = (x, y, refl)
 two-numbers (Some (x ∷ y ∷ z ∷ rest)) is = absurd (false≢true is)
 
--- and two numbers behind it
+-- and two numbers after it
 pub ram-numbers : (line : List ℕ) → is_ram_data (statement_in line) ≡ true → (x : ℕ) × (y : ℕ) × (statement_in line ≡ ram_data_of_numbers (Some (x ∷ y ∷ [])))
 ram-numbers line is =
     let spelled_so = ram-spelled line is in

@@ -28,7 +28,7 @@ use Rattle.asc_text.proofs.RamLines.{ram-begins, ram-not, ram-not-at, outside-mo
 use Rattle.bram_replace.proofs.Rams.{count-few}
 use Rattle.bram_replace.proofs.Statements.{lower-there}
 
--- so many lines were taken, and no line of a RAM comes next
+-- a number of lines were taken, and no line of a RAM comes next
 pub record Progress (from to : Contents) (modes : Modes) (text left out found : List ℕ) : Type 0 where
   pub n : ℕ
   pub within : n ≤ length (lines_of text)
@@ -221,7 +221,7 @@ Progress-ram from to modes text left out found content whole rest middle after n
           ∙ ap (λ m. count_before from modes all n column + length (columns_found from (by_columns m (ram_bits (drop (n + 1) all))) column)) (sym own) ∙ sym (count-ram from modes all n column ram.flat ram.is);
     }
 
--- ---- behind the last line
+-- ---- after the last line
 
 ended : (from to : Contents) (modes : Modes) (text left out found : List ℕ) → (p : Progress from to modes text left out found) → left ≡ [] → p.n ≡ length (lines_of text)
 ended from to modes text left out found p end = cut-end text left p.n p.lines end p.within

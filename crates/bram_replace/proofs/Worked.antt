@@ -133,7 +133,7 @@ mode_zero = refl
 
 -- ---- lines of a RAM
 
--- sixteen words, the first of them ABCD, with blanks and the line's end behind
+-- sixteen words, the first of them ABCD, with blanks and the line's end after them
 abbrev digits : List ℕ
 digits = codes "000000000000000000000000000000000000000000000000000000000000ABCD"
 
@@ -144,7 +144,7 @@ given = ram_bits (digits ∷ digits ∷ [])
 abbrev changed : RamBits
 changed word bit = ((word == 1) && (bit == 3)) || given word bit
 
--- a line with a word that changes gets all its digits anew, in lower case, and keeps what stands behind them
+-- a line with a word that changes gets all its digits anew, in lower case, and keeps the text after them
 line_changes : memory_line_with given changed 0 (digits ++ codes " \t\r\n")
     ≡ codes "00000000000000000000000000000000000000000000000000000000" ++ codes "0008abcd \t\r\n"
 unfolding any_below trimmed encode_with decode_pairs word_of memory_bytes gathered_below

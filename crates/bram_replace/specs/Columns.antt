@@ -1,4 +1,5 @@
--- Columns of a file of memory words: one bit of 256 words. Columns, words and bits count from 0.
+-- Columns of a file of memory words: one bit of 256 words, as the usage text of Project IceStorm's `icebram` has them. Columns, words and
+-- bits count from 0.
 use Rattle.std.specs.Prelude.{ℕ, ◌+◌, ◌*◌, ◌/◌, ◌%◌, Bool, true, false, not, ◌&&◌, List, [], ◌∷◌, length, get_or, map, nat_lt, Option}
 use Rattle.std.specs.List.{range_with_len}
 use Rattle.std.specs.Option.{option_map}
@@ -45,15 +46,15 @@ is_same [] [] = true
 is_same (bit ∷ bits) (other ∷ others) = is_same_bit bit other && is_same bits others
 is_same bits others = false
 
--- whether a later column is equal to one
+-- whether the second column is later than the first and equal to it
 abbrev pub is_repeat : Contents → ℕ → ℕ → Bool
 is_repeat file first second = nat_lt first second && is_same (column_at file first) (column_at file second)
 
--- the refusal of a column that a later one is equal to, with the first such one
+-- the refusal of a column that is equal to a later one, with the first such later one
 abbrev pub repeat_fault : Contents → ℕ → Option BramFault
 repeat_fault file first = option_map (SameColumns first) (least_below (column_count file) (is_repeat file first))
 
--- the first column that a later one is equal to
+-- the refusal of the first column that is equal to a later one
 unfoldable pub same_fault : Contents → Option BramFault
 same_fault file = first_below (column_count file) (repeat_fault file)
 

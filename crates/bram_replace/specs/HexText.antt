@@ -1,5 +1,5 @@
--- A file of memory words in hexadecimal digits: its words, and what is wrong with it. Lines count from 1 in refusals, and
--- from 0 here.
+-- A file of memory words in hexadecimal digits, as `icebram` of Project IceStorm takes it: its words, and what is wrong with it.
+-- Lines count from 1 in refusals, and from 0 here.
 use Rattle.std.specs.Prelude.{◌≡◌, ℕ, ◌+◌, ◌/◌, ◌%◌, Bool, false, not, ◌&&◌, ◌||◌, List, [], ◌∷◌, length, map, filter, flat_map, reverse, nat_lt, ◌==◌, if◌then◌else◌, Option, Some, None}
 use Rattle.std.specs.List.{list_all, list_any}
 use Rattle.std.specs.Option.{option_map_or}
@@ -32,7 +32,7 @@ unfoldable pub before_comment : List ℕ → List ℕ
 before_comment [] = []
 before_comment (byte ∷ bytes) = if begins_comment (byte ∷ bytes) then [] else byte ∷ before_comment bytes
 
--- the words of a line; spaces, tabs and CRs part them
+-- the words of a line, separated by spaces, tabs and CRs
 abbrev pub words_in : List ℕ → List (List ℕ)
 words_in line = words_of Whitespace (before_comment line)
 
@@ -53,13 +53,13 @@ abbrev pub digits_set : List (List ℕ) → ℕ
 digits_set [] = 0
 digits_set (word ∷ words) = length (digits_in word)
 
--- another number of digits than the one that is set, or more than 64
+-- a word with another number of digits than the one that is set, or with more than 64
 abbrev pub is_misfit : ℕ → List ℕ → Bool
 is_misfit digits word = not (length (digits_in word) == digits) || nat_lt 64 (length (digits_in word))
 
 -- ---- faults
 
--- what is wrong with a line whose words these are, with the number of digits that is set up to it
+-- what is wrong with a line of these words, by the number of digits that is set up to it
 abbrev pub words_cause : ℕ → List (List ℕ) → ℕ → Option HexFault
 words_cause digits words line =
     if not (list_all is_word words) then Some (Digit line)
@@ -70,11 +70,11 @@ words_cause digits words line =
 abbrev pub line_cause : List (List ℕ) → ℕ → Option HexFault
 line_cause lines n = words_cause (digits_set (words_before lines (n + 1))) (words_in (line_at lines n)) (n + 1)
 
--- blocks of 256 words, and at least one
+-- complete blocks of 256 words, at least one
 abbrev pub is_depth : ℕ → Bool
 is_depth count = not (count == 0) && (count % 256 == 0)
 
--- another number of words
+-- the number of words is not that of complete blocks
 abbrev pub depth_cause : ℕ → Option HexFault
 depth_cause count = if is_depth count then None else Some Depth
 
@@ -87,7 +87,7 @@ unfoldable pub hex_fault_of : List ℕ → Option HexFault
 hex_fault_of text =
     or_else (first_below (length (lines_of text)) (line_cause (lines_of text))) (depth_cause (length (all_words text)))
 
--- a refusal is that one, except where memory ran out
+-- a refusal is this one, unless memory ran out
 abbrev pub TellsHex : Option HexFault → HexFault → Type 0
 TellsHex fault (Memory e) = Unit {0}
 TellsHex fault told = fault ≡ Some told

@@ -11,7 +11,7 @@ use Rattle.bit_plane.specs.BitList.{word_of}
 use Rattle.bram_replace.specs.HexText.{Contents}
 use Rattle.bram_replace.specs.Columns.{column_at, column_from, is_repeat, is_same}
 
--- the number of so many bits, the first the bit of value 1
+-- `count` bits as a number, the first the bit of value 1
 abbrev pub word_from : ℕ → (ℕ → Bool) → ℕ
 word_from count bit = word_of (map bit (range_with_len 0 count))
 
@@ -21,7 +21,7 @@ packed bit =
     word_from 64 (λ place. bit (0 + place)) ∷ word_from 64 (λ place. bit (64 + place))
     ∷ word_from 64 (λ place. bit (128 + place)) ∷ word_from 64 (λ place. bit (192 + place)) ∷ []
 
--- a look-up finds the first of so many columns that is equal to these bits
+-- a look-up finds the first of the first `count` columns that is equal to these bits
 abbrev pub Finds : Contents → ℕ → (List ℕ → Option ℕ) → Type 0
 Finds file count found = (bit : ℕ → Bool) → found (packed bit) ≡ least_below count (λ column. is_same (column_at file column) (column_from bit))
 
@@ -35,10 +35,10 @@ abbrev pub repeat_told : Option Repeat → Option BramFault
 repeat_told None = None
 repeat_told (Some repeat) = Some (SameColumns repeat.first repeat.second)
 
--- the refusal of a column that is equal to a later one among so many
+-- the refusal of a column that is equal to a later one among the first `count` columns
 abbrev pub repeat_among : Contents → ℕ → ℕ → Option BramFault
 repeat_among file count first = option_map (SameColumns first) (least_below count (is_repeat file first))
 
--- the same of the first such column
+-- the refusal of the first such column among the first `count` columns
 abbrev pub first_repeat : Contents → ℕ → Option BramFault
 first_repeat file count = first_below count (repeat_among file count)

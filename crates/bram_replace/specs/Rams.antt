@@ -9,7 +9,7 @@ use Rattle.bram_replace.specs.Replaced.{bit_from, ram_column}
 abbrev pub listed : List Bool → RamBits
 listed bits word bit = get_or bits (16 * word + bit) false
 
--- the same bits of the first so many words
+-- the bits of the first `words` words are equal
 abbrev pub AreAlike : ℕ → RamBits → RamBits → Type 0
 AreAlike words bits others = (word bit : ℕ) → word < words → bit < 16 → bits word bit ≡ others word bit
 
@@ -17,7 +17,7 @@ AreAlike words bits others = (word bit : ℕ) → word < words → bit < 16 → 
 abbrev pub columns_after : Contents → Contents → RamBits → RamBits
 columns_after from to before place column = bit_from to (match_of from (ram_column before column)) place (before place column)
 
--- where a list that has one word after the other keeps the bit of a column at a place
+-- the index at which a list that has one word after the other keeps the bit of a column at a place
 abbrev pub kept_at : ℕ → ℕ → ℕ → ℕ
 kept_at mode place column =
     let address = 256 * (column / mode_width mode) + place in

@@ -1,5 +1,6 @@
--- Read modes of RAMs. In mode m a RAM holds a memory of 256 * 2^m words of 16 / 2^m bits, and each of its 256 words of 16 bits
--- has the bits of 2^m words of the memory.
+-- Read modes of RAMs: the `READ_MODE` of `SB_RAM40_4K`. In mode m a RAM holds a memory of 256 * 2^m words of 16 / 2^m bits, and each of
+-- its 256 words of 16 bits has the bits of 2^m words of the memory. The bits that set the mode are those of Project IceStorm, 'RAM Tile';
+-- the order of the bits in the words is the one of Project IceStorm's `icebram`.
 use Rattle.std.specs.Prelude.{◌≡◌, ℕ, zero, suc, ◌+◌, ◌*◌, ◌/◌, ◌%◌, ◌^◌, ◌<◌, Bool, List, Option, Some, None}
 use Rattle.bit_plane.specs.BitList.{bit_value}
 use Rattle.asc_text.specs.declared.fault.TileXy.{TileXy}
@@ -17,7 +18,7 @@ Modes = ℕ → ℕ → ℕ
 abbrev pub no_modes : Modes
 no_modes x y = 0
 
--- a bit of the tile above a RAM, in column 7, and 0 where the text has no such tile
+-- a bit of the tile above a RAM, in column 7, or 0 if the text has no such tile
 abbrev pub mode_bit : List (List ℕ) → ℕ → ℕ → ℕ → ℕ
 mode_bit lines x y row = bit_value (character_of lines (record { x = x; y = y + 1; row = row; col = 7 }))
 
@@ -41,20 +42,20 @@ mode_for modes (Some ram) = modes ram.x ram.y
 abbrev pub RamBits : Type 0
 RamBits = ℕ → ℕ → Bool
 
--- the last so many bits of a number, in the reverse order
+-- the low `count` bits of a number, in reverse order
 abbrev pub reversed : ℕ → ℕ → ℕ
 reversed zero number = 0
 reversed (suc count) number = 2 ^ count * (number % 2) + reversed count (number / 2)
 
--- the word of the memory that a bit of a word of the RAM belongs to; it is bit / 2^m there
+-- the word of the memory to which a bit of a word of the RAM belongs; it is bit number bit / 2^m of that word
 abbrev pub address_of : ℕ → ℕ → ℕ → ℕ
 address_of mode word bit = 2 ^ mode * word + reversed mode (bit % 2 ^ mode)
 
--- the other way round: the bits of the memory
+-- the inverse: the bits of the memory, from the bits of the RAM
 abbrev pub memory_of : ℕ → RamBits → RamBits
 memory_of mode bits address bit = bits (address / 2 ^ mode) (2 ^ mode * bit + reversed mode (address % 2 ^ mode))
 
--- ---- columns of the memory, which are counted as those of a file are
+-- ---- columns of the memory, which are counted like the columns of a file
 
 -- how many bits a word of the memory has
 abbrev pub mode_width : ℕ → ℕ
@@ -64,7 +65,7 @@ mode_width mode = 16 / 2 ^ mode
 abbrev pub by_columns : ℕ → RamBits → RamBits
 by_columns mode bits place column = memory_of mode bits (256 * (column / mode_width mode) + place) (column % mode_width mode)
 
--- the column that a bit of a word of the RAM belongs to
+-- the column to which a bit of a word of the RAM belongs
 abbrev pub column_in : ℕ → ℕ → ℕ → ℕ
 column_in mode word bit = address_of mode word bit / 256 * mode_width mode + bit / 2 ^ mode
 

@@ -1,6 +1,6 @@
 -- A text with the contents of its RAMs replaced, from two files of memory words: each column of a RAM that is equal to a
--- column of the first file becomes the column of that number of the second file. In mode 0, which is that of every RAM where
--- modes aren't followed, a column of a RAM is one bit of its 256 words.
+-- column of the first file becomes the column of the same index of the second file, as the usage text of Project IceStorm's `icebram`
+-- says. In mode 0, the mode of every RAM if modes aren't followed, a column of a RAM is one bit of its 256 words.
 use Rattle.std.specs.Prelude.{◌≡◌, ℕ, ◌+◌, ◌-◌, ◌*◌, ◌/◌, ◌%◌, Bool, not, ◌&&◌, List, [], ◌∷◌, ◌++◌, length, drop, map, ◌==◌, if◌then◌else◌, Option, Some, None}
 use Rattle.std.specs.List.{range_with_len}
 use Rattle.place_search.specs.Places.{any_below, gathered_below, or_else}
@@ -30,7 +30,7 @@ ram_bits below word bit = memory_bit (trimmed (line_at below (word / 16))) (word
 abbrev pub ram_column : RamBits → ℕ → List Bool
 ram_column bits column = column_from (λ place. bits place column)
 
--- the bit of a column of the second file, or the old one where no column of the first file is equal
+-- the bit of a column of the second file, or the old one if no column of the first file is equal
 abbrev pub bit_from : Contents → Option ℕ → ℕ → Bool → Bool
 bit_from to None word old = old
 bit_from to (Some column) word old = column_bit to column word
@@ -40,7 +40,7 @@ abbrev pub bits_after : Contents → Contents → ℕ → RamBits → RamBits
 bits_after from to mode before word bit =
     bit_from to (match_of from (ram_column (by_columns mode before) (column_in mode word bit))) (place_in mode word bit) (before word bit)
 
--- a column of a RAM, where it is equal to a column of the first file
+-- a column of a RAM, if it is equal to a column of the first file
 abbrev pub column_found : Contents → RamBits → ℕ → ℕ → List ℕ
 column_found from bits column own = if is_same (column_at from column) (ram_column bits own) then own ∷ [] else []
 
@@ -59,12 +59,12 @@ changes before after row =
 abbrev pub word_with : RamBits → ℕ → ℕ
 word_with bits word = word_of (map (bits word) (range_with_len 0 16))
 
--- the digits of a line, in lower case: sixteen words, the first of them at the right
+-- the digits of a line, in lower case: sixteen words, the first word at the right
 abbrev pub digits_with : RamBits → ℕ → List ℕ
 digits_with bits row = encode_lower (gathered_below 16 (λ place. two_bytes (word_with bits (16 * row + (15 - place)))))
 
--- A line afterwards, from the line with its end: one whose words all stay is itself, and of any other line what stands
--- behind the 64 digits stays.
+-- A line afterwards, from the line with its end: a line whose words all stay is unchanged, and of any other line the text
+-- after the 64 digits stays.
 abbrev pub memory_line_with : RamBits → RamBits → ℕ → List ℕ → List ℕ
 memory_line_with before after row whole =
     if changes before after row then digits_with after row ++ drop 64 whole else whole
@@ -90,31 +90,31 @@ found_at from modes lines column n =
     let bits = by_columns (mode_for modes (tile_named (statement_at lines n))) (ram_bits (drop (n + 1) lines)) in
     if is_ram_data (statement_at lines n) then columns_found from bits column else []
 
--- to how many columns of the RAMs that the lines before a line begin a column of the first file is equal
+-- how many columns are equal to a column of the first file, in the RAMs that begin before a line
 abbrev pub count_before : Contents → Modes → List (List ℕ) → ℕ → ℕ → ℕ
 count_before from modes lines n column = length (gathered_below n (found_at from modes lines column))
 
--- the same of all RAMs, for each column of the first file
+-- how many columns of all RAMs are equal to each column of the first file
 unfoldable pub found_in : List ℕ → Contents → Modes → List ℕ
 found_in text from modes =
     let lines = lines_of text in map (count_before from modes lines (length lines)) (range_with_len 0 (column_count from))
 
 -- ---- refusals
 
--- files of another number of digits or of words
+-- files that differ in the number of digits or of words
 abbrev pub shape_fault : Contents → Contents → Option BramFault
 shape_fault from to = if (from.digits == to.digits) && (length from.words == length to.words) then None else Some Shape
 
--- the fault of a text, among others
+-- the fault of a text as a cause
 abbrev pub text_fault : Option Fault → Option BramFault
 text_fault None = None
 text_fault (Some fault) = Some (Asc (At fault.line fault.tile fault.cause))
 
--- the first cause that holds
+-- the first cause that applies
 abbrev pub bram_fault : List ℕ → Contents → Contents → Option BramFault
 bram_fault text from to = or_else (shape_fault from to) (or_else (same_fault from) (text_fault (asc_fault_of standard_layouts text)))
 
--- a refusal is that one, except where memory ran out
+-- a refusal is this one, unless memory ran out
 abbrev pub TellsBram : Option BramFault → BramFault → Type 0
 TellsBram fault (Memory e) = Unit {0}
 TellsBram fault told = fault ≡ Some told

@@ -1,4 +1,4 @@
-// Columns of 256 bits, and where a column stands among those of a file.
+// Columns of 256 bits, and the index of a column among the columns of a file.
 ghost use Rattle.std.specs.Prelude.{◌≡◌, ◌≤◌, ◌<◌, ◌+◌, ◌-◌, ◌*◌, ◌^◌, ℕ, Bool, List, Some, None, false, cond, length, get_or, IfOk, OnOk, IfErr, IfSome};
 ghost use Rattle.std.specs.Ordering.{nat_cmp};
 ghost use Rattle.std.specs.Cmp.Lexicographic.{slice_cmp};
@@ -14,7 +14,7 @@ use std::collections::BTreeMap;
 /// 256 bits as four numbers, which are quick to compare: bit i is bit i % 64 of number i / 64.
 pub(crate) type Column = [u64; 4];
 
-/// The 256 bits that stand so many bits apart from each other, from the first on.
+/// The column of 256 bits from index `first` on, each `step` bits after the one before.
 #[tactic(auto, unfolding(crate::specs::Packed::packed))]
 pub(crate) fn column_of(bits: &[bool], first: usize, step: usize) -> Column
     requires { first + 255 * step < length bits.now }
@@ -28,7 +28,7 @@ pub(crate) fn column_of(bits: &[bool], first: usize, step: usize) -> Column
     ]
 }
 
-/// The number of so many bits that stand so many bits apart from each other, the first the bit of value 1.
+/// `count` bits from index `first` on, each `step` bits after the one before, as a number. The first one is its lowest bit.
 pub(crate) fn word_of(bits: &[bool], first: usize, step: usize, count: usize) -> u64
     requires few { count ≤ 64 }
     requires within { first + (count - 1) * step < length bits.now }
@@ -44,7 +44,7 @@ pub(crate) fn word_of(bits: &[bool], first: usize, step: usize, count: usize) ->
     word
 }
 
-/// A column that a later one is equal to.
+/// Two equal columns: the index of the earlier one and of the later one.
 #[derive(Clone, Copy, Debug, PartialEq, Eq)]
 struct Repeat {
     first: u32,
@@ -52,7 +52,7 @@ struct Repeat {
 }
 
 impl Repeat {
-    /// The repeat of the earlier column, of which there may be none so far.
+    /// The one of two repeats whose first column is earlier.
     fn or_earlier(self, other: Option<Repeat>) -> Repeat
         ensures { result ≡ earlier self other }
     {
@@ -63,7 +63,7 @@ impl Repeat {
     }
 }
 
-/// Where each of some columns was first, and the earliest column that was repeated.
+/// The first index of each column so far, and the earliest column that was repeated.
 #[derive(Drop)]
 struct FirstPlaces {
     places: BTreeMap<Column, u32>,
@@ -73,7 +73,7 @@ struct FirstPlaces {
 impl FirstPlaces {
     ghost use Rattle.bram_replace.specs.HexText.{Contents};
 
-    /// Takes the next column, which has that place.
+    /// Takes the next column, which has the index `place`.
     fn accept(&mut self, column: Column, place: u32) -> Result<(), AllocError>
         ensures finds { (file : Contents) → column ≡ packed (column_bit file place)
             → Finds file place (get (slice_cmp nat_cmp) self.old.places)
@@ -97,7 +97,7 @@ impl FirstPlaces {
     }
 }
 
-/// Gives a new column its place.
+/// Enters a new column with its index.
 fn insert(places: &mut BTreeMap<Column, u32>, column: Column, place: u32) -> Result<(), AllocError>
     ensures { OnOk result ((key : List ℕ) → get (slice_cmp nat_cmp) places.new key
         ≡ cond (is_at (slice_cmp nat_cmp column) key) (Some place) (get (slice_cmp nat_cmp) places.old key)) }
@@ -120,7 +120,7 @@ pub(crate) struct Columns<'a> {
 impl<'a> Columns<'a> {
     ghost use Rattle.bram_replace.specs.Replaced.{TellsBram};
 
-    /// The columns of a file, which have to be all different.
+    /// The columns of a file. They have to be all different; if not, the fault is the earliest that is repeated.
     pub(crate) fn of(alloc: Global, file: &'a HexFile) -> Result<Columns<'a>, BramFault>
         ensures file { IfOk result (λ columns. columns.file.now ≡ file.now) }
         ensures accepted { OnOk result (same_fault file.now ≡ None) }
@@ -147,7 +147,7 @@ impl<'a> Columns<'a> {
         self.file.column_count()
     }
 
-    /// Where a column stands, if it does.
+    /// The index of a column, if it is one of the file's.
     pub(crate) fn place(&self, column: Column) -> Option<usize>
         ensures found { (bit : ℕ → Bool) → column ≡ packed bit → result ≡ match_of self.now.file.now (column_from bit) }
     {

@@ -15,7 +15,7 @@ const DIGIT_BITS: usize = 4;
 /// How many words a block has.
 const BLOCK_WORDS: usize = 256;
 
-/// A file of memory words, each of the same number of hexadecimal digits.
+/// A file of memory words, all with one number of hexadecimal digits.
 ///
 /// Contracts see the number of digits and the list of words, each word the list of its bits, the lowest first.
 #[derive(Drop)]
@@ -42,8 +42,12 @@ impl HexFile {
     ghost use Rattle.bram_replace.specs.Columns.{column_at, column_bit, column_count};
     ghost use Rattle.bram_replace.specs.Packed.{packed};
 
-    /// The words of a text, or its first faulty line. Spaces, tabs, CRs and line ends part words, underscores between
-    /// digits don't count, and two slashes begin a comment.
+    /// The words of a text. Spaces, tabs, CRs and line ends separate words, underscores between digits don't count, and two slashes begin a
+    /// comment.
+    ///
+    /// # Errors
+    /// `HexFault::Digit` or `HexFault::Width` for the first faulty line; `HexFault::Depth` if no line is faulty, and the number of words is
+    /// 0 or no multiple of 256; `HexFault::Memory` if memory is out.
     pub fn read(alloc: Global, bytes: &[u8]) -> Result<HexFile, HexFault>
         requires { length bytes.now ≤ 16777216 }
         ensures read { IfOk result (λ file. file ≡ contents_of bytes.now) }
@@ -117,7 +121,7 @@ impl HexFile {
         bits[at]
     }
 
-    /// A column, to be looked up.
+    /// A column as four numbers.
     pub(crate) fn column(&self, column: usize) -> Column
         requires { column < column_count self.now }
         ensures { result ≡ packed (column_bit self.now column) }
@@ -131,7 +135,7 @@ impl HexFile {
     }
 }
 
-/// Whether so many words are whole blocks, and at least one.
+/// Whether `count` words are complete blocks of 256 words, at least one.
 fn is_depth(count: usize) -> bool
     ensures { result ≡ is_depth count }
 {

@@ -13,10 +13,10 @@ use text_lines::{Separators, split_word};
 /// The most digits that a word may have.
 const MOST_DIGITS: usize = 64;
 
-/// Words that were read, each of the same number of digits.
+/// Words that were read, all with one number of digits.
 #[derive(Drop)]
 pub(crate) struct Words {
-    /// How many digits each word has: none before the first word.
+    /// How many digits each word has, or `None` before the first word.
     pub(crate) digits: Option<usize>,
     /// The bits of the words, one word after the other, the lowest bit of each first.
     pub(crate) bits: Vec<bool>,
@@ -36,7 +36,7 @@ impl Words {
         }
     }
 
-    /// Takes the words of the next line, which has that number.
+    /// Takes the words of the next line, which has this line number.
     pub(crate) fn take_line(&mut self, number: u64, line: &[u8]) -> Result<(), HexFault>
         ensures taken { (words : List (List ℕ)) → Holds words self.old.digits self.old.bits.items
             → OnOk result (Holds (words ++ words_of Whitespace line.now) self.new.digits self.new.bits.items) }
@@ -72,7 +72,7 @@ impl Words {
         Ok(())
     }
 
-    /// Takes a word of the line of that number.
+    /// Takes a word of the line of this number.
     fn take_word(&mut self, number: u64, word: &[u8]) -> Result<(), HexFault>
         requires { is_word word.now ≡ true }
         ensures taken { (words : List (List ℕ)) → Holds words self.old.digits self.old.bits.items
@@ -93,7 +93,7 @@ impl Words {
         }
     }
 
-    /// Whether a next word may have that many digits.
+    /// Whether the next word may have this number of digits.
     fn has_width(&self, digits: usize) -> bool
         ensures { result ≡ (nat_le digits 64 && (digits == unwrap_or self.now.digits digits)) }
     {
@@ -113,7 +113,7 @@ pub(crate) fn before_comment(line: &[u8]) -> &[u8]
     line
 }
 
-/// Whether two slashes come first.
+/// Whether a text begins with two slashes.
 fn begins_comment(text: &[u8]) -> bool
     ensures { result ≡ begins_comment text.now }
 {

@@ -1,9 +1,9 @@
-//! The contents of RAMs replaced in a text.
+//! Replacing the contents of RAMs in a text.
 //!
 //! A design is made with known contents of its RAMs, and other contents are put into the finished text later. Both are
 //! given as files of hexadecimal words. A RAM of the text may hold any bits of any block of 256 words, so each bit of its
-//! words is a column of 256 bits that is looked up among the columns of the first file. Where read modes are followed, the
-//! words are those of the memory that a RAM holds in its mode, of which it may have several blocks.
+//! words is a column of 256 bits that is looked up among the columns of the first file. If read modes are followed, the
+//! words are the words of the memory that a RAM holds in its mode, which may have several blocks.
 //!
 //! [`ram_columns_are_its_words`] is the law that the columns of a RAM and its words are the same bits in two orders.
 #![tactic(auto)]

@@ -16,17 +16,17 @@ use ice_image::AnyImage;
 use plane_map::TileBit;
 use text_lines::{Separators, split_word, trimmed, two_numbers};
 
-/// Whether each RAM is taken in its read mode.
+/// Whether each RAM is taken in its read mode, the `READ_MODE` of `SB_RAM40_4K`.
 #[derive(Clone, Copy, Debug, PartialEq, Eq)]
 pub enum ReadModes {
     /// Each RAM is taken for one of 256 words of 16 bits, which is mode 0.
     Ignored,
-    /// A RAM in read mode m is taken for one of 256 * 2^m words of 16 / 2^m bits. The tile above a RAM has its mode, and where
-    /// the text has no such tile it is 0.
+    /// A RAM in read mode m is taken for one of 256 * 2^m words of 16 / 2^m bits. The tile above a RAM has its mode; if the text has no
+    /// such tile, the mode is 0.
     Followed,
 }
 
-/// The mode in which the RAM of a statement is taken, in a text that gives that image.
+/// The mode in which the RAM of a statement is taken, in a text that gives this image.
 pub(crate) fn mode_of(modes: ReadModes, image: &AnyImage, statement: &[u8]) -> usize
     requires ram { is_ram_data (statement_in statement.now) ≡ true }
     requires there { (ram : TileXy) → tile_named (statement_in statement.now) ≡ Some ram → kind_of (device_of image.now) ram.x ram.y ≡ Some RamB }

@@ -11,7 +11,7 @@ const RAM_BITS: usize = 4096;
 /// How many words a block has.
 const BLOCK_WORDS: usize = 256;
 
-/// The bits of the columns of a RAM in that mode: at each place one bit of each column.
+/// The bits of the columns of a RAM in this mode: place by place, one bit of each column.
 pub(crate) fn by_columns(bits: &RamBits, mode: usize) -> RamBits
     requires { mode < 4 }
     ensures { AreAlike 256 (listed result) (by_columns mode (listed bits.now)) }
@@ -23,7 +23,7 @@ pub(crate) fn by_columns(bits: &RamBits, mode: usize) -> RamBits
     columns
 }
 
-/// The bits of a RAM in that mode from the bits of its columns.
+/// The bits of a RAM in this mode from the bits of its columns.
 pub(crate) fn from_columns(columns: &RamBits, mode: usize) -> RamBits
     requires { mode < 4 }
     ensures { AreAlike 256 (listed result) (from_columns mode (listed columns.now)) }
@@ -35,7 +35,7 @@ pub(crate) fn from_columns(columns: &RamBits, mode: usize) -> RamBits
     bits
 }
 
-/// Where a RAM in that mode keeps the bit of a column at a place.
+/// The index in a RAM in this mode at which the bit of a column at a place is.
 fn kept_at(mode: usize, place: usize, column: usize) -> usize
     requires mode { mode < 4 }
     requires place { place < 256 }
@@ -50,7 +50,7 @@ fn kept_at(mode: usize, place: usize, column: usize) -> usize
     SIXTEEN * (address / words) + bit
 }
 
-/// Where a bit of a word of a RAM in that mode stands among the bits of its columns.
+/// The index among the bits of the columns at which a bit of a word of a RAM in this mode is.
 fn stands_at(mode: usize, word: usize, bit: usize) -> usize
     requires mode { mode < 4 }
     requires word { word < 256 }
@@ -64,7 +64,7 @@ fn stands_at(mode: usize, word: usize, bit: usize) -> usize
     SIXTEEN * (address % BLOCK_WORDS) + column
 }
 
-/// How many words of the memory a word of a RAM in that mode has bits of.
+/// How many words of the memory have bits in one word of a RAM in this mode.
 fn words_each(mode: usize) -> usize
     requires { mode < 4 }
     ensures { result ≡ 2 ^ mode }
@@ -77,7 +77,7 @@ fn words_each(mode: usize) -> usize
     }
 }
 
-/// The last bits of a number, as many as the mode, in the reverse order.
+/// The low `mode` bits of a number, in reverse order.
 fn reversed(mode: usize, number: usize) -> usize
     requires { mode < 4 }
     ensures is { result ≡ reversed mode number }

@@ -17,7 +17,7 @@ use crate::order::{by_columns, from_columns};
 use std::alloc::AllocError;
 use text_lines::{FirstLine, first_line, trimmed};
 
-/// How many lines a RAM has, how many words a line and how many bits a word.
+/// How many lines a RAM has, how many words a line has and how many bits a word has.
 pub(crate) const SIXTEEN: usize = 16;
 
 /// How many bits a line has.
@@ -44,7 +44,7 @@ pub(crate) fn ram_bits(text: &[u8]) -> RamBits
     bits
 }
 
-/// The first line of a text that isn't at its end.
+/// The first line of a text, which isn't empty.
 fn next_line(text: &[u8]) -> FirstLine<'_>
     requires { text.now ≢ [] }
     ensures lines { lines_of text.now ≡ result.content.now ∷ lines_of result.rest.now }
@@ -56,7 +56,7 @@ fn next_line(text: &[u8]) -> FirstLine<'_>
     }
 }
 
-/// Gives the words of a line those of a memory line.
+/// Sets the sixteen words of line `row` to the words of a memory line.
 fn put_line(bits: &mut RamBits, row: usize, line: &[u8])
     requires row { row < 16 }
     requires digits { is_memory_line line.now ≡ true }
@@ -71,7 +71,7 @@ fn put_line(bits: &mut RamBits, row: usize, line: &[u8])
     }
 }
 
-/// Gives a word these bits.
+/// Sets a word to the bits of `value`.
 fn put_word(bits: &mut RamBits, word: usize, value: u16)
     requires { word < 256 }
     ensures there { (bit : ℕ) → bit < 16 → listed bits.new word bit ≡ (value / 2 ^ bit % 2 == 1) }
@@ -96,8 +96,8 @@ fn memory_bytes(line: &[u8]) -> [u8; 32]
     }
 }
 
-/// Replaces each column of a RAM in that mode that is a column of the first file by the column of that number of the second
-/// file, and counts it there.
+/// Replaces each column of a RAM in this mode that is equal to a column of the first file by the column of the same index of the second
+/// file, and counts it at that index.
 pub(crate) fn replace_in_mode(
     bits: &mut RamBits,
     mode: usize,
@@ -122,8 +122,8 @@ pub(crate) fn replace_in_mode(
     *bits = from_columns(&own, mode);
 }
 
-/// Replaces columns whose bits stand sixteen apart, each that is a column of the first file by the column of that number of
-/// the second file, and counts it there.
+/// Replaces columns whose bits are sixteen apart: each that is equal to a column of the first file by the column of the same index of the
+/// second file. Counts it at that index.
 fn replace_columns(bits: &mut RamBits, columns: &Columns, to: &HexFile, found: &mut [u32])
     requires counts { length found.old ≡ column_count columns.now.file.now }
     requires same { column_count to.now ≡ column_count columns.now.file.now }
@@ -137,7 +137,7 @@ fn replace_columns(bits: &mut RamBits, columns: &Columns, to: &HexFile, found: &
     }
 }
 
-/// Replaces one of them, where it is a column of the first file, and counts it there.
+/// Replaces one of these columns if it is equal to a column of the first file, and counts it at the index of that column.
 fn replace_column(
     bits: &mut RamBits,
     bit: usize,
@@ -161,7 +161,7 @@ fn replace_column(
     put_column(bits, bit, to, place);
 }
 
-/// Gives a bit of each word of a RAM that of a column.
+/// Sets bit `bit` of each word of a RAM to the bit of a column.
 fn put_column(bits: &mut RamBits, bit: usize, to: &HexFile, column: usize)
     requires bit { bit < 16 }
     requires column { column < column_count to.now }
@@ -173,7 +173,7 @@ fn put_column(bits: &mut RamBits, bit: usize, to: &HexFile, column: usize)
     }
 }
 
-/// Appends the lines of a RAM that begin the text, with the new bits, and gives the text behind them.
+/// Appends the lines of a RAM that begin the text, with the new bits, and returns the text after them.
 pub(crate) fn append_lines<'a>(
     bytes: &mut Vec<u8>,
     text: &'a [u8],
@@ -195,7 +195,7 @@ pub(crate) fn append_lines<'a>(
     Ok(left)
 }
 
-/// Appends a line of a RAM: as it is where its words stay, and else with the new digits.
+/// Appends a line of a RAM: unchanged if its words stay, or else with the new digits.
 fn append_line(
     bytes: &mut Vec<u8>,
     whole: &[u8],

@@ -1,4 +1,4 @@
-// RAMs replaced in a whole text.
+// Replacing the RAMs in a whole text.
 ghost use Rattle.std.specs.Prelude.{◌≡◌, ◌<◌, ◌+◌, ◌^◌, ◌++◌, ◌==◌, ◌&&◌, ℕ, List, None, length, get_or, drop, bytes_eq, IfOk, OnOk, IfErr};
 ghost use Rattle.place_search.specs.Places.{gathered_below};
 ghost use Rattle.text_lines.specs.Lines.{line_at, lines_of, whole_lines_of};
@@ -35,8 +35,11 @@ pub struct Replaced {
     pub found: Vec<u32>,
 }
 
-/// The text in which each bit column of a RAM that is equal to a column of `from` is the column of that number of `to`.
-/// Everything else passes unchanged, line ends among it.
+/// The text in which each bit column of a RAM that is equal to a column of `from` is replaced by the column of the same index of `to`.
+/// Everything else stays unchanged, including line ends.
+///
+/// # Errors
+/// The first cause in the order of [`BramFault`]; `BramFault::Memory` if memory is out.
 pub fn replace(
     alloc: Global,
     asc: &[u8],
@@ -51,7 +54,19 @@ pub fn replace(
     replace_with(alloc, asc, from, to, ReadModes::Ignored)
 }
 
-/// The same, where each RAM is taken in its read mode or not.
+/// The text in which the RAMs are replaced as by [`replace`], each taken in its read mode if `modes` says so.
+///
+/// # Errors
+/// As [`replace`].
+///
+/// # Example
+/// ```ignore
+/// let from = HexFile::read(alloc, from_text)?;
+/// let to = HexFile::read(alloc, to_text)?;
+/// if let Ok(answer) = replace_with(alloc, asc, &from, &to, ReadModes::Followed) {
+///     out.extend_from_slice(answer.bytes.as_slice())?;
+/// }
+/// ```
 pub fn replace_with(
     alloc: Global,
     asc: &[u8],
@@ -73,7 +88,7 @@ pub fn replace_with(
     Ok(answer)
 }
 
-/// Whether two files have the same numbers of digits and of words.
+/// Whether two files are equal in their numbers of digits and of words.
 fn have_one_shape(from: &HexFile, to: &HexFile) -> bool
     ensures { result ≡ ((from.now.digits == to.now.digits) && (length from.now.words == length to.now.words)) }
 {
@@ -97,7 +112,7 @@ fn image_of(alloc: Global, asc: &[u8]) -> Result<AnyImage, BramFault>
     }
 }
 
-/// Replaces the RAMs of a text that gives that image.
+/// Replaces the RAMs of a text that gives this image.
 fn replace_rams(
     alloc: Global,
     asc: &[u8],
@@ -128,7 +143,7 @@ fn replace_rams(
     Ok(Replaced { bytes, found })
 }
 
-/// Appends the lines up to the next statement of a RAM's contents, all at once, and gives the text behind them.
+/// Appends the lines up to the next statement of a RAM's contents, all at once, and returns the text after them.
 fn append_others<'a>(bytes: &mut Vec<u8>, text: &'a [u8]) -> Result<&'a [u8], AllocError>
     ensures { IfOk result (λ rest. (passed : List ℕ) × Passes text.now passed rest.now × (bytes.new.items ≡ bytes.old.items ++ passed)) }
 {
@@ -137,7 +152,7 @@ fn append_others<'a>(bytes: &mut Vec<u8>, text: &'a [u8]) -> Result<&'a [u8], Al
     Ok(rest)
 }
 
-/// The text from the next statement of a RAM's contents on: nothing where there is none.
+/// The text from the next statement of a RAM's contents on, or an empty text if there is none.
 fn from_ram(text: &[u8]) -> &[u8]
     ensures { (passed : List ℕ) × Passes text.now passed result.now }
 {
@@ -158,7 +173,7 @@ fn is_ram_data(line: &[u8]) -> bool
     matches!(line, [b'.', ..]) && has_ram_keyword(trimmed(line))
 }
 
-/// Whether the first word is that of the statement of a RAM's contents.
+/// Whether the first word is `.ram_data`.
 fn has_ram_keyword(line: &[u8]) -> bool
     ensures { result ≡ bytes_eq (first_word Separators.Spaces line.now) ram_data_keyword }
 {
@@ -168,7 +183,7 @@ fn has_ram_keyword(line: &[u8]) -> bool
     }
 }
 
-/// Replaces the RAM in that mode whose lines begin the text, and gives the text behind them.
+/// Replaces the RAM in this mode whose lines begin the text, and returns the text after them.
 fn replace_ram<'a>(
     text: &'a [u8],
     mode: usize,

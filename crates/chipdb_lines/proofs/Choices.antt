@@ -64,7 +64,7 @@ choice_of-parted nets values src choice some written number lt =
     let parted = words_of-two SpacesAndTabs values src (values-word values some written.all) (number-word src choice.src number) in
     rw (parted, number, lt-ltb choice.src nets lt, eq-eqb (length values) (length values) refl, written.all, written.bits) refl
 
--- a byte above the space begins no statement and no remark where it is a value
+-- a byte above the space that is a value begins neither a statement nor a comment
 value-begins : (byte : ℕ) → ((byte == 48) || (byte == 49)) ≡ true → ((byte == 46) ≡ false) × ((byte == 35) ≡ false)
 value-begins byte is =
     let parts = value-byte byte is in

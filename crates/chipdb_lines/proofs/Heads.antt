@@ -35,7 +35,7 @@ bit-without_column : (row : Option ℕ) → bit_by row None ≡ None
 bit-without_column (Some row) = refl
 bit-without_column None = refl
 
--- nothing stands behind a bracket that isn't there
+-- nothing follows a bracket that is missing
 pub bit-without_bracket : (inside : List ℕ) (row : Option ℕ) → position is_bracket inside ≡ None → bit_by row (number_of (after_first is_bracket inside)) ≡ None
 unfolding number_of
 bit-without_bracket inside row none =

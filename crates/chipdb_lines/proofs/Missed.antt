@@ -39,7 +39,7 @@ choice-words : (nets count : ℕ) (values src : List ℕ) (choice : LinkChoice) 
 unfolding choice_of
 choice-words nets count values src choice says = words-by nets count values src choice (number_of src) refl says
 
--- the space stands behind as many bytes as there are values
+-- the space comes after exactly the values
 choice-space : (nets count : ℕ) (text : List ℕ) → HasChoice nets count text → (0 < count) × (count < length text) × (get_or text count 0 ≡ 32)
 choice-space nets count text has =
     let count_is : length has.values ≡ count = (choice-words nets count has.values has.src has.choice has.says).count_is in
@@ -56,7 +56,7 @@ no-choice nets count text none has =
     rw (lt-ltb 0 count space.0, lt-ltb count (length text) space.1, eq-eqb (get_or text count 0) 32 space.2) refl in
     true≢false (sym there ∙ none)
 
--- what stands behind values and a space where a text begins with a choice
+-- what follows the values and a space, if a text begins with a choice
 pub record HasNet (nets : ℕ) (values text : List ℕ) : Type 0 where
   pub number : ℕ
   pub rest : List ℕ
@@ -64,7 +64,7 @@ pub record HasNet (nets : ℕ) (values text : List ℕ) : Type 0 where
   pub below : number < nets
   pub all : list_all (λ byte. (byte == 48) || (byte == 49)) values ≡ true
 
--- lists that are equal are so in their first elements, and behind them
+-- equal lists have equal first elements, and equal rests
 same-front : (xs ys a b : List ℕ) → length xs ≡ length ys → xs ++ a ≡ ys ++ b → xs ≡ ys
 same-front xs ys a b count same = sym (take-append_seam xs a) ∙ (λ i. take (count i) (same i)) ∙ take-append_seam ys b
 
@@ -85,7 +85,7 @@ choice-net nets values text has =
       all = ap (list_all (λ byte. (byte == 48) || (byte == 49))) front ∙ words.all;
     }
 
--- digits up to LF are the same where the texts are
+-- equal texts have equal digits up to LF
 digits-same : (xs ys a b : List ℕ) → list_all is_ascii_digit xs ≡ true → list_all is_ascii_digit ys ≡ true → xs ++ (10 ∷ a) ≡ ys ++ (10 ∷ b) → xs ≡ ys
 digits-same [] [] a b first second same = refl
 digits-same [] (y ∷ ys) a b first second same =

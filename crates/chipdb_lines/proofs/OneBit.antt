@@ -19,7 +19,7 @@ use Rattle.chipdb_lines.proofs.Choices.{number-digits, number-high}
 digit-no_bracket : (byte : ℕ) → is_ascii_digit byte ≡ true → is_bracket byte ≡ false
 digit-no_bracket byte is = grind (arith, nat_tests)
 
--- the first bracket stands behind the digits before it
+-- the first bracket comes after the digits before it
 bracket-place : (digits rest : List ℕ) → list_all is_ascii_digit digits ≡ true → position_or_len is_bracket (digits ++ (91 ∷ rest)) ≡ length digits
 bracket-place [] rest all = refl
 bracket-place (digit ∷ digits) rest all =
@@ -27,7 +27,7 @@ bracket-place (digit ∷ digits) rest all =
     let next : 1 + length digits ≡ suc (length digits) = omega arith in
     rw (digit-no_bracket digit parts.0) (ap (λ n. 1 + n) (bracket-place digits rest parts.1) ∙ next)
 
--- what stands behind a byte
+-- what follows a byte
 drop-past : (xs rest : List ℕ) (byte : ℕ) → drop (length xs + 1) (xs ++ (byte ∷ rest)) ≡ rest
 drop-past [] rest byte = refl
 drop-past (x ∷ xs) rest byte =
@@ -40,7 +40,7 @@ row-digits first second all = ap (λ n. take n (first ++ (91 ∷ second))) (brac
 col-digits : (first second : List ℕ) → list_all is_ascii_digit first ≡ true → after_first is_bracket (first ++ (91 ∷ second)) ≡ second
 col-digits first second all = ap (λ n. drop (n + 1) (first ++ (91 ∷ second))) (bracket-place first second all) ∙ drop-past first second 91
 
--- a bit's word: `B`, what stands between, and `]`
+-- the word of a bit: `B`, what is between, and `]`
 abbrev word_of : List ℕ → List ℕ
 word_of body = 66 ∷ (body ++ (93 ∷ []))
 
@@ -80,7 +80,7 @@ no-words : words_in [] ≡ []
 unfolding words_of pieces_of
 no-words = refl
 
--- a word that ends where the text does, or before a space
+-- a word that ends at the end of the text, or before a space
 words-ended : (word rest : List ℕ) → IsWord SpacesAndTabs word → (get_or rest 0 32 == 32) ≡ true → words_in (word ++ rest) ≡ word ∷ words_in rest
 words-ended word [] is ends = ap words_in (append-nil word) ∙ words_of-last SpacesAndTabs word is ∙ ap (λ ws. word ∷ ws) (sym no-words)
 words-ended word (byte ∷ rest) is ends =

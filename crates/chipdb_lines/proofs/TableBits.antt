@@ -32,7 +32,7 @@ pub after_bits-push : (bits : List RowCol) (bit : RowCol) (more : Option (List R
 after_bits-push bits bit (Some more) = ap (λ all. Some all) (sym (append_assoc bits (bit ∷ []) more))
 after_bits-push bits bit None = refl
 
--- What was added of the words' bits: those of the words before `left`, all of them bits of the tile.
+-- What was added of the bits that the words name: exactly the bits of the words before `left`, all of them bits of the tile.
 pub record Added (columns : ℕ) (old bits : List RowCol) (words left : List (List ℕ)) : Type 0 where
   pub more : List RowCol
   pub table : bits ≡ old ++ more
@@ -65,7 +65,7 @@ Added-all columns old bits words left added none =
     let last : bits_of left ≡ Some [] = rw none refl in
     added.all ∙ ap (after_bits added.more) last ∙ ap (λ all. Some all) (append-nil added.more)
 
--- a bit outside of the tile, with those behind it
+-- a bit outside of the tile, with those after it
 outside_by : (columns : ℕ) (more : List RowCol) (bit : RowCol) (others : Option (List RowCol)) → list_all (is_in_columns columns) more ≡ true → is_in_columns columns bit ≡ false
     → checked_bits columns (after_bits more (with_bit (Some bit) others)) ≡ Err (cond (is_some others) BitRange BitName)
 outside_by columns more bit None inside outside = refl
@@ -107,7 +107,7 @@ pub some_bits-nothing : is_some (bits_of []) ≡ true
 unfolding bits_of
 some_bits-nothing = refl
 
--- what is told of an option that is none
+-- what is reported if there is no value
 pub none-by : {X : Type 0} (found : Option X) (is : Bool) (P : Type 0) (Q : X → Type 0) → is_some found ≡ not is → is ≡ true → MatchOption found P Q → P
 none-by None is P Q answer none_is told = told
 none-by (Some x) is P Q answer none_is told = absurd (true≢false (answer ∙ ap not none_is))
@@ -125,14 +125,14 @@ told_by : (columns : ℕ) (old bits : List RowCol) (words left rest : List (List
 told_by columns old bits words left rest word (Some bit) told added split is tells = absurd cc
 told_by columns old bits words left rest word None told added split is tells = ap result_err (Added-unnamed columns old bits words left rest word added split is) ∙ tells
 
--- what is told of a word that names no bit
+-- what is reported of a word that names no bit
 pub told-unnamed : (columns : ℕ) (old bits : List RowCol) (words left rest : List (List ℕ)) (word : List ℕ) (refusal : Refusal)
     → Added columns old bits words left → left ≡ word ∷ rest → Reports (cond (is_some (bit_of word)) None (Some BitName)) refusal
     → Reports (result_err (tile_bits_of columns words)) refusal
 told-unnamed columns old bits words left rest word (Cause told) added split tells = told_by columns old bits words left rest word (bit_of word) told added split refl tells
 told-unnamed columns old bits words left rest word (Memory e) added split tells = tt
 
--- the bits that were added are those of a list
+-- the bits that were added are the bits of a list
 pub list-added : (start count : ℕ) (old bits more : List RowCol) → bits ≡ old ++ more → start ≡ length old → count ≡ length bits - start → bits_in bits (record { start = start; count = count }) ≡ more
 list-added start count old bits more table start_is count_is =
     let lengths : length bits ≡ length old + length more = ap length table ∙ length-append old more in

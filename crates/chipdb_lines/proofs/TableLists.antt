@@ -8,7 +8,7 @@ use Rattle.chipdb_lines.specs.declared.bits.Span.{Span}
 use Rattle.chipdb_lines.specs.Kept.{AddsList}
 use Rattle.chipdb_lines.specs.Spans.{bits_in, AddsSpan, IsSpanOf}
 
--- a list stays where more bits follow
+-- a list stays when more bits follow
 bits_in-append : (bits more : List RowCol) (span : Span) → IsSpanOf (length bits) span → bits_in (bits ++ more) span ≡ bits_in bits span
 bits_in-append bits more span is =
     let inside : span.start + span.count ≤ length bits = is.inside in
@@ -29,11 +29,11 @@ lists-append bits more (span ∷ spans) all =
     ap (λ list. list ∷ map (bits_in (bits ++ more)) spans) (bits_in-append bits more span (All-head P span spans all))
     ∙ ap (λ lists. bits_in bits span ∷ lists) (lists-append bits more spans (All-tail P span spans all))
 
--- all lists stay where the bits of a span were added
+-- all lists stay when the bits of a span are added
 pub lists-kept : (old new : List RowCol) (spans : List Span) (span : Span) → AddsSpan old new span → All (IsSpanOf (length old)) spans → map (bits_in new) spans ≡ map (bits_in old) spans
 lists-kept old new spans span added all = ap (λ bits. map (bits_in bits) spans) added.grown.1 ∙ lists-append old added.grown.0 spans all
 
--- and that of the span is the last
+-- and the list of that span is the last
 pub lists-push : (old new : List RowCol) (spans : List Span) (span : Span) (place : ℕ) → AddsSpan old new span → All (IsSpanOf (length old)) spans → place ≡ length spans
     → AddsList (map (bits_in old) spans) (map (bits_in new) (spans ++ span ∷ [])) (record { place = place })
 lists-push old new spans span place added all last =

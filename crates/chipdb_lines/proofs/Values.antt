@@ -21,7 +21,7 @@ word_bits-more count number bit small =
 no_value : (byte : ℕ) → byte ≢ 48 → byte ≢ 49 → ((byte == 48) || (byte == 49)) ≡ true → ⊥
 no_value byte other another is = grind (arith, nat_tests)
 
--- each element passes where all do
+-- each element passes if all do
 pub list_all-at : {A : Type 0} (test : A → Bool) (xs : List A) (i : ℕ) (d : A) → list_all test xs ≡ true → i < length xs → test (get_or xs i d) ≡ true
 list_all-at test [] i d all lt = absurd (omega arith)
 list_all-at test (x ∷ xs) zero d all lt = (and_parts (test x) (list_all test xs) all).0

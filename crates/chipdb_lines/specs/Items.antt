@@ -1,5 +1,5 @@
--- Lines below statements: what each says, or what is wrong with it. The tests of each kind stand in the order in which
--- their faults are told.
+-- Lines below statements: what each says, or what is wrong with it. The tests of a line are in the order in which its faults are reported.
+-- Source: Project IceStorm, 'icebox chip database'; the order of the faults is this project's choice.
 use Rattle.std.specs.Prelude.{ℕ, Bool, false, not, ◌&&◌, List, [], ◌∷◌, length, map, bytes_eq, codes, nat_le, nat_lt, ◌==◌, if◌then◌else◌, Option, Some, None, Result, Ok, Err}
 use Rattle.std.specs.List.{list_any}
 use Rattle.text_lines.specs.Words.{number_of, numbers_of}
@@ -18,7 +18,7 @@ use Rattle.chipdb_lines.specs.Statements.{is_kind_there, tile_bits_of}
 
 -- ---- global nets
 
--- the global net GLB, of 0 to 7, and the io tile that drives it
+-- the global net GLB, 0 to 7, and the io tile that drives it
 abbrev pub global_input_of_numbers : DeviceName → Option (List ℕ) → Result GlobalInput DbCause
 global_input_of_numbers device (Some (x ∷ y ∷ global ∷ [])) =
     if not (nat_le global 7) then Err Number
@@ -30,7 +30,7 @@ global_input_of_numbers device numbers = Err Number
 unfoldable pub global_input_of : DeviceName → List (List ℕ) → Result GlobalInput DbCause
 global_input_of device words = global_input_of_numbers device (numbers_of words)
 
--- the global net GLB, of 0 to 7, and the pad PIO, 0 or 1, that drives it
+-- the global net GLB, 0 to 7, and the pad PIO, 0 or 1, that drives it
 abbrev pub global_pin_of_numbers : DeviceName → Option (List ℕ) → Result GlobalPin DbCause
 global_pin_of_numbers device (Some (x ∷ y ∷ pad ∷ global ∷ [])) =
     if not (nat_le pad 1 && nat_le global 7) then Err Number
@@ -44,17 +44,17 @@ global_pin_of device words = global_pin_of_numbers device (numbers_of words)
 
 -- ---- functions
 
--- a function of the tiles of a kind, and the bits that it has in each
+-- a function of the tiles of a kind, and its bits in each of them
 pub record FunctionLine : Type 0 where
   pub kind : TileKind
   pub name : List ℕ
   pub bits : List RowCol
 
--- the names of the eight cells
+-- the names of the eight logic cells
 abbrev pub cell_names : List (List ℕ)
 cell_names = codes "LC_0" ∷ codes "LC_1" ∷ codes "LC_2" ∷ codes "LC_3" ∷ codes "LC_4" ∷ codes "LC_5" ∷ codes "LC_6" ∷ codes "LC_7" ∷ []
 
--- whether a function is a cell, which has 20 bits
+-- whether a function is a logic cell, which has 20 bits
 abbrev pub is_cell : TileKind → List ℕ → Bool
 is_cell Logic name = list_any (bytes_eq name) cell_names
 is_cell kind name = false
@@ -117,7 +117,7 @@ name_of device net words = Err Number
 
 -- ---- links
 
--- which net a link comes from, and the values that its bits have where it is chosen
+-- one choice of a statement of links: the source net, and the values of the bits that choose it
 pub record LinkChoice : Type 0 where
   pub values : List Bool
   pub src : ℕ
@@ -129,7 +129,7 @@ choice_by nets count values (Some src) =
     else if not (is_values count values) then Err ValueLength
     else Ok (record { values = map (λ byte. byte == 49) values; src = src })
 
--- `VALUES SRC` below a statement with so many bits
+-- `VALUES SRC` below a statement with `count` bits
 unfoldable pub choice_of : ℕ → ℕ → List (List ℕ) → Result LinkChoice DbCause
 choice_of nets count (values ∷ src ∷ []) = choice_by nets count values (number_of src)
 choice_of nets count words = Err Number

@@ -1,4 +1,4 @@
--- What is kept of lines: lists of bits in one table, by their places in it.
+-- What is kept of lines: their lists of bits are in one table, and known by their indexes in it.
 use Rattle.std.specs.Prelude.{◌≡◌, ℕ, ◌^◌, ◌<◌, ◌≤◌, true, false, ◌||◌, List, [], ◌∷◌, ◌++◌, length, get_or, map, ◌==◌, Option, Some, None, Result, Ok, Err}
 use Rattle.std.specs.Result.{result_err, MatchResult}
 use Rattle.bit_plane.specs.BitList.{word_bits}
@@ -23,34 +23,34 @@ use Rattle.text_lines.specs.Written.{IsPlain}
 use Rattle.chipdb_lines.specs.Words.{bit_of, is_statement, own_words, words_in}
 use Rattle.chipdb_lines.specs.Items.{LinkChoice, choice_of, FunctionLine, ExtraLine, NameLine}
 
--- the bits of a list, and nothing past the last
+-- the bits of a list; empty if the index is past the last list
 abbrev pub bits_named : List (List RowCol) → BitList → List RowCol
 bits_named lists list = get_or lists list.place []
 
--- a word names that bit, by its row and column, or none
+-- the word names that bit, by its row and column; if there is no bit, the word names none
 abbrev pub NamesBit : List ℕ → Option (ℕ × ℕ) → Type 0
 NamesBit word None = bit_of word ≡ None
 NamesBit word (Some bit) = bit_of word ≡ Some (record { row = bit.0; col = bit.1 })
 
--- words with one that names that bit or none before the others
+-- words of which the first names that bit, or none if there is no bit, and the others are `rest`
 pub record StartsWithWord (words : List (List ℕ)) (bit : Option (ℕ × ℕ)) (rest : List (List ℕ)) : Type 0 where
   pub word : List ℕ
   pub words_are : words ≡ word ∷ rest
   pub names : NamesBit word bit
 
--- a table to which a list was added, and no others; the list has at most 64 bits
+-- exactly one list was added to a table; it has at most 64 bits
 pub record AddsList (old new : List (List RowCol)) (list : BitList) : Type 0 where
   pub bits : List RowCol
   pub grown : new ≡ old ++ bits ∷ []
   pub last : list.place ≡ length old
   pub few : length bits ≤ 64
 
--- the same, where a statement of links has the list
+-- exactly one list was added to a table: the bits of a statement of links
 pub record AddsHead (old new : List (List RowCol)) (head : KeptHead) : Type 0 where
   pub list : AddsList old new head.bits
   pub counted : head.count ≡ length (bits_named new head.bits)
 
--- a choice whose values are the lowest bits of a number
+-- a choice whose values are the lowest `count` bits of a number
 abbrev pub choice_named : ℕ → Choice → LinkChoice
 choice_named count choice = record { values = word_bits count choice.values; src = choice.src }
 
@@ -80,33 +80,33 @@ block_named bits (Names net) = names net
 block_named bits (Buffers head) = buffers (head_named bits head)
 block_named bits (Routings head) = routings (head_named bits head)
 
--- a table to which the list of a statement was added, and no others
+-- exactly the list of a statement was added to a table, or nothing if the statement has no list
 abbrev pub AddsBelow : List (List RowCol) → List (List RowCol) → Below → Type 0
 AddsBelow old new (Buffers head) = AddsHead old new head
 AddsBelow old new (Routings head) = AddsHead old new head
 AddsBelow old new below = new ≡ old
 
--- a cause that is told is that one
+-- the reported cause is that one; out of memory may come in place of any answer
 abbrev pub Reports : Option DbCause → Refusal → Type 0
 Reports cause (Cause told) = cause ≡ Some told
 Reports cause (Memory e) = Unit {0}
 
--- what is told of a line is what it says, or what is wrong with it
+-- the result is what the line says, or what is wrong with it, or out of memory
 abbrev pub Tells : {A B : Type 0} → Result A DbCause → (B → A) → Result B Refusal → Type 0
 Tells said meaning told = MatchResult told (λ item. said ≡ Ok (meaning item)) (Reports (result_err said))
 
--- the same where no memory is taken
+-- the result is what the line says, or what is wrong with it; no memory is taken
 abbrev pub Reads : {A B : Type 0} → Result A DbCause → (B → A) → Result B DbCause → Type 0
 Reads said meaning told = MatchResult told (λ item. said ≡ Ok (meaning item)) (λ cause. said ≡ Err cause)
 
--- two words with one space between them are a line's words, and the line is plain
+-- a line has exactly two words with one space between them, and no other separator
 pub record AreParted (first second : List ℕ) : Type 0 where
   pub plain : IsPlain (first ++ (32 ∷ second))
   pub words : words_in (first ++ (32 ∷ second)) ≡ first ∷ second ∷ []
   pub own : own_words (first ++ (32 ∷ second)) ≡ first ∷ second ∷ []
   pub item : is_statement (first ++ (32 ∷ second)) ≡ false
 
--- the first line of a text is two words with one space between them: what stands behind the line, and what holds of the words
+-- the first line of a text has exactly two words with one space between them: the text after the line, and what holds of the words
 pub record BeginsWithPair (text rest : List ℕ) (Holds : List (List ℕ) → Type 0) : Type 0 where
   pub first : List ℕ
   pub second : List ℕ
@@ -115,16 +115,16 @@ pub record BeginsWithPair (text rest : List ℕ) (Holds : List (List ℕ) → Ty
   pub shorter : length rest < length text
   pub holds : Holds (first ∷ second ∷ [])
 
--- words say a choice
+-- the words make that choice
 pub record Chooses (nets count : ℕ) (words : List (List ℕ)) (choice : Choice) : Type 0 where
   pub says : choice_of nets count words ≡ Ok (choice_named count choice)
   pub small : choice.values < 2 ^ count
 
--- the first line of a text, and what stands behind it, and the choice that the line says
+-- the choice that the first line of a text makes, and the text after that line
 abbrev pub IsChoiceLine : ℕ → ℕ → List ℕ → ChoiceLine → Type 0
 IsChoiceLine nets count text found = BeginsWithPair text found.rest.now (λ words. Chooses nets count words found.choice)
 
--- a text begins with the two words of a choice, with one space between them and LF right behind them
+-- a text begins with the two words of a choice, one space between them and LF right after them
 pub record HasChoice (nets count : ℕ) (text : List ℕ) : Type 0 where
   pub values : List ℕ
   pub src : List ℕ
@@ -134,7 +134,7 @@ pub record HasChoice (nets count : ℕ) (text : List ℕ) : Type 0 where
   pub choice : LinkChoice
   pub says : choice_of nets count (values ∷ src ∷ []) ≡ Ok choice
 
--- each byte of a word is `0` or `1`, and they write the lowest bits of a number, the lowest first
+-- each byte of the word is `0` or `1`, and they are the lowest bits of a number, the lowest first
 pub record WritesValues (word : List ℕ) (values : ℕ) : Type 0 where
   pub all : list_all (λ byte. (byte == 48) || (byte == 49)) word ≡ true
   pub bits : word_bits (length word) values ≡ map (λ byte. byte == 49) word

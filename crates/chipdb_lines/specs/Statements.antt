@@ -1,5 +1,6 @@
--- Statements: what a line that begins with a dot says of the lines below it, or what is wrong with it. The tests of each
--- kind stand in the order in which their faults are told.
+-- Statements: what a line that begins with a dot says of the lines below it, or what is wrong with it. The tests of a statement are in the
+-- order in which its faults are reported. Source: Project IceStorm, 'icebox chip database'; the order of the faults and the largest number
+-- of nets are this project's choice.
 use Rattle.std.specs.Prelude.{ℕ, Bool, true, false, not, ◌&&◌, List, [], ◌∷◌, length, drop, get_or, bytes_eq, codes, nat_le, nat_lt, ◌==◌, if◌then◌else◌, Option, Some, None, Result, Ok, Err}
 use Rattle.std.specs.List.{list_all}
 use Rattle.text_lines.specs.Words.{numbers_of}
@@ -18,7 +19,7 @@ use Rattle.chipdb_lines.specs.Words.{bits_of, has_none}
 
 -- ---- keywords
 
--- the keyword of tiles or of their functions that a word is
+-- the keyword that a word is, if it names a tile or the bits of a tile
 abbrev pub tile_keyword_of : List ℕ → Option Keyword
 tile_keyword_of word =
     if bytes_eq word (codes ".io_tile") then Some (Tile Io)
@@ -31,7 +32,7 @@ tile_keyword_of word =
     else if bytes_eq word (codes ".ramt_tile_bits") then Some (TileBits RamT)
     else None
 
--- the keyword that a word is; statements of other words are passed over with their lines
+-- the keyword that a word is; statements with another word are skipped, together with their lines
 unfoldable pub keyword_of : List ℕ → Option Keyword
 keyword_of word =
     if bytes_eq word (codes ".buffer") then Some Buffer
@@ -45,7 +46,7 @@ keyword_of word =
 
 -- ---- the device
 
--- a device with the size of its grid, and a number of nets that is allowed
+-- a device, if the size of its grid is right and the number of nets is allowed
 abbrev pub chip_of_numbers : Option DeviceName → Option (List ℕ) → Option Chip
 chip_of_numbers (Some device) (Some (width ∷ height ∷ nets ∷ [])) =
     if (width == grid_width device) && (height == grid_height device) && nat_le nets 16777216
@@ -70,13 +71,13 @@ checked_bits columns (Some bits) =
     else if nat_lt 64 (length bits) then Err CellBits
     else Ok bits
 
--- the bits that words name, of a tile with so many columns of bits
+-- the bits that words name, in a tile with `columns` columns of bits
 unfoldable pub tile_bits_of : ℕ → List (List ℕ) → Result (List RowCol) DbCause
 tile_bits_of columns words = checked_bits columns (bits_of words)
 
 -- ---- blocks
 
--- the net that links lead to, and the bits that choose among them
+-- the tile, the net that the links drive, and the bits that choose among them
 pub record LinkHead : Type 0 where
   pub x : ℕ
   pub y : ℕ
@@ -85,9 +86,9 @@ pub record LinkHead : Type 0 where
 
 -- what the lines below a statement are
 pub data Block : Type 0 where
-  -- passed over
+  -- skipped
   passed : Block
-  -- passed over too: the statement gives the device
+  -- skipped too: the statement gives the device
   of_device : Chip → Block
   -- `X Y GLB`
   global_inputs : Block
@@ -114,17 +115,17 @@ is_same_kind RamB RamB = true
 is_same_kind RamT RamT = true
 is_same_kind there kind = false
 
--- whether a tile of that kind stands at a place
+-- whether there is a tile, and it is of that kind
 abbrev pub is_kind_there : TileKind → Option TileKind → Bool
 is_kind_there kind None = false
 is_kind_there kind (Some there) = is_same_kind there kind
 
--- `.io_tile X Y` and its like
+-- `.io_tile X Y`, and the same for the other kinds of tiles
 abbrev pub tile_of_numbers : DeviceName → TileKind → Option (List ℕ) → Result Block DbCause
 tile_of_numbers device kind (Some (x ∷ y ∷ [])) = if is_kind_there kind (kind_of device x y) then Ok passed else Err KindCause
 tile_of_numbers device kind numbers = Err Number
 
--- `.io_tile_bits COLUMNS ROWS` and its like
+-- `.io_tile_bits COLUMNS ROWS`, and the same for the other kinds of tiles
 abbrev pub tile_bits_of_numbers : TileKind → Option (List ℕ) → Result Block DbCause
 tile_bits_of_numbers kind (Some (columns ∷ rows ∷ [])) =
     if (columns == columns_of kind) && (rows == 16) then Ok (functions kind) else Err KindCause
@@ -165,7 +166,7 @@ abbrev pub routings_block : Result LinkHead DbCause → Result Block DbCause
 routings_block (Ok head) = Ok (routings head)
 routings_block (Err cause) = Err cause
 
--- what a statement says of the lines below it, or what is wrong with it, but for the repeats of earlier statements
+-- what a statement says of the lines below it, or what is wrong with it; repeats of earlier statements aren't looked for here
 unfoldable pub block_of : Chip → Keyword → List (List ℕ) → Result Block DbCause
 block_of chip DeviceWord words = Err Device
 block_of chip GlobalInputs words = alone global_inputs words
@@ -177,12 +178,12 @@ block_of chip Net words = names_block (net_of_numbers chip.nets (numbers_of word
 block_of chip Buffer words = buffers_block (link_of_words chip words)
 block_of chip Routing words = routings_block (link_of_words chip words)
 
--- `.device` is the first statement of the table
+-- what `.device` says if no device was given before
 abbrev pub device_block : Option Chip → Result Block DbCause
 device_block (Some chip) = Ok (of_device chip)
 device_block None = Err Device
 
--- the same for a statement before which no device was given
+-- what a statement says if no device was given before
 abbrev pub block_without : Keyword → List (List ℕ) → Result Block DbCause
 block_without DeviceWord words = device_block (chip_of_words words)
 block_without keyword words = Err NoDevice
@@ -192,6 +193,6 @@ block_by chip None words = Ok passed
 block_by None (Some keyword) words = block_without keyword words
 block_by (Some chip) (Some keyword) words = block_of chip keyword words
 
--- what a statement of these words says, after that device or none
+-- what a statement of these words says; `chip` is the device that was given before, if one was
 unfoldable pub statement_of : Option Chip → List (List ℕ) → Result Block DbCause
 statement_of chip words = block_by chip (keyword_of (get_or words 0 [])) (drop 1 words)

@@ -1,5 +1,5 @@
--- Lines and words of a database. Spaces and tabs part words. A line that begins with a dot is a statement, one that begins
--- with `#` is a remark, and a line without a word carries nothing.
+-- Lines and words of a database. Spaces and tabs separate words. A line that begins with a dot is a statement, one that begins with `#` is
+-- a comment (a remark), and a line without a word says nothing. Source: Project IceStorm, 'icebox chip database'.
 use Rattle.std.specs.Prelude.{ℕ, ◌-◌, Bool, true, false, ◌&&◌, ◌||◌, List, [], ◌∷◌, length, take, drop, get_or, nat_le, ◌==◌, if◌then◌else◌, Option, Some, None}
 use Rattle.std.specs.List.{list_all, before_first, after_first}
 use Rattle.text_lines.specs.declared.words.Separators.TheVariants.{SpacesAndTabs}
@@ -18,7 +18,7 @@ is_statement line = get_or line 0 0 == 46
 abbrev pub is_remark : List ℕ → Bool
 is_remark line = get_or line 0 0 == 35
 
--- the words that a line has for the statement to which it belongs
+-- the words that a line has for the statement above it; none if the line is a statement or a comment
 unfoldable pub own_words : List ℕ → List (List ℕ)
 own_words line = if is_statement line || is_remark line then [] else words_in line
 
@@ -29,12 +29,12 @@ has_none (word ∷ words) = false
 
 -- ---- bits
 
--- a bit by its row and column, where both are written
+-- a bit by its row and column, if both are numbers
 abbrev pub bit_by : Option ℕ → Option ℕ → Option RowCol
 bit_by (Some row) (Some col) = Some (record { row = row; col = col })
 bit_by row col = None
 
--- what stands between the first and the last byte
+-- the bytes without the first and the last one
 abbrev pub inside : List ℕ → List ℕ
 inside word = take (length word - 2) (drop 1 word)
 
@@ -48,18 +48,18 @@ bit_of word =
     then bit_by (number_of (before_first is_bracket (inside word))) (number_of (after_first is_bracket (inside word)))
     else None
 
--- a bit before others, where each of them is there
+-- a bit in front of others, if each of them exists
 abbrev pub with_bit : Option RowCol → Option (List RowCol) → Option (List RowCol)
 with_bit (Some bit) (Some bits) = Some (bit ∷ bits)
 with_bit bit bits = None
 
--- the bits that words name, where each names one
+-- the bits that words name, if each word names one
 unfoldable pub bits_of : List (List ℕ) → Option (List RowCol)
 bits_of [] = Some []
 bits_of (word ∷ words) = with_bit (bit_of word) (bits_of words)
 
 -- ---- values
 
--- one `0` or `1` for each of so many bits
+-- one `0` or `1` for each of `count` bits
 abbrev pub is_values : ℕ → List ℕ → Bool
 is_values count word = (length word == count) && list_all (λ byte. (byte == 48) || (byte == 49)) word

@@ -1,4 +1,4 @@
-// Bits of tiles: words such as `B1[36]`, and lists of them in one table.
+// Bits of tiles: words such as `B1[36]`, and a table of lists of them.
 ghost use Rattle.std.specs.Prelude.{◌≡◌, ◌≤◌, ◌<◌, ◌-◌, ◌^◌, ◌++◌, ◌∷◌, [], ℕ, List, ◌&&◌, ◌==◌, get_or, nat_lt, length, true, false, IfOk, IfSome, MatchOption, MatchResult, position, Some, None, if◌then◌else◌, is_some, OnErr, OnOk};
 ghost use Rattle.std.specs.Bool.{MatchBool};
 ghost use Rattle.std.specs.List.{position_or_len, before_first, after_first};
@@ -17,20 +17,20 @@ use std::alloc::{AllocError, Global};
 use std::marker::Model;
 use text_lines::{Separators, number, number_before, split_word};
 
-/// A list of bits of a table, by its place among the table's lists, counted from 0.
+/// A list of bits in a table, by its index in the table, counted from 0.
 #[derive(Clone, Copy, Debug, PartialEq, Eq)]
 pub struct BitList {
     place: u32,
 }
 
-/// Where the bits of a list stand.
+/// Where the bits of a list are.
 #[derive(Clone, Copy, Debug)]
 struct Span {
     start: usize,
     count: u8,
 }
 
-/// Lists of bits in the order in which they were added. Contracts see the list of them.
+/// Lists of bits in the order in which they were added; in contracts, the list of these lists.
 #[derive(Drop)]
 pub struct BitTable {
     bits: Vec<RowCol>,
@@ -51,7 +51,7 @@ impl Model for BitTable {
 }
 
 impl BitTable {
-    /// No lists. It takes no memory yet.
+    /// A table without lists. It takes no memory yet.
     pub fn new(alloc: Global) -> BitTable
         ensures { result ≡ [] }
     {
@@ -61,7 +61,7 @@ impl BitTable {
         }
     }
 
-    /// The bits of a list: none of a list of another table that has no place here.
+    /// The bits of a list. Empty if the list is one of another table and has no place in this one.
     pub fn get(&self, list: BitList) -> &[RowCol]
         ensures bits { result.now ≡ bits_named self.now list }
         ensures few { length result.now ≤ 64 }
@@ -72,8 +72,8 @@ impl BitTable {
         }
     }
 
-    /// Adds the list of the bits that words name. They are bits of a tile with so many columns of bits, and at most 64. After a
-    /// refusal the table is as it was.
+    /// Adds the list of the bits that the words name. These are at most 64 bits of a tile with `columns` columns of bits. After an error
+    /// the table is as it was.
     pub(crate) fn add(&mut self, columns: usize, words: &[u8]) -> Result<BitList, Refusal>
         requires columns { columns ≤ 256 }
         requires room { length self.old < 2 ^ 32 - 1 }
@@ -87,7 +87,7 @@ impl BitTable {
         Ok(BitList { place })
     }
 
-    /// Takes the list away that was added last.
+    /// Removes the list that was added last.
     pub(crate) fn remove_last(&mut self)
         ensures { (lists : List (List Bit)) (last : List Bit) → self.old ≡ lists ++ last ∷ [] → self.new ≡ lists }
     {
@@ -103,7 +103,7 @@ fn push_span(spans: &mut Vec<Span>, span: Span) -> Result<(), AllocError>
     spans.push(span).map_err(AllocError::from)
 }
 
-/// The bits of a list, as many as its length.
+/// The bits of a span.
 fn bits_of(bits: &[RowCol], span: Span) -> &[RowCol]
     requires { IsSpanOf (length bits.now) span }
     ensures { result.now ≡ bits_in bits.now span }
@@ -112,8 +112,8 @@ fn bits_of(bits: &[RowCol], span: Span) -> &[RowCol]
     &rest[..span.count as usize]
 }
 
-/// Adds the bits that words name to a table. They are bits of a tile with so many columns of bits, and at most 64. After a
-/// refusal the table is as it was.
+/// Adds the bits that the words name to a table. These are at most 64 bits of a tile with `columns` columns of bits. After an error the
+/// table is as it was.
 fn push_bits(bits: &mut Vec<RowCol>, columns: usize, words: &[u8]) -> Result<Span, Refusal>
     requires { columns ≤ 256 }
     ensures added { IfOk result (AddsSpan bits.old.items bits.new.items) }
@@ -128,7 +128,7 @@ fn push_bits(bits: &mut Vec<RowCol>, columns: usize, words: &[u8]) -> Result<Spa
     span
 }
 
-/// The same, where some of the bits may have been added even though the words are refused.
+/// Adds the bits that the words name, one by one, to a table. After an error some of the bits may have been added.
 #[tactic(auto, unfolding(crate::specs::Statements::tile_bits_of))]
 fn push_each(bits: &mut Vec<RowCol>, columns: usize, words: &[u8]) -> Result<Span, Refusal>
     requires { columns ≤ 256 }
@@ -155,7 +155,7 @@ fn push_each(bits: &mut Vec<RowCol>, columns: usize, words: &[u8]) -> Result<Spa
     }
 }
 
-/// Adds a word's bit to a table, where it names one, and tells whether it is a bit of the tile; else nothing is added.
+/// Adds the bit that a word names to a table, and returns whether it is a bit of the tile. Adds nothing if the word names no such bit.
 fn push_bit(
     bits: &mut Vec<RowCol>,
     columns: usize,
@@ -183,14 +183,14 @@ fn push_bit(
     }
 }
 
-/// A word's row and column, where it names a bit, and what stands behind the word.
+/// The row and column that a word names, if it names a bit, and what follows the word.
 #[derive(Clone, Copy)]
 struct NextBit<'a> {
     bit: Option<(u32, u32)>,
     rest: &'a [u8],
 }
 
-/// The next word's bit: none where there is no word.
+/// The bit that the next word names, or `None` if there is no word.
 fn next_bit(words: &[u8]) -> Option<NextBit<'_>>
     ensures words { MatchOption result (words_in words.now ≡ []) (λ next. StartsWithWord (words_in words.now) next.bit (words_in next.rest.now)) }
     ensures shorter { IfSome result (λ next. length next.rest.now < length words.now) }
@@ -201,8 +201,8 @@ fn next_bit(words: &[u8]) -> Option<NextBit<'_>>
     }
 }
 
-/// The same where no more than one space stands before the word, and one behind it or none at the end: none of other words, and
-/// none of one that names no bit. It is there for speed alone.
+/// A fast path of `next_bit` for the usual form: at most one space before the word, and one space or the end after it. `None` for any other
+/// form, and for a word that names no bit.
 fn usual_bit(words: &[u8]) -> Option<NextBit<'_>>
     ensures words { IfSome result (λ next. StartsWithWord (words_in words.now) next.bit (words_in next.rest.now)) }
     ensures shorter { IfSome result (λ next. length next.rest.now < length words.now) }
@@ -213,7 +213,7 @@ fn usual_bit(words: &[u8]) -> Option<NextBit<'_>>
     }
 }
 
-/// The same behind a space.
+/// The fast path after the space before the word.
 fn bit_behind_space(words: &[u8]) -> Option<NextBit<'_>>
     ensures words { IfSome result (λ next. StartsWithWord (words_in (32 ∷ words.now)) next.bit (words_in next.rest.now)) }
     ensures shorter { IfSome result (λ next. length next.rest.now < length words.now) }
@@ -221,7 +221,7 @@ fn bit_behind_space(words: &[u8]) -> Option<NextBit<'_>>
     bit_in_front(words)
 }
 
-/// The same where no space stands before the word.
+/// The fast path for a text that begins with the word.
 fn bit_in_front(words: &[u8]) -> Option<NextBit<'_>>
     ensures words { IfSome result (λ next. StartsWithWord (words_in words.now) next.bit (words_in next.rest.now)) }
     ensures shorter { IfSome result (λ next. length next.rest.now < length words.now) }
@@ -232,7 +232,7 @@ fn bit_in_front(words: &[u8]) -> Option<NextBit<'_>>
     }
 }
 
-/// The same behind `B`.
+/// The fast path after the `B` of the word.
 fn bit_behind(words: &[u8]) -> Option<NextBit<'_>>
     ensures words { IfSome result (λ next. StartsWithWord (words_in (66 ∷ words.now)) next.bit (words_in next.rest.now)) }
     ensures shorter { IfSome result (λ next. length next.rest.now < length words.now) }
@@ -249,7 +249,7 @@ fn bit_behind(words: &[u8]) -> Option<NextBit<'_>>
     }
 }
 
-/// Whether a word before the text ends where it does, or before a space.
+/// Whether a word ends before this text: the text is empty or begins with a space.
 fn ends_word(rest: &[u8]) -> bool
     ensures { result ≡ (get_or rest.now 0 32 == 32) }
 {
@@ -259,7 +259,7 @@ fn ends_word(rest: &[u8]) -> bool
     }
 }
 
-/// The next word's bit, whatever parts the words.
+/// The bit that the next word names, with any separators.
 fn spaced_bit(words: &[u8]) -> Option<NextBit<'_>>
     ensures words { MatchOption result (words_in words.now ≡ []) (λ next. StartsWithWord (words_in words.now) next.bit (words_in next.rest.now)) }
     ensures shorter { IfSome result (λ next. length next.rest.now < length words.now) }
@@ -273,8 +273,7 @@ fn spaced_bit(words: &[u8]) -> Option<NextBit<'_>>
     }
 }
 
-/// What is wrong with a line on which a bit outside of the tile stands before these words: a word that names no bit goes
-/// first.
+/// What is wrong with a line that has a bit outside of the tile before these words. A word that names no bit takes precedence.
 fn cause_before(words: &[u8]) -> DbCause
     ensures { result ≡ (if is_some (bits_of (words_in words.now)) then BitRange else BitName) }
 {
@@ -301,7 +300,7 @@ fn bit_of(word: &[u8]) -> Option<(u32, u32)>
     }
 }
 
-/// The row and the column that stand round the first bracket.
+/// The row before the first `[` and the column after it.
 fn bit_in(inside: &[u8]) -> Option<(u32, u32)>
     ensures { MatchOption result
         (bit_by (number_of (before_first is_bracket inside.now)) (number_of (after_first is_bracket inside.now)) ≡ None)
@@ -314,7 +313,7 @@ fn bit_in(inside: &[u8]) -> Option<(u32, u32)>
     }
 }
 
-/// Where the first bracket stands.
+/// The index of the first `[`.
 fn bracket_place(inside: &[u8]) -> Option<usize>
     ensures { result ≡ position is_bracket inside.now }
 {

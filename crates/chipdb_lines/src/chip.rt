@@ -7,7 +7,7 @@ ghost use Rattle.chipdb_lines.specs.Statements.{chip_of_numbers, chip_of_words};
 use plane_map::DeviceName;
 use text_lines::{Separators, split_word, three_numbers};
 
-/// The device of a database, and how many nets it has.
+/// The device of a database, and its number of nets.
 #[derive(Clone, Copy, Debug, PartialEq, Eq)]
 pub struct Chip {
     pub device: DeviceName,
@@ -25,7 +25,7 @@ pub(crate) fn chip_of(words: &[u8]) -> Option<Chip>
     }
 }
 
-/// A device with the words WIDTH, HEIGHT and NUM_NETS.
+/// The device with the words WIDTH, HEIGHT and NUM_NETS.
 fn sized_chip(device: Option<DeviceName>, sizes: &[u8]) -> Option<Chip>
     ensures { result ≡ chip_of_numbers device (numbers_of (words_in sizes.now)) }
 {
@@ -38,7 +38,7 @@ fn sized_chip(device: Option<DeviceName>, sizes: &[u8]) -> Option<Chip>
     }
 }
 
-/// A device where its grid has that size and the number of nets is allowed.
+/// The device, if its grid has that size and the number of nets is allowed.
 fn checked_chip(device: DeviceName, width: u32, height: u32, nets: u32) -> Option<Chip>
     ensures { result ≡ chip_of_numbers (Some device) (Some (width ∷ height ∷ nets ∷ [])) }
 {

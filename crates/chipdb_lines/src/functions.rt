@@ -1,4 +1,4 @@
-// Lines of the statements `.io_tile_bits` and its like, and of `.extra_bits`.
+// Lines of the statements `.io_tile_bits`, `.logic_tile_bits`, `.ramb_tile_bits` and `.ramt_tile_bits`, and of `.extra_bits`.
 ghost use Rattle.std.specs.Prelude.{◌≡◌, ◌&&◌, ◌<◌, ◌-◌, ◌^◌, length, bytes_eq, IfOk, OnErr};
 ghost use Rattle.std.specs.Bool.{OnTrue};
 ghost use Rattle.std.specs.List.{list_any};
@@ -12,22 +12,25 @@ use crate::words::has_no_word;
 use plane_map::{DeviceName, Place, TileKind, tile_width};
 use text_lines::{Separators, split_word, three_numbers};
 
-/// A function of tiles by its name, and its bits.
+/// A function of a tile: its name and its bits.
 #[derive(Clone, Copy, Debug)]
 pub struct FunctionItem<'a> {
     pub name: &'a [u8],
     pub bits: BitList,
 }
 
-/// An extra bit by its name, and its place in the configuration planes.
+/// An extra bit: its name, and its place in the configuration planes.
 #[derive(Clone, Copy, Debug)]
 pub struct ExtraItem<'a> {
     pub name: &'a [u8],
     pub at: Place,
 }
 
-/// What the words `FUNCTION BIT BIT ...` say of tiles of a kind. Their list is added to a table, which is as it was after a
-/// refusal.
+/// Reads the words `FUNCTION BIT BIT ...` of a line that gives a function of the tiles of a kind. Adds the list of its bits to the table.
+///
+/// # Errors
+/// `Cause` with what `function_of` says of the words (`Number`, `BitName`, `BitRange` or `CellBits`), or `Memory`. Then the table is as it
+/// was.
 #[tactic(auto, unfolding(crate::specs::Items::function_of))]
 pub fn function_item<'a>(
     kind: TileKind,
@@ -45,7 +48,7 @@ pub fn function_item<'a>(
     }
 }
 
-/// What the words `BIT BIT ...` say of a function.
+/// Reads the words `BIT BIT ...` of a function.
 #[tactic(auto, using(crate::proofs::Heads::columns_small))]
 fn named_function<'a>(
     kind: TileKind,
@@ -70,7 +73,7 @@ fn named_function<'a>(
     }
 }
 
-/// Whether a function is one of the eight cells of a logic tile.
+/// Whether a function is one of the eight logic cells of a logic tile.
 fn is_cell(kind: TileKind, name: &[u8]) -> bool
     ensures { result ≡ is_cell kind name.now }
 {
@@ -80,7 +83,7 @@ fn is_cell(kind: TileKind, name: &[u8]) -> bool
     }
 }
 
-/// Whether a name is `LC_0` to `LC_7`.
+/// Whether a name is one of `LC_0` to `LC_7`.
 fn is_cell_name(name: &[u8]) -> bool
     ensures { result ≡ list_any (bytes_eq name.now) cell_names }
 {
@@ -94,7 +97,10 @@ fn is_cell_name(name: &[u8]) -> bool
         || name == b"LC_7".as_slice()
 }
 
-/// What the words `FUNCTION BANK X Y` say.
+/// Reads the words `FUNCTION BANK X Y` of a line of `.extra_bits`.
+///
+/// # Errors
+/// `Number` if the words aren't a name and three numbers; else `BitRange` if the place is outside of the configuration planes.
 #[tactic(auto, unfolding(crate::specs::Items::extra_of))]
 pub fn extra_item(device: DeviceName, words: &[u8]) -> Result<ExtraItem<'_>, DbCause>
     ensures { Reads (extra_of device (words_in words.now)) extra_named result }

@@ -9,7 +9,7 @@ use crate::kinds::is_kind_at;
 use plane_map::{DeviceName, TileKind};
 use text_lines::{Separators, four_numbers, three_numbers};
 
-/// The io tile whose `fabout` drives a global net, of 0 to 7.
+/// An io tile whose net `fabout` drives a global net, 0 to 7.
 #[derive(Clone, Copy, Debug, PartialEq, Eq)]
 pub struct GlobalInput {
     pub x: u8,
@@ -17,7 +17,7 @@ pub struct GlobalInput {
     pub global: u8,
 }
 
-/// The pad, 0 or 1, of an io tile that drives a global net, of 0 to 7.
+/// A pad of an io tile, 0 or 1, that drives a global net, 0 to 7.
 #[derive(Clone, Copy, Debug, PartialEq, Eq)]
 pub struct GlobalPin {
     pub x: u8,
@@ -26,7 +26,10 @@ pub struct GlobalPin {
     pub global: u8,
 }
 
-/// What the words `X Y GLB` say.
+/// Reads the words `X Y GLB` of a line of `.gbufin`.
+///
+/// # Errors
+/// `Number` if the words aren't three numbers, the last at most 7; else `TileKind` if there is no io tile at (X, Y).
 #[tactic(auto, unfolding(crate::specs::Items::global_input_of))]
 pub fn global_input(device: DeviceName, words: &[u8]) -> Result<GlobalInput, DbCause>
     ensures { result ≡ global_input_of device (words_in words.now) }
@@ -37,7 +40,7 @@ pub fn global_input(device: DeviceName, words: &[u8]) -> Result<GlobalInput, DbC
     }
 }
 
-/// What the numbers X, Y and GLB say.
+/// Checks the numbers X, Y and GLB.
 fn checked_input(device: DeviceName, x: u32, y: u32, global: u32) -> Result<GlobalInput, DbCause>
     ensures { result ≡ global_input_of_numbers device (Some (x ∷ y ∷ global ∷ [])) }
 {
@@ -54,7 +57,10 @@ fn checked_input(device: DeviceName, x: u32, y: u32, global: u32) -> Result<Glob
     }
 }
 
-/// What the words `X Y PIO GLB` say.
+/// Reads the words `X Y PIO GLB` of a line of `.gbufpin`.
+///
+/// # Errors
+/// `Number` if the words aren't four numbers, PIO at most 1 and GLB at most 7; else `TileKind` if there is no io tile at (X, Y).
 #[tactic(auto, unfolding(crate::specs::Items::global_pin_of))]
 pub fn global_pin(device: DeviceName, words: &[u8]) -> Result<GlobalPin, DbCause>
     ensures { result ≡ global_pin_of device (words_in words.now) }
@@ -65,7 +71,7 @@ pub fn global_pin(device: DeviceName, words: &[u8]) -> Result<GlobalPin, DbCause
     }
 }
 
-/// What the numbers X, Y, PIO and GLB say.
+/// Checks the numbers X, Y, PIO and GLB.
 fn checked_pin(
     device: DeviceName,
     x: u32,

@@ -4,7 +4,7 @@ ghost use Rattle.chipdb_lines.specs.Statements.{keyword_of, tile_keyword_of};
 
 use plane_map::TileKind;
 
-/// Which statement a line is, by its first word.
+/// The kind of a statement, known by its first word.
 #[derive(Clone, Copy)]
 pub enum Keyword {
     /// `.device`
@@ -13,9 +13,9 @@ pub enum Keyword {
     GlobalInputs,
     /// `.gbufpin`
     GlobalPins,
-    /// `.io_tile` and its like
+    /// `.io_tile`, `.logic_tile`, `.ramb_tile`, `.ramt_tile`
     Tile(TileKind),
-    /// `.io_tile_bits` and its like
+    /// `.io_tile_bits`, `.logic_tile_bits`, `.ramb_tile_bits`, `.ramt_tile_bits`
     TileBits(TileKind),
     /// `.extra_bits`
     ExtraBits,
@@ -27,7 +27,7 @@ pub enum Keyword {
     Routing,
 }
 
-/// The keyword that a word is; statements of other words are passed over.
+/// The keyword that a word is. `None` for any other word; such statements are skipped.
 #[tactic(auto, unfolding(crate::specs::Statements::keyword_of))]
 pub(crate) fn keyword_of(word: &[u8]) -> Option<Keyword>
     ensures { result ≡ keyword_of word.now }
@@ -51,7 +51,7 @@ pub(crate) fn keyword_of(word: &[u8]) -> Option<Keyword>
     }
 }
 
-/// The keyword of tiles or of their functions that a word is.
+/// The keyword that a word is, if it names a tile or the bits of a tile.
 fn tile_keyword_of(word: &[u8]) -> Option<Keyword>
     ensures { result ≡ tile_keyword_of word.now }
 {

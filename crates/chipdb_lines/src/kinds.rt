@@ -6,7 +6,7 @@ ghost use Rattle.chipdb_lines.specs.Statements.{is_kind_there};
 
 use plane_map::{DeviceName, TileKind, kind_on};
 
-/// Whether a tile of that kind stands there.
+/// Whether there is a tile of that kind at (x, y).
 pub(crate) fn is_kind_at(device: DeviceName, kind: TileKind, x: u32, y: u32) -> bool
     ensures there { result ≡ is_kind_there kind (kind_of device x y) }
     ensures small { OnTrue result ((x < 34) × (y < 34)) }
@@ -17,7 +17,7 @@ pub(crate) fn is_kind_at(device: DeviceName, kind: TileKind, x: u32, y: u32) -> 
     }
 }
 
-/// Whether the place is in the grid; corners are.
+/// Whether (x, y) is in the grid, corners included.
 pub(crate) fn is_in_grid(device: DeviceName, x: u32, y: u32) -> bool
     ensures inside { result ≡ (nat_lt x (grid_width device) && nat_lt y (grid_height device)) }
     ensures small { OnTrue result ((x < 34) × (y < 34)) }

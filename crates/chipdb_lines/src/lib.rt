@@ -1,7 +1,7 @@
-//! Lines of a chip database: what a statement says of the lines below it, and what those lines say.
+//! Reads single lines of a chip database: what a statement says of the lines below it, and what those lines say.
 //!
-//! Spaces and tabs part words. A line that begins with a dot is a statement, one that begins with `#` a remark. Each line is
-//! read alone; the repeats of earlier lines are the reader's.
+//! Spaces and tabs separate words. A line that begins with a dot is a statement, and one that begins with `#` is a comment (a remark). Each
+//! line is read by itself; the caller finds lines that repeat earlier ones.
 #![tactic(auto)]
 
 mod bits;

@@ -15,25 +15,26 @@ use crate::words::has_no_word;
 use plane_map::{TileKind, kind_on, tile_width};
 use text_lines::{Separators, number, number_before, one_word, split_word};
 
-/// The net to which links lead, in a tile, and the bits that choose among them.
+/// A statement of links: the tile, the net that they drive, and the bits that choose among them.
 #[derive(Clone, Copy, Debug, PartialEq, Eq)]
 pub struct LinkHead {
     pub x: u8,
     pub y: u8,
     pub dst: u32,
     pub bits: BitList,
-    /// How many bits there are.
+    /// How many bits there are in the list.
     pub count: u8,
 }
 
-/// The net from which a link comes, and the values of the bits that choose it: that of the first bit is the lowest bit.
+/// One line of such a statement: the source net, and the values of the bits that choose it. The value of the first bit is the lowest bit of
+/// the number.
 #[derive(Clone, Copy, Debug, PartialEq, Eq)]
 pub struct Choice {
     pub src: u32,
     pub values: u64,
 }
 
-/// What the words `X Y DST BIT ...` say. Their list is added to a table.
+/// Reads the words `X Y DST BIT ...`, and adds the list of the bits to the table.
 pub(crate) fn link_head(chip: Chip, words: &[u8], bits: &mut BitTable) -> Result<LinkHead, Refusal>
     requires { length bits.old < 2 ^ 32 - 1 }
     ensures unchanged { OnErr result (bits.new ≡ bits.old) }
@@ -55,8 +56,8 @@ struct UsualHead<'a> {
     bits: &'a [u8],
 }
 
-/// The same where one space stands before each of the words `X`, `Y` and `DST`, and one behind them: none of other words, and none
-/// of words with which something is wrong. It is there for speed alone.
+/// A fast path for the usual form of `X Y DST BIT ...`: exactly one space before each of the first three words, and one after them. `None`
+/// for any other form, and for words that are refused.
 fn usual_head(words: &[u8]) -> Option<UsualHead<'_>>
     ensures { IfSome result (λ head. (chip : Chip)
         → link_of_words chip (words_in words.now) ≡ link_at chip.nets head.x head.y head.dst (kind_of chip.device head.x head.y) (words_in head.bits.now)) }
@@ -67,7 +68,7 @@ fn usual_head(words: &[u8]) -> Option<UsualHead<'_>>
     }
 }
 
-/// The same behind the first space.
+/// The fast path after the first space.
 fn head_behind_space(words: &[u8]) -> Option<UsualHead<'_>>
     ensures { IfSome result (λ head. (chip : Chip)
         → link_of_words chip (words_in (32 ∷ words.now)) ≡ link_at chip.nets head.x head.y head.dst (kind_of chip.device head.x head.y) (words_in head.bits.now)) }
@@ -82,7 +83,7 @@ fn head_behind_space(words: &[u8]) -> Option<UsualHead<'_>>
     }
 }
 
-/// What the words `X Y DST BIT ...` say, whatever parts them.
+/// Reads the words `X Y DST BIT ...`, with any separators.
 #[tactic(auto, unfolding(crate::specs::Statements::link_of_words, text_lines::specs::Words::numbers_of))]
 fn spaced_head(chip: Chip, words: &[u8], bits: &mut BitTable) -> Result<LinkHead, Refusal>
     requires { length bits.old < 2 ^ 32 - 1 }
@@ -109,7 +110,7 @@ struct HeadWords<'a> {
     bits: &'a [u8],
 }
 
-/// The words `X`, `Y` and `DST`, and those of at least one bit.
+/// Splits the words `X`, `Y` and `DST` from the words of at least one bit.
 #[tactic(auto, using(crate::proofs::Heads::link_without_bits), unfolding(crate::specs::Statements::link_of_words))]
 fn head_words(words: &[u8]) -> Option<HeadWords<'_>>
     ensures { MatchOption result ((chip : Chip) → link_of_words chip (words_in words.now) ≡ Err DbCause.Number)
@@ -126,7 +127,7 @@ fn head_words(words: &[u8]) -> Option<HeadWords<'_>>
     }
 }
 
-/// Links into a net of the tile at (x, y), with the words of their bits.
+/// The statement of links into a net of the tile at (x, y), with the words of its bits.
 #[tactic(auto, using(crate::proofs::Heads::columns_small))]
 fn link_into(
     chip: Chip,
@@ -157,7 +158,11 @@ fn link_into(
     }
 }
 
-/// What the words `VALUES SRC` say below a statement with so many bits.
+/// Reads the words `VALUES SRC` of a line below a statement of links with `count` bits.
+///
+/// # Errors
+/// `Number` if there aren't two words, the second a number; else `NetRange` if the device has no net SRC; else `ValueLength` if VALUES
+/// isn't one `0` or `1` for each bit.
 #[tactic(auto, unfolding(crate::specs::Items::choice_of))]
 pub fn choice_item(nets: u32, count: usize, words: &[u8]) -> Result<Choice, DbCause>
     requires { count ≤ 64 }
@@ -173,16 +178,16 @@ pub fn choice_item(nets: u32, count: usize, words: &[u8]) -> Result<Choice, DbCa
     }
 }
 
-/// A line of a statement of links at the front of a text, and what stands behind it.
+/// A line of a statement of links at the front of a text, and what follows it.
 #[derive(Clone, Copy, Debug)]
 pub struct ChoiceLine<'a> {
     pub choice: Choice,
-    /// The text behind the line and its LF.
+    /// The text after the line and its LF.
     pub rest: &'a [u8],
 }
 
-/// The choice that the first line of a text says, where one space stands between the line's two words and LF right behind
-/// them: none of other lines, and none of a line with which something is wrong. It looks no further than the line.
+/// A fast path for the usual form of a line `VALUES SRC` at the front of a text: one space between the two words, and LF right after them.
+/// `None` for any other form, and for a line that is refused. It looks no further than this line.
 pub fn choice_line(nets: u32, count: usize, text: &[u8]) -> Option<ChoiceLine<'_>>
     requires { count ≤ 64 }
     ensures { MatchOption result (HasChoice nets count text.now → ⊥) (IsChoiceLine nets count text.now) }
@@ -194,7 +199,7 @@ pub fn choice_line(nets: u32, count: usize, text: &[u8]) -> Option<ChoiceLine<'_
     }
 }
 
-/// Whether a space stands behind so many bytes, and at least one.
+/// Whether there is a space after the first `count` bytes, and `count` isn't 0.
 fn has_space_behind(count: usize, text: &[u8]) -> bool
     ensures is { result ≡ (nat_lt 0 count && nat_lt count (length text.now) && (get_or text.now count 0 == 32)) }
     ensures inside { OnTrue result ((0 < count) × (count < length text.now) × (get_or text.now count 0 ≡ 32)) }
@@ -202,7 +207,7 @@ fn has_space_behind(count: usize, text: &[u8]) -> bool
     0 < count && count < text.len() && text[count] == b' '
 }
 
-/// The same, where these values and a space stand before the text.
+/// The fast path after the values and the space.
 fn behind_values<'a>(nets: u32, values: &[u8], text: &'a [u8]) -> Option<ChoiceLine<'a>>
     requires some { 0 < length values.now }
     requires few { length values.now ≤ 64 }
@@ -221,7 +226,7 @@ fn behind_values<'a>(nets: u32, values: &[u8], text: &'a [u8]) -> Option<ChoiceL
     }
 }
 
-/// What the word `VALUES` and the number SRC say.
+/// The choice that the word `VALUES` and the number SRC make.
 fn choice_by(nets: u32, count: usize, values: &[u8], src: Option<u32>) -> Result<Choice, DbCause>
     requires { count ≤ 64 }
     ensures says { Reads (choice_by nets count values.now src) (choice_named count) result }
@@ -237,7 +242,7 @@ fn choice_by(nets: u32, count: usize, values: &[u8], src: Option<u32>) -> Result
     }
 }
 
-/// The values that a word has for so many bits.
+/// The values that a word has, if it has one for each of `count` bits.
 fn values_of(count: usize, word: &[u8]) -> Option<u64>
     requires { count ≤ 64 }
     ensures { MatchOption result (is_values count word.now ≡ false)
@@ -250,7 +255,7 @@ fn values_of(count: usize, word: &[u8]) -> Option<u64>
     }
 }
 
-/// The number whose lowest bits a word has, the lowest first: none where a byte is neither `0` nor `1`.
+/// The number that a word of `0` and `1` writes, the lowest bit first. `None` if a byte is neither `0` nor `1`.
 fn values_in(word: &[u8]) -> Option<u64>
     requires { length word.now ≤ 64 }
     ensures { MatchOption result (list_all (λ byte. (byte == 48) || (byte == 49)) word.now ≡ false) (WritesValues word.now) }

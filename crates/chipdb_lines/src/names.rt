@@ -11,7 +11,7 @@ use crate::kinds::is_in_grid;
 use plane_map::DeviceName;
 use text_lines::{Separators, is_blank, number, number_before, one_word, split_word};
 
-/// A name at a place of the grid.
+/// A name of a net at a place of the grid.
 #[derive(Clone, Copy, Debug)]
 pub struct NameItem<'a> {
     pub x: u8,
@@ -19,7 +19,10 @@ pub struct NameItem<'a> {
     pub name: &'a [u8],
 }
 
-/// What the words `X Y NAME` say.
+/// Reads the words `X Y NAME` of a line of `.net`.
+///
+/// # Errors
+/// `Number` if the words aren't two numbers and a name, or (X, Y) is outside of the grid.
 pub fn name_item(device: DeviceName, words: &[u8]) -> Result<NameItem<'_>, DbCause>
     ensures { (net : ℕ) → Reads (name_of device net (words_in words.now)) (name_named net) result }
 {
@@ -29,8 +32,8 @@ pub fn name_item(device: DeviceName, words: &[u8]) -> Result<NameItem<'_>, DbCau
     }
 }
 
-/// The same, where one space stands between two words and none else: none of other words, and none of words with which
-/// something is wrong. It is there for speed alone.
+/// A fast path of `name_item` for the usual form, with exactly one space between two words and no other separator. `None` for any other
+/// form, and for words that are refused.
 fn usual_name(device: DeviceName, words: &[u8]) -> Option<NameItem<'_>>
     ensures { IfSome result (λ item. (net : ℕ) → name_of device net (words_in words.now) ≡ Ok (name_named net item)) }
 {
@@ -47,7 +50,7 @@ fn usual_name(device: DeviceName, words: &[u8]) -> Option<NameItem<'_>>
     }
 }
 
-/// Whether there are bytes, and none of them is a space or a tab.
+/// Whether this is exactly one word: at least one byte, and no space or tab.
 fn is_one_word(name: &[u8]) -> bool
     ensures { result ≡ (nat_lt 0 (length name.now) && list_all (λ byte. not (is_blank byte)) name.now) }
 {
@@ -61,7 +64,7 @@ fn has_no_blank(name: &[u8]) -> bool
     name.iter().all(|byte| !is_blank(*byte))
 }
 
-/// What the words `X Y NAME` say, whatever parts them.
+/// Reads the words `X Y NAME`, with any separators.
 #[tactic(auto, unfolding(crate::specs::Items::name_of))]
 fn spaced_name(device: DeviceName, words: &[u8]) -> Result<NameItem<'_>, DbCause>
     ensures { (net : ℕ) → Reads (name_of device net (words_in words.now)) (name_named net) result }
@@ -72,7 +75,7 @@ fn spaced_name(device: DeviceName, words: &[u8]) -> Result<NameItem<'_>, DbCause
     }
 }
 
-/// What the word `X` and the words `Y NAME` say.
+/// Reads the words `Y NAME`, which follow the word `X`.
 #[tactic(auto, unfolding(crate::specs::Items::name_of))]
 fn name_in_column<'a>(
     device: DeviceName,
@@ -87,7 +90,7 @@ fn name_in_column<'a>(
     }
 }
 
-/// What the words `X` and `Y`, and the words `NAME`, say.
+/// Reads the words `NAME`, which follow the words `X` and `Y`.
 #[tactic(auto, unfolding(crate::specs::Items::name_of, text_lines::specs::Words::numbers_of))]
 fn name_at<'a>(
     device: DeviceName,

@@ -19,9 +19,9 @@ use text_lines::{Separators, one_number, split_word, two_numbers};
 /// What the lines below a statement are.
 #[derive(Clone, Copy, Debug, PartialEq, Eq)]
 pub enum Below {
-    /// Passed over.
+    /// Skipped.
     Passed,
-    /// Passed over: the statement gives the device.
+    /// Skipped: the statement gives the device.
     Device(Chip),
     /// `X Y GLB`
     GlobalInputs,
@@ -39,8 +39,12 @@ pub enum Below {
     Routings(LinkHead),
 }
 
-/// What a statement says that stands behind that device or none; repeats of earlier statements aren't looked for. The list
-/// of a link's bits is added to a table, which is as it was after a refusal.
+/// Reads a statement. `chip` is the device that was given before it, if one was. Repeats of earlier statements aren't looked for. The list
+/// of the bits of a `.buffer` or `.routing` is added to the table.
+///
+/// # Errors
+/// `Cause` with what `statement_of` says of the words: `NoDevice`, `Device`, `Number`, `TileKind`, `NetRange`, `BitName`, `BitRange` or
+/// `CellBits`. `Memory` if memory is out. Then the table is as it was.
 #[tactic(auto, unfolding(crate::specs::Statements::statement_of))]
 pub fn statement(chip: Option<Chip>, line: &[u8], bits: &mut BitTable) -> Result<Below, Refusal>
     requires { length bits.old < 2 ^ 32 - 1 }
@@ -54,7 +58,7 @@ pub fn statement(chip: Option<Chip>, line: &[u8], bits: &mut BitTable) -> Result
     }
 }
 
-/// What a keyword, perhaps a known one, and the words behind it say.
+/// Reads a statement by its keyword, if it is a known one, and the words after it.
 fn below_keyword(
     chip: Option<Chip>,
     keyword: Option<Keyword>,
@@ -75,7 +79,7 @@ fn below_keyword(
     }
 }
 
-/// What a statement says before which no device was given.
+/// Reads a statement before which no device was given.
 fn below_none(keyword: Keyword, words: &[u8]) -> Result<Below, Refusal>
     ensures added { (bits : List (List Bit)) → IfOk result (AddsBelow bits bits) }
     ensures says { (bits : List (List Bit)) → Tells (block_without keyword (words_in words.now)) (block_named bits) result }
@@ -89,7 +93,7 @@ fn below_none(keyword: Keyword, words: &[u8]) -> Result<Below, Refusal>
     }
 }
 
-/// What a statement says behind the device.
+/// Reads a statement after the device was given.
 #[tactic(auto, unfolding(crate::specs::Statements::block_of))]
 fn below_chip(
     chip: Chip,
@@ -121,7 +125,7 @@ fn below_chip(
     }
 }
 
-/// A statement of one word.
+/// Reads a statement of one word.
 fn alone(below: Below, words: &[u8]) -> Result<Below, Refusal>
     ensures same { IfOk result (λ found. found ≡ below) }
     ensures says { (bits : List (List Bit)) → Tells (alone (block_named bits below) (words_in words.now)) (block_named bits) result }
@@ -133,7 +137,7 @@ fn alone(below: Below, words: &[u8]) -> Result<Below, Refusal>
     }
 }
 
-/// `.io_tile X Y` and its like.
+/// `.io_tile X Y`, `.logic_tile X Y`, `.ramb_tile X Y` or `.ramt_tile X Y`
 fn tile(device: DeviceName, kind: TileKind, words: &[u8]) -> Result<Below, Refusal>
     ensures added { (bits : List (List Bit)) → IfOk result (AddsBelow bits bits) }
     ensures says { (bits : List (List Bit)) → Tells (tile_of_numbers device kind (numbers_of (words_in words.now))) (block_named bits) result }
@@ -145,7 +149,7 @@ fn tile(device: DeviceName, kind: TileKind, words: &[u8]) -> Result<Below, Refus
     }
 }
 
-/// `.io_tile_bits COLUMNS ROWS` and its like.
+/// `.io_tile_bits COLUMNS ROWS`, and the same for the other kinds of tiles
 fn functions(kind: TileKind, words: &[u8]) -> Result<Below, Refusal>
     ensures added { (bits : List (List Bit)) → IfOk result (AddsBelow bits bits) }
     ensures says { (bits : List (List Bit)) → Tells (tile_bits_of_numbers kind (numbers_of (words_in words.now))) (block_named bits) result }

@@ -1,4 +1,4 @@
-// Lines by their first byte, and their words.
+// Kinds of lines by their first byte, and their words.
 ghost use Rattle.std.specs.Prelude.{◌≡◌, [], MatchOption, false};
 ghost use Rattle.std.specs.List.{list_all};
 ghost use Rattle.text_lines.specs.Lines.{is_blank};
@@ -13,8 +13,7 @@ pub fn is_statement(line: &[u8]) -> bool
     matches!(line, [b'.', ..])
 }
 
-/// The line where it has words for the statement to which it belongs: none of a statement, of a remark and of a line
-/// without a word.
+/// The line, if it has words that belong to the statement above it. `None` for a statement, a comment, and a line without a word.
 #[tactic(auto, unfolding(crate::specs::Words::own_words))]
 pub fn own_words(line: &[u8]) -> Option<&[u8]>
     ensures words { MatchOption result (own_words line.now ≡ []) (λ words. words_in words.now ≡ own_words line.now) }
@@ -27,7 +26,7 @@ pub fn own_words(line: &[u8]) -> Option<&[u8]>
     }
 }
 
-/// Whether the line is a remark.
+/// Whether the line is a comment.
 fn is_remark(line: &[u8]) -> bool
     ensures { result ≡ is_remark line.now }
 {
@@ -41,7 +40,7 @@ pub(crate) fn has_no_word(words: &[u8]) -> bool
     are_blanks(words)
 }
 
-/// Whether each byte is a space or a tab. It looks no further than the first one that isn't.
+/// Whether each byte is a space or a tab. It stops at the first byte that isn't.
 fn are_blanks(words: &[u8]) -> bool
     ensures { result ≡ list_all is_blank words.now }
 {

@@ -15,7 +15,7 @@ use Rattle.chipdb_reader.specs.Blocks.{chip_by, chip_in, chip_before, statement_
 
 -- ---- the device
 
--- the device behind a statement
+-- the device after a statement
 abbrev pub chip_after : Option Chip → Block → Option Chip
 chip_after chip (of_device given) = Some given
 chip_after chip block = chip
@@ -34,7 +34,7 @@ chip-statement lines n = first_below-more n (λ k. chip_in (line_at lines k))
 
 -- ---- statements
 
--- a line that is no statement stays below the same
+-- a line that is no statement belongs to the same statement as the line before it
 pub over-own : (lines : List (List ℕ)) (n : ℕ) → is_statement (line_at lines n) ≡ false → statement_over lines (n + 1) ≡ statement_over lines n
 unfolding statement_over
 over-own lines n own = last_below-more n (λ k. is_statement (line_at lines k)) ∙ rw own refl
@@ -76,7 +76,7 @@ device_by (Some Net) words block says = absurd cc
 device_by (Some Buffer) words block says = absurd cc
 device_by (Some Routing) words block says = absurd cc
 
--- the device is that of a line before, or else that of the statement
+-- the device is given by a line before, or else by the statement
 pub chip-given : (chip : Option Chip) (line : List ℕ) (block : Block) → is_statement line ≡ true → statement_of chip (words_in line) ≡ Ok block
     → or_else chip (chip_in line) ≡ or_else chip (device_of block)
 unfolding chip_in statement_of

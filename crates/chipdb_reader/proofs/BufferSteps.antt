@@ -39,7 +39,7 @@ marked-push old new lines start line within marked here others values none =
     ap (lookup (nat_eq values)) more ∙ lookup-push (nat_eq values) (choices_of (drop start lines)) (line.values, line.src)
     ∙ rw (before, other) refl
 
--- what a new line changes where the lines are in the index
+-- what a new line changes when the lines are in the index
 pub adds-indexed : (old new : Buffers) (line : LinkLine) → IsChosen old → old.is_indexed ≡ true → chosen_src old line.values ≡ None → Updates nat_cmp old.chosen new.chosen line.values (Some line.src)
     → new.lines.items ≡ old.lines.items ++ line ∷ [] → new.start ≡ old.start → new.is_indexed ≡ old.is_indexed
     → get_or new.marks (line.values % MARKS) true ≡ true → ((k : ℕ) → k ≢ line.values % MARKS → get_or new.marks k true ≡ get_or old.marks k true) → AddsBuffer old new line
@@ -60,7 +60,7 @@ adds-indexed old new line indexed many none updates pushed start kept here other
       start = start;
     }
 
--- what a new line changes where they aren't
+-- what a new line changes when they aren't
 pub adds-few : (old new : Buffers) (line : LinkLine) → IsChosen old → old.is_indexed ≡ false → chosen_src old line.values ≡ None
     → new.lines.items ≡ old.lines.items ++ line ∷ [] → new.start ≡ old.start → new.is_indexed ≡ old.is_indexed → new.chosen ≡ old.chosen
     → get_or new.marks (line.values % MARKS) true ≡ true → ((k : ℕ) → k ≢ line.values % MARKS → get_or new.marks k true ≡ get_or old.marks k true) → AddsBuffer old new line

@@ -159,7 +159,7 @@ tells-memory : (fault : Option Fault) (e : DbFault) → IsOutOfMemory e → Tell
 tells-memory fault (At line cause) is = absurd is
 tells-memory fault (Memory e) is = tt
 
--- what is answered at the end, where it is a database
+-- the answer at the end, if it is a database
 answered-by : (text : List ℕ) (count : ℕ) (reader : Reader) (chip : Option Chip) (answer : Result Kept DbFault) → HasRead (lines_of text) reader → reader.chip ≡ chip → EndsReading reader chip (count + 1) answer
     → IfOk answer (λ kept. DbMeans text (database_in kept))
 answered-by text count reader None answer before given ends = rw ends tt

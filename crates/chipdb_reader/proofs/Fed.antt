@@ -1,4 +1,4 @@
--- A reader of pieces, by what its feed of lines tells.
+-- A reader of pieces, by the clauses of its line feed.
 use Rattle.std.proofs.Common.{◌≡◌, sym, refl}
 use Rattle.std.specs.Prelude.{Option, Some, None, Result, Ok, Err, IfErr, MatchResult, OnOk}
 use Rattle.std.specs.Result.{result_err}
@@ -7,7 +7,7 @@ use Rattle.chipdb_reader.specs.declared.fault.DbFault.{DbFault}
 use Rattle.chipdb_reader.specs.declared.fault.DbFault.TheVariants.{At, Memory}
 use Rattle.chipdb_reader.specs.Feeding.{lack_in}
 
--- where nothing was refused, nothing was refused before
+-- if nothing was refused, nothing was refused before
 pub none-before : {A : Type 0} (told : Result A DbFault) (old new : Option DbFault) → ((fault : DbFault) → old ≡ Some fault → told ≡ Err fault) → IfErr told (λ fault. new ≡ Some fault) → new ≡ None → old ≡ None
 none-before told None new again kept none = refl
 none-before told (Some fault) new again kept none =
@@ -24,7 +24,7 @@ pub kept-is : {A : Type 0} (told : Result A DbFault) (new : Option DbFault) → 
 kept-is (Ok x) new clear kept = sym clear
 kept-is (Err fault) new clear kept = sym kept
 
--- a want of memory is one
+-- out of memory is reported as such
 pub lack-is : (refusal : Option DbFault) (e : AllocError) → lack_in refusal ≡ Some e → refusal ≡ Some (Memory e)
 lack-is None e is = absurd cc
 lack-is (Some (At line cause)) e is = absurd cc

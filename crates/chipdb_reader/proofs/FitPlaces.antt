@@ -27,7 +27,7 @@ use Rattle.chipdb_reader.proofs.FitLines.{OkAll, ok-cond, IsHead, IsNameOf, choi
 
 -- ---- blocks
 
--- what holds of a block behind a device
+-- what holds of a block after a device
 abbrev BlockFits : Chip → Block → Type 0
 BlockFits chip (names net) = net < chip.nets
 BlockFits chip (buffers head) = IsHead chip head
@@ -72,13 +72,13 @@ block-fit chip Net words = names-fit chip (net_of_numbers chip.nets (numbers_of 
 block-fit chip Buffer words = buffers-fit chip (link_of_words chip words) (link-fit chip words)
 block-fit chip Routing words = routings-fit chip (link_of_words chip words) (link-fit chip words)
 
--- a block that isn't behind a device has no lines that say anything
+-- a block that isn't after a device has no lines that say anything
 abbrev IsEmpty : Block → Type 0
 IsEmpty passed = Unit {0}
 IsEmpty (of_device chip) = Unit {0}
 IsEmpty block = ⊥
 
--- what holds of a block behind a device or none
+-- what holds of a block after a device, or before any
 abbrev Fits : Option Chip → Block → Type 0
 Fits None block = IsEmpty block
 Fits (Some chip) block = BlockFits chip block
@@ -132,7 +132,7 @@ chip-stays : (lines : List (List ℕ)) (n k : ℕ) (chip : Chip) → n ≤ k →
 unfolding chip_before
 chip-stays lines n k chip le is = first_below-stays n k (λ j. chip_in (line_at lines j)) chip le is
 
--- what holds of a block holds where the device is given later
+-- what holds of a block still holds if the device is given later
 later-fit : (before after : Option Chip) (block : Block) → ((chip : Chip) → before ≡ Some chip → after ≡ Some chip) → Fits before block → (chip : Chip) → after ≡ Some chip → BlockFits chip block
 later-fit None after passed stays fits chip is = tt
 later-fit None after (of_device given) stays fits chip is = tt
@@ -207,7 +207,7 @@ said-by-fit chip (Some c) block (word ∷ words) fits =
     let facts = fits c refl in
     subst (λ d. SaidFits d (said_for c block (word ∷ words))) facts.0 (said-fit c block (word ∷ words) facts.1)
 
--- the device of a place is that of the text
+-- the device at a place is the device of the text
 given-same : (lines : List (List ℕ)) (k n : ℕ) (chip c : Chip) → k ≤ n → chip_before lines n ≡ Some chip → chip_before lines k ≡ Some c → c ≡ chip
 given-same lines k n chip c le is at = let both : Some c ≡ Some chip = sym (chip-stays lines k n c le at) ∙ is in cc
 
@@ -254,7 +254,7 @@ routings-in-fit chip extra_bits choices fits all = All-nil _
 routings-in-fit chip (names net) choices fits all = All-nil _
 routings-in-fit chip (buffers head) choices fits all = All-nil _
 
--- where no device is given yet, a line has no choice
+-- if no device is given yet, a line has no choice
 no-choices : (words : List (List ℕ)) (block : Block) → (said_by words None block).choices ≡ []
 no-choices [] block = refl
 no-choices (word ∷ words) block = refl

@@ -31,7 +31,7 @@ use Rattle.chipdb_reader.proofs.NameSteps.{text-tie}
 
 -- ---- names by their ids
 
--- the id of a name tells it from all others
+-- no two names have the same id
 pub id-tie : (texts : Texts) (name : List ℕ) (id i : ℕ) → IsIndexed texts → position (bytes_eq name) texts.arena ≡ Some id → i < length texts.arena → bytes_eq name (text_at texts.arena i) ≡ eqb i id
 id-tie texts name id i indexed here lt =
     text-tie texts texts name id i (record { indexed = indexed; here = here; more = []; grown = sym (append-nil texts.arena); few = lit≤ tt }) lt
@@ -49,7 +49,7 @@ id-none texts name i indexed none lt =
 
 -- ---- the first that passes
 
--- tests that agree find the same
+-- tests that agree find the same element
 find-map : {A B : Type 0} (P : A → Type 0) (f : A → B) (test : B → Bool) (other : A → Bool) (xs : List A) → ((x : A) → P x → test (f x) ≡ other x) → All P xs → find test (map f xs) ≡ option_map f (find other xs)
 find-map P f test other [] same all = refl
 find-map P f test other (x ∷ xs) same all = by (test (f x)) (other x) (same x (All-head P x xs all)) (find-map P f test other xs same (All-tail P x xs all))
@@ -64,7 +64,7 @@ find-none : {A B : Type 0} (P : A → Type 0) (f : A → B) (test : B → Bool) 
 find-none P f test [] fails all = refl
 find-none P f test (x ∷ xs) fails all = rw (fails x (All-head P x xs all)) (find-none P f test xs fails (All-tail P x xs all))
 
--- the value that is found is that of the element that is found
+-- the value that is found belongs to the element that is found
 lookup-find : {K X : Type 0} (test : K → Bool) (entries : List (K × X)) → lookup test entries ≡ option_map (λ e. e.1) (find (λ e. test e.0) entries)
 lookup-find test [] = refl
 lookup-find test (e ∷ entries) = by (test e.0) (lookup-find test entries)
@@ -189,7 +189,7 @@ names-absent texts all net (e ∷ entries) none =
     ∙ ap (λ ls. ls ++ names_of_net net (name_lines texts (flat_map (entry_names all) entries))) (filter-no texts net e.0 (names_in all e.1) apart)
     ∙ names-absent texts all net entries none.1
 
--- the names of a net are those of its entry
+-- the names of a net are the names of its entry
 pub names-found : (texts : List (List ℕ)) (all : List NetName) (net : ℕ) (entries : List (ℕ × Span)) → IsDistinct nat_eq (keys_of entries)
     → names_of_net net (name_lines texts (flat_map (entry_names all) entries)) ≡ name_lines texts (names_with net (found_names all (lookup (nat_eq net) entries)))
 unfolding names_of_net IsDistinct
@@ -217,7 +217,7 @@ names-found texts all net (e ∷ entries) distinct =
           ∙ ap (λ o. name_lines texts (names_with net (found_names all o))) (sym found)
     ]
 
--- the names of a net, where all nets are earlier ones
+-- the names of a net, if all nets have been moved to the earlier ones
 pub net-names-found : (texts : List (List ℕ)) (nets : Nets) (net : ℕ) → IsNetIndex nets → nets.last ≡ None → name_lines texts (names_with net (earlier_names nets net)) ≡ names_of_net net (name_lines texts (net_names nets))
 net-names-found texts nets net indexed closed =
     let all : List NetName = nets.names.items in

@@ -1,4 +1,4 @@
--- What is kept says the same where more names and more bits are kept.
+-- What is kept says the same when more names and more bits are kept.
 use Rattle.std.proofs.Common.{◌≡◌, ℕ, ◌+◌, ◌^◌, ◌<◌, ◌≤◌, List, [], ◌∷◌, ◌++◌, length, length-append, get_or, map, append-nil, refl, sym, ap, ◌∙◌, arith, subst}
 use Rattle.std.specs.Prelude.{All}
 use Rattle.std.proofs.lemmas.List.{get_or_append_left}
@@ -35,7 +35,7 @@ text-grown texts more id lt = get_or_append_left texts more [] id lt
 pub bits-grown : (bits more : List (List RowCol)) (list : BitList) → list.place < length bits → bits_named (bits ++ more) list ≡ bits_named bits list
 bits-grown bits more list lt = get_or_append_left bits more [] list.place lt
 
--- a list has as many bits as its statement tells
+-- a list has as many bits as its statement says
 pub length-bits_named : (bits : List (List RowCol)) (head : KeptHead) → IsHeadOf bits head → length (bits_named bits head.bits) ≡ head.count
 length-bits_named bits head is = sym is.counted
 

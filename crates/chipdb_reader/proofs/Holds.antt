@@ -121,7 +121,7 @@ pub routings_at-nothing : (lines : List (List ℕ)) (n : ℕ) → (said_at lines
 unfolding routings_at
 routings_at-nothing lines n none = ap (routings_in (block_over lines n)) none ∙ routings_in-nothing (block_over lines n)
 
--- the choices stay where the line has none
+-- the choices stay if the line has none
 pub choices-kept : (reader : Reader) (lines : List (List ℕ)) (n : ℕ) (below : Below) → is_statement (line_at lines n) ≡ false → (said_at lines n).choices ≡ []
     → ChoicesHold reader lines n below → ChoicesHold reader lines (n + 1) below
 choices-kept reader lines n (Buffers head) own none holds = record {

@@ -110,7 +110,7 @@ pin-step old pins lines n chip word words at pushed =
 
 -- ---- names and bits that grow
 
--- how many names there are where one has a place
+-- how many names there are if one has a place
 pub record Counts (old new id : ℕ) : Type 0 where
   pub more : old ≤ new
   pub few : new ≤ old + 1
@@ -139,7 +139,7 @@ in_range-grown old texts bits more_texts more_bits texts_grown bits_grown range 
       routings = All-weaker (IsLinkIn old.bits) (IsLinkIn bits) linked old.routings.items range.routings;
     }
 
--- lists that say the same
+-- lists that say the same as each other
 pub names-kept : (old : Reader) (texts : Texts) (more : List (List ℕ)) → texts.arena ≡ old.texts.arena ++ more → InRange old → name_lines texts.arena (net_names old.nets) ≡ name_lines old.texts.arena (net_names old.nets)
 names-kept old texts more grown range = ap (λ t. name_lines t (net_names old.nets)) grown ∙ names-grown old.texts.arena more (net_names old.nets) range.names
 

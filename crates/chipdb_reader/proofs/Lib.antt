@@ -16,7 +16,7 @@ pub mod NetSteps
 pub mod NetChanges
 -- devices, statements and blocks, one line further
 pub mod BlockSteps
--- what is kept says the same where more names and more bits are kept
+-- what is kept says the same when more names and more bits are kept
 pub mod Grown
 -- the reader keeps what the lines so far give, and one line more
 pub mod Holds
@@ -34,7 +34,7 @@ pub mod LineSteps
 pub mod Ends
 -- lines that are taken one after another
 pub mod Feeding
--- a reader of pieces, by what its feed of lines tells
+-- a reader of pieces, by the clauses of its line feed
 pub mod Fed
 -- what is answered of the bytes of a source or a file
 pub mod Sources

@@ -172,7 +172,7 @@ refused-words old lines n (Some chip) [] cause lt own_line holds given is none =
 refused-words old lines n (Some chip) (word ∷ words) cause lt own_line holds given is told =
     refused-item old lines n chip old.below word words cause (record { inside = lt; own = own_line; holds = holds; given = given; under = refl; is = is }) told
 
--- a line that isn't taken has the cause that is told
+-- a line that is refused has the reported cause
 pub line-refused : (old : Reader) (lines : List (List ℕ)) (n : ℕ) (cause : DbCause) → n < length lines → Holds old lines n → RefusesLine old (line_at lines n) cause → cause_at lines n ≡ Some cause
 line-refused old lines n cause lt holds told =
     elim (cases_Bool (is_statement (line_at lines n))) [

@@ -42,7 +42,7 @@ use Rattle.chipdb_reader.proofs.Searches.{lookup-push}
 
 -- ---- values by their numbers
 
--- the first bit tells whether a number is odd
+-- the first bit says whether a number is odd
 odd-same : (a b : ℕ) → (a % 2 == 1) ≡ (b % 2 == 1) → a % 2 ≡ b % 2
 odd-same a b same =
     elim (cases_eq (a % 2) 1) [
@@ -55,7 +55,7 @@ odd-same a b same =
           omega (arith, not_a, other)
     ]
 
--- numbers of so many bits are equal where their bits are
+-- numbers of at most n bits are equal if their bits are
 word_bits-same : (count a b : ℕ) → a < 2 ^ count → b < 2 ^ count → word_bits count a ≡ word_bits count b → a ≡ b
 unfolding word_bits
 word_bits-same zero a b small_a small_b same = omega arith
@@ -120,7 +120,7 @@ routing-step old lines_kept lines n chip head word words at is pushed =
 
 -- ---- buffers
 
--- some line passes where one of the values that are looked up does
+-- some line passes if one of the looked-up values does
 found-passes : (reader : Reader) (head : KeptHead) (test : LinkChoice → Bool) (values src : ℕ) (ls : List LinkLine)
     → ((l : LinkLine) → IsLastLine reader head l → eqb values l.values ≡ true → l.src ≡ src → test (kept_choice head.count l) ≡ true)
     → All (IsLastLine reader head) ls → lookup (nat_eq values) (choices_of ls) ≡ Some src → list_any test (map (kept_choice head.count) ls) ≡ true
@@ -137,7 +137,7 @@ found-passes reader head test values src (l ∷ ls) passes all found =
           or_right (test (kept_choice head.count l)) (list_any test (map (kept_choice head.count) ls)) (found-passes reader head test values src ls passes rest_all rest)
     ]
 
--- no line passes where each fails
+-- no line passes if each fails
 none-passes : (reader : Reader) (head : KeptHead) (test : LinkChoice → Bool) (ls : List LinkLine)
     → ((l : LinkLine) → IsLastLine reader head l → test (kept_choice head.count l) ≡ false) → All (IsLastLine reader head) ls → list_any test (map (kept_choice head.count) ls) ≡ false
 none-passes reader head test [] fails all = refl
@@ -173,7 +173,7 @@ abbrev pub is_apart : Option ℕ → ℕ → Bool
 is_apart None src = false
 is_apart (Some found) src = not (eqb found src)
 
--- what is told by what the index has for the values of a choice
+-- what the index says about the values of a choice
 pub record Judged (reader : Reader) (lines : List (List ℕ)) (n : ℕ) (head : KeptHead) (choice : Choice) (found : Option ℕ) : Type 0 where
   pub equal : is_chosen_before lines n (is_same_choice (choice_named head.count choice)) ≡ is_equal found choice.src
   pub other : is_chosen_before lines n (is_other_choice (choice_named head.count choice)) ≡ is_apart found choice.src
@@ -244,7 +244,7 @@ pub buffer-cause : (old : Reader) (lines : List (List ℕ)) (n : ℕ) (chip : Ch
 buffer-cause old lines n chip head word words choice at is chosen =
     cause-at old lines n chip (Buffers head) word words at ∙ ap (choice_cause lines n) (choice-read chip.nets old.bits head (word ∷ words) choice is chosen)
 
--- the lines of the statement hold, where the block is one of them
+-- the lines of the statement hold, if the block is one of links
 pub last-holds : (old : Reader) (lines : List (List ℕ)) (n : ℕ) (head : KeptHead) → ChoicesHold old lines n old.below → old.below ≡ Buffers head → LastHolds old lines n head
 last-holds old lines n head holds under = subst (ChoicesHold old lines n) under holds
 
@@ -263,7 +263,7 @@ cause_of_apart (Some other) src = by (eqb other src)
     by true = refl
     by false = refl
 
--- the cause of a line is that which the index tells
+-- the cause of a line is the one that the index gives
 pub buffer-cause_is : (old : Reader) (lines : List (List ℕ)) (n : ℕ) (chip : Chip) (head : KeptHead) (word : List ℕ) (words : List (List ℕ)) (choice : Choice) → At old lines n chip (Buffers head) word words
     → IsHeadOf old.bits head → Chooses chip.nets head.count (word ∷ words) choice → cause_at lines n ≡ buffer_cause old.buffers (link_with head choice)
 buffer-cause_is old lines n chip head word words choice at is chosen =

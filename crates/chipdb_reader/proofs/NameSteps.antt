@@ -39,7 +39,7 @@ unfolding any_below gathered_below
 any_below-gathered zero test given = refl
 any_below-gathered (suc n) test given = ap (λ b. b || list_any test (given n)) (any_below-gathered n test given) ∙ sym (list_any-append test (gathered_below n given) (given n))
 
--- a name is found where some entry has it
+-- a name is found if some entry has it
 pub any-lookup : {K X : Type 0} (test : K → Bool) (entries : List (K × X)) → list_any (λ e. test e.0) entries ≡ is_some (lookup test entries)
 any-lookup test [] = refl
 any-lookup test (e ∷ entries) = by (test e.0) (any-lookup test entries)
@@ -48,7 +48,7 @@ any-lookup test (e ∷ entries) = by (test e.0) (any-lookup test entries)
     by true same = refl
     by false same = same
 
--- the place of a name tells it from all others
+-- no two names have the same place
 pub text-tie : (old new : Texts) (text : List ℕ) (id i : ℕ) → Interns old new text id → i < length old.arena → bytes_eq text (text_at old.arena i) ≡ eqb i id
 text-tie old new text id i interned lt =
     let grown : text_at new.arena i ≡ text_at old.arena i = ap (λ t. text_at t i) interned.grown ∙ text-grown old.arena interned.more i lt in
@@ -73,7 +73,7 @@ and-assoc : (a b c : Bool) → ((a && b) && c) ≡ (a && (b && c))
 and-assoc true b c = refl
 and-assoc false b c = refl
 
--- an entry has a name where its line does
+-- an entry has a name if its line does
 name-tie : (old new : Texts) (net x y : ℕ) (text : List ℕ) (id : ℕ) (entry : NetName × ℕ) → Interns old new text id → entry.0.name < length old.arena
     → is_same_name (record { net = net; x = x; y = y; name = text }) (name_line old.arena entry) ≡ is_name (record { x = x; y = y; name = id }) entry.0
 name-tie old new net x y text id entry interned lt =
@@ -89,7 +89,7 @@ any-tie old new net x y text id (p ∷ entries) interned all =
     let rest = any-tie old new net x y text id entries interned (All-tail P p entries all) in
     λ i. here i || rest i
 
--- a name was given before where the index has it
+-- a name was given before if the index has it
 pub named-before : (old : Reader) (texts : Texts) (lines : List (List ℕ)) (n net x y : ℕ) (text : List ℕ) (id : ℕ) → Holds old lines n → Interns old.texts texts text id
     → is_named_before lines n (record { net = net; x = x; y = y; name = text }) ≡ is_some (named_net old.nets (record { x = x; y = y; name = id }))
 unfolding is_named_before

@@ -129,7 +129,7 @@ closes-net old new net span indexed last starts ends entries updates unique none
 
 -- ---- a name is added
 
--- names that stand before others stay
+-- names that come before others stay
 names_in-more : (names more : List NetName) (span : Span) → span.start + span.count ≤ length names → names_in (names ++ more) span ≡ names_in names span
 names_in-more names more span within =
     let start : span.start ≤ length names = omega (arith, within) in

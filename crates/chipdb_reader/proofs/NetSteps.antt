@@ -12,7 +12,7 @@ use Rattle.chipdb_reader.specs.NameIndex.{name_cmp}
 use Rattle.chipdb_reader.specs.Nets.{is_name, names_with, last_names}
 use Rattle.chipdb_reader.proofs.Searches.{index-push}
 
--- the index takes names to be the same where all their parts are
+-- the index takes two names for equal if all their parts are equal
 pub name-ties : (name other : NetName) → is_eq (name_cmp name other) ≡ is_name other name
 name-ties name other =
     sym (tied_then (nat_cmp name.x other.x) (ordering_then (nat_cmp name.y other.y) (nat_cmp name.name other.name)))

@@ -63,7 +63,7 @@ position-push test xs x =
 pub bytes_eq-same : (text : List ℕ) → bytes_eq text text ≡ true
 bytes_eq-same text = (bytes_eq-Decides text text).1 refl
 
--- a value that is found is that of an entry that passes
+-- a value that is found belongs to an entry that passes
 pub lookup-passes : {K X : Type 0} (test : K → Bool) (both : K × X → Bool) (entries : List (K × X)) (x : X)
     → ((e : K × X) → test e.0 ≡ true → e.1 ≡ x → both e ≡ true) → lookup test entries ≡ Some x → list_any both entries ≡ true
 lookup-passes test both [] x passes found = absurd cc
@@ -77,7 +77,7 @@ lookup-passes test both (e ∷ entries) x passes found =
           or_right (both e) (list_any both entries) (lookup-passes test both entries x passes rest)
     ]
 
--- where nothing is found, no entry passes
+-- if nothing is found, no entry passes
 pub lookup-none_passes : {K X : Type 0} (test : K → Bool) (both : K × X → Bool) (entries : List (K × X))
     → ((e : K × X) → test e.0 ≡ false → both e ≡ false) → lookup test entries ≡ None → list_any both entries ≡ false
 lookup-none_passes test both [] fails none = refl

@@ -11,7 +11,7 @@ use Rattle.chipdb_reader.specs.Faults.{DbMeans, Tells, db_fault_of}
 use Rattle.chipdb_reader.specs.Kept.{Kept, database_in}
 use Rattle.chipdb_reader.specs.Sources.{ForDb, TellsFault, answer_of, untaken}
 
--- the answer, where all bytes were taken
+-- the answer, if all bytes were taken
 pub answered-means : (Takes : List ℕ → Type 0) (limit : ℕ) (bytes : List ℕ) (read : Result Kept DbFault) (answer : Result Kept SourceDbFault) → answer ≡ answer_of read → Takes bytes → length bytes ≤ limit
     → IfOk read (λ db. DbMeans bytes (database_in db)) → IfOk answer (λ db. (all : List ℕ) × Takes all × (length all ≤ limit) × DbMeans all (database_in db))
 answered-means Takes limit bytes (Ok db) answer is takes few means = rw is (bytes, takes, few, means)
@@ -35,7 +35,7 @@ answered-failed (Ok db) answer is failed = let none : Ok db ≡ Err Failed = sym
 answered-failed (Err (At line cause)) answer is failed = let none = sym is ∙ failed in absurd cc
 answered-failed (Err (Memory e)) answer is failed = let none = sym is ∙ failed in absurd cc
 
--- where bytes weren't all taken
+-- the answer, if bytes weren't all taken
 pub untaken-db : (P : DbFault → Type 0) (fault : TakeFault) → ForDb P (untaken fault)
 untaken-db P ReadFails = tt
 untaken-db P TooMany = tt

@@ -70,7 +70,7 @@ told-own : (lines : List (List ℕ)) (n : ℕ) (said : Result Block DbCause) (ca
 told-own lines n (Ok block) cause told = absurd cc
 told-own lines n (Err other) cause told = told
 
--- a statement that isn't taken has the cause that is told
+-- a statement that is refused has the reported cause
 pub statement-refused : (old : Reader) (lines : List (List ℕ)) (n : ℕ) (cause : DbCause) → n < length lines → is_statement (line_at lines n) ≡ true → Holds old lines n
     → StatementRefusal old (line_at lines n) cause → cause_at lines n ≡ Some cause
 statement-refused old lines n cause lt dot holds (statement_own told) =

@@ -1,4 +1,4 @@
--- Lines of `.buffer` statements, and the index from the values of the last statement's lines to their nets.
+-- The lines of `.buffer` statements, and the index from the values of the last statement's lines to their source nets.
 use Rattle.std.specs.Prelude.{◌≡◌, ℕ, true, false, ◌≤◌, ◌%◌, List, [], ◌∷◌, ◌++◌, length, drop, get_or, map, nat_eq, ◌==◌, if◌then◌else◌, Option, Some, None}
 use Rattle.std.specs.Ordering.{nat_cmp}
 use Rattle.std.specs.BTreeMap.{get}
@@ -9,15 +9,16 @@ use Rattle.chipdb_reader.specs.declared.items.LinkLine.{LinkLine}
 use Rattle.chipdb_reader.specs.declared.buffers.Buffers.{Buffers}
 use Rattle.chipdb_reader.specs.declared.buffers.TheConstants.{MARKS}
 
--- the values of lines with their nets
+-- the values of lines, each with its source net
 abbrev pub choices_of : List LinkLine → List (ℕ × ℕ)
 choices_of lines = map (λ line. (line.values, line.src)) lines
 
--- the net that values choose in the last statement so far
+-- the source net that values choose in the last statement so far
 abbrev pub chosen_src : Buffers → ℕ → Option ℕ
 chosen_src buffers values = lookup (nat_eq values) (choices_of (drop buffers.start buffers.lines.items))
 
--- the index has the nets of the last statement's lines, or nothing where they aren't in it; values without a mark are none of theirs
+-- the index has the nets of the last statement's lines, or nothing if they aren't in it; values without a mark belong to none of these
+-- lines
 pub record IsChosen (buffers : Buffers) : Type 0 where
   pub marked : (values : ℕ) → get_or buffers.marks (values % MARKS) true ≡ false → chosen_src buffers values ≡ None
   pub found : buffers.is_indexed ≡ true → (values : ℕ) → get nat_cmp buffers.chosen values ≡ chosen_src buffers values
@@ -37,12 +38,12 @@ pub record BeginsBuffers (old new : Buffers) : Type 0 where
   pub lines : new.lines.items ≡ old.lines.items
   pub start : new.start ≡ length new.lines.items
 
--- a line whose values the statement hasn't yet is added
+-- a line is added if the statement hasn't its values yet
 abbrev pub with_line : Option ℕ → List LinkLine → LinkLine → List LinkLine
 with_line None lines line = lines ++ line ∷ []
 with_line (Some src) lines line = lines
 
--- what is wrong with a line, where its values choose that net already
+-- what is wrong with a line whose values choose another net already
 abbrev pub choice_cause_of : Option ℕ → ℕ → Option DbCause
 choice_cause_of None src = None
 choice_cause_of (Some other) src = if other == src then None else Some ValuesTwice

@@ -15,14 +15,14 @@ use Rattle.chipdb_reader.specs.declared.fault.DbFault.TheVariants.{At, Memory}
 use Rattle.chipdb_reader.specs.Blocks.{chip_before, statement_at, block_over, own_words_at}
 use Rattle.chipdb_reader.specs.Database.{Database, database_of, said_at, is_chosen_before, is_other_choice}
 
--- a cause where a test passes
+-- the cause, if the test passes
 abbrev pub cause_if : Bool → DbCause → Option DbCause
 cause_if true cause = Some cause
 cause_if false cause = None
 
 -- ---- statements
 
--- the net whose names stand below a statement
+-- the net that the names below a statement belong to
 abbrev pub net_in : Result Block DbCause → Option ℕ
 net_in (Ok (names net)) = Some net
 net_in statement = None
@@ -31,7 +31,7 @@ abbrev pub is_net : ℕ → Option ℕ → Bool
 is_net net None = false
 is_net net (Some other) = other == net
 
--- whether a statement before a place is that of a net
+-- whether a statement before a place is `.net` with that net
 unfoldable pub is_net_before : List (List ℕ) → ℕ → ℕ → Bool
 is_net_before lines n net = any_below n (λ k. is_statement (line_at lines k) && is_net net (net_in (statement_at lines k)))
 
@@ -58,7 +58,7 @@ abbrev pub choice_cause : List (List ℕ) → ℕ → Result LinkChoice DbCause 
 choice_cause lines n (Err cause) = Some cause
 choice_cause lines n (Ok choice) = cause_if (is_chosen_before lines n (is_other_choice choice)) ValuesTwice
 
--- what is wrong with a line that has words for its statement
+-- what is wrong with a line that has words for the statement above it
 abbrev pub item_cause : List (List ℕ) → ℕ → Chip → Block → List (List ℕ) → Option DbCause
 item_cause lines n chip passed words = None
 item_cause lines n chip (of_device given) words = None
@@ -70,19 +70,19 @@ item_cause lines n chip (names net) words = name_cause lines n (name_of chip.dev
 item_cause lines n chip (buffers head) words = choice_cause lines n (choice_of chip.nets (length head.bits) words)
 item_cause lines n chip (routings head) words = result_err (choice_of chip.nets (length head.bits) words)
 
--- what is wrong with a line that is no statement
+-- what is wrong with a line that isn't a statement
 abbrev pub own_cause : List (List ℕ) → ℕ → Option Chip → Block → List (List ℕ) → Option DbCause
 own_cause lines n (Some chip) block (word ∷ words) = item_cause lines n chip block (word ∷ words)
 own_cause lines n chip block words = None
 
--- a text without a device
+-- what is wrong with a text without a device
 abbrev pub end_cause : Option Chip → Option DbCause
 end_cause None = Some NoDevice
 end_cause (Some chip) = None
 
 -- ---- the whole
 
--- what is wrong with a line, or, behind the last line, with the end
+-- what is wrong with a line, or, after the last line, with the whole text
 unfoldable pub cause_at : List (List ℕ) → ℕ → Option DbCause
 cause_at lines n =
     if nat_le (length lines) n then end_cause (chip_before lines n)
@@ -98,7 +98,7 @@ abbrev pub fault_with : ℕ → Option DbCause → Option Fault
 fault_with line (Some cause) = Some (record { line = line; cause = cause })
 fault_with line None = None
 
--- the first faulty line, with the first of its causes; the end counts as the line after the last
+-- the first faulty line, with the first of its causes; a text without a device is at fault at the line after its last
 unfoldable pub fault_of_lines : List (List ℕ) → Option Fault
 fault_of_lines lines = first_below (length lines + 1) (λ n. fault_with (n + 1) (cause_at lines n))
 
@@ -112,7 +112,7 @@ pub record DbMeans (bytes : List ℕ) (database : Database) : Type 0 where
   pub device : chip_before (lines_of bytes) (length (lines_of bytes)) ≡ Some database.chip
   pub lines : database ≡ database_of database.chip (lines_of bytes)
 
--- a fault that is told is that one
+-- the reported fault is that one; out of memory may come in place of any answer
 abbrev pub Tells : Option Fault → DbFault → Type 0
 Tells fault (At line cause) = fault ≡ Some (record { line = line; cause = cause })
 Tells fault (Memory e) = Unit {0}

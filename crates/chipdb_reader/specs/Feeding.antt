@@ -1,5 +1,5 @@
--- What was taken of a database that comes in pieces. The clauses of a reader's calls say all that matters of it: a new one stands
--- for an empty text, `feed` adds a piece, and `finish` tells what the text means.
+-- What a reader has taken of a database that comes in pieces. A new reader stands for an empty text, `feed` adds a piece, and `finish` says
+-- what the text means.
 use Rattle.std.specs.Prelude.{◌≡◌, ℕ, ◌^◌, ◌<◌, ◌≤◌, List, length, Option, Some, None}
 use Rattle.std.specs.Option.{ForNone}
 use Rattle.std.specs.declared.alloc.AllocError.{AllocError}
@@ -22,7 +22,7 @@ pub record HasTaken (lines : List (List ℕ)) (taker : LineReader) : Type 0 wher
 abbrev pub IsGoing : LineReader → Type 0
 IsGoing taker = (lines : List (List ℕ)) × HasTaken lines taker
 
--- the same as a taker of lines tells it, which reads in one setting alone
+-- the lines that a taker has taken; there is only one setting
 abbrev pub taken_by : Unit {0} → LineReader → List (List ℕ) → Type 0
 taken_by setting taker lines = HasTaken lines taker
 
@@ -31,7 +31,7 @@ refused_with setting lines fault = Tells (fault_of_lines lines) fault
 
 -- ---- bytes
 
--- What contracts see of a reader: how many bytes were fed to it, and what became of their lines.
+-- What contracts know of a reader: how many bytes were fed to it, and what became of their lines.
 pub record Intake : Type 0 where
   pub fed : ℕ
   pub lines : LineFeed LineReader DbFault
@@ -46,22 +46,22 @@ pub record IsFed (fed : ℕ) (lines : LineFeed LineReader DbFault) : Type 0 wher
 abbrev pub fed_to : Intake → ℕ
 fed_to reader = reader.fed
 
--- that there was no memory
+-- out of memory, if that is the refusal
 abbrev pub lack_in : Option DbFault → Option AllocError
 lack_in (Some (Memory e)) = Some e
 lack_in (Some (At line cause)) = None
 lack_in None = None
 
--- where a reader had no memory, that it hadn't
+-- out of memory, if the reader ran into it
 abbrev pub lack_of : Intake → Option AllocError
 lack_of reader = lack_in (refusal_of reader.lines)
 
--- A reader stands for a text: so many bytes were fed to it, and it has read them, or knows the fault of each text that begins so,
--- or had no memory.
+-- A reader stands for a text if exactly its bytes were fed. Then it has read them, or knows a fault that every text with this beginning
+-- has, or ran out of memory.
 pub record StandsFor (text : List ℕ) (reader : Intake) : Type 0 where
   pub fed : reader.fed ≡ length text
   pub has : FeedsTo taken_by refused_with tt text reader.lines
 
--- the same as a taker of pieces tells it
+-- the text that a taker of pieces has taken; there is only one setting
 abbrev pub stands_for : Unit {0} → Intake → List ℕ → Type 0
 stands_for setting reader text = StandsFor text reader

@@ -1,4 +1,4 @@
--- What holds of each database that a text means: its lines name tiles, bits and nets that the device has.
+-- What holds of every database: its lines name only tiles, bits and nets that the device has.
 use Rattle.std.specs.Prelude.{◌≡◌, ℕ, ◌<◌, ◌≤◌, true, length, All, Some}
 use Rattle.plane_map.specs.Layout.{kind_of, columns_of, grid_width, grid_height, IsInCram}
 use Rattle.plane_map.specs.declared.tile.TileKind.{TileKind}
@@ -10,7 +10,7 @@ use Rattle.chipdb_lines.specs.declared.globals.GlobalPin.{GlobalPin}
 use Rattle.chipdb_lines.specs.Items.{NameLine, FunctionLine, ExtraLine, is_cell}
 use Rattle.chipdb_reader.specs.Database.{Database, Link}
 
--- a bit of tiles with so many columns of bits
+-- a bit of tiles with `columns` columns of bits
 pub record IsBitIn (columns : ℕ) (bit : RowCol) : Type 0 where
   pub row_in : bit.row < 16
   pub col_in : bit.col < columns
@@ -24,7 +24,7 @@ pub record IsLink (chip : Chip) (link : Link) : Type 0 where
   pub bits_in : All (IsBitIn (columns_of kind)) link.bits
   pub few : length link.bits ≤ 64
 
--- a function by at most 64 bits of a tile of its kind; a cell has 20
+-- a function by at most 64 bits of a tile of its kind; a logic cell has 20
 pub record IsFunctionLine (line : FunctionLine) : Type 0 where
   pub bits_in : All (IsBitIn (columns_of line.kind)) line.bits
   pub few : length line.bits ≤ 64
@@ -51,7 +51,7 @@ pub record IsGlobalPin (chip : Chip) (pin : GlobalPin) : Type 0 where
   pub pad_in : pin.pad ≤ 1
   pub global_in : pin.global ≤ 7
 
--- all lines are such
+-- all lines of a database are such lines
 pub record IsFit (database : Database) : Type 0 where
   pub names : All (IsNameLine database.chip) database.names
   pub buffers : All (IsLink database.chip) database.buffers

@@ -1,4 +1,4 @@
--- What the reader keeps is what the lines so far give. Only contracts within this crate cite this.
+-- What the reader keeps is what the lines so far give. Only contracts within this crate use this.
 use Rattle.std.specs.Prelude.{◌≡◌, ℕ, ◌^◌, ◌<◌, ◌≤◌, Bool, List, ◌++◌, length, drop, map, Some, None, All}
 use Rattle.std.specs.List.{list_any}
 use Rattle.place_search.specs.Places.{gathered_below}
@@ -41,7 +41,7 @@ pub record IsLastLine (reader : Reader) (head : KeptHead) (line : LinkLine) : Ty
   pub small : line.values < 2 ^ head.count
   pub chosen : chosen_src reader.buffers line.values ≡ Some line.src
 
--- the lines of the last statement stand for its choices so far
+-- the kept lines of the last statement are its choices so far
 pub record LastHolds (reader : Reader) (lines : List (List ℕ)) (n : ℕ) (head : KeptHead) : Type 0 where
   pub own : All (IsLastLine reader head) (last_lines reader)
   pub seen : (test : LinkChoice → Bool) → is_chosen_before lines n test ≡ list_any test (map (kept_choice head.count) (last_lines reader))
@@ -68,7 +68,7 @@ pub record Holds (reader : Reader) (lines : List (List ℕ)) (n : ℕ) : Type 0 
   pub few : length reader.texts.arena ≤ n
   pub few_lists : length reader.bits ≤ n
 
--- lines were read, and none of them is faulty, whatever lines follow
+-- these lines were read, and none of them is faulty, whatever lines follow
 pub record HasRead (lines : List (List ℕ)) (reader : Reader) : Type 0 where
   pub holds : (more : List (List ℕ)) → Holds reader (lines ++ more) (length lines)
   pub sound : (more : List (List ℕ)) (k : ℕ) → k < length lines → cause_at (lines ++ more) k ≡ None

@@ -1,4 +1,4 @@
--- The fields of a database, and what its contracts see of them.
+-- The fields of a database, and what contracts know of them.
 use Rattle.chipdb_reader.specs.declared.chip_db.ChipDb.TheInside.{Inside}
 use Rattle.chipdb_reader.specs.Fit.{IsFit}
 use Rattle.chipdb_reader.specs.Kept.{Kept, database_in}
@@ -20,7 +20,7 @@ kept_of db = record {
   global_pins = db.global_pins.items;
 }
 
--- what is kept is in order, and the lists name what the device has
+-- the kept lists are consistent, and their lines name only what the device has
 pub record IsDatabase (db : Inside) : Type 0 where
   pub indexed : AreIndexed db.texts db.nets
   pub sound : IsSound (kept_of db)

@@ -14,7 +14,7 @@ use Rattle.chipdb_reader.specs.declared.items.Extra.{Extra}
 use Rattle.chipdb_reader.specs.Database.{Database, Link}
 use Rattle.chipdb_reader.specs.Texts.{text_at}
 
--- what is kept: names and lists of bits by their places, and the lines of each kind in the order of the text
+-- what is kept: names and lists of bits by their indexes, and the lines of each kind in the order of the text
 pub record Kept : Type 0 where
   pub chip : Chip
   pub texts : List (List ℕ)
@@ -62,7 +62,7 @@ extra_line texts extra = record { name = text_at texts extra.name; at = extra.at
 abbrev pub extra_lines : List (List ℕ) → List Extra → List ExtraLine
 extra_lines texts extras = map (extra_line texts) extras
 
--- what a database that is kept says
+-- what a kept database says
 abbrev pub database_in : Kept → Database
 database_in kept = record {
   chip = kept.chip;

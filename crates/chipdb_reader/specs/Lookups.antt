@@ -22,15 +22,15 @@ net_at x y name lines = option_map (λ line. line.net) (find (is_name_at x y nam
 unfoldable pub names_of_net : ℕ → List NameLine → List NameLine
 names_of_net net lines = filter (λ line. line.net == net) lines
 
--- whether a function is that of a kind and name
+-- whether a function has that kind and name
 abbrev pub is_function : TileKind → List ℕ → FunctionLine → Bool
 is_function kind name line = is_same_kind line.kind kind && bytes_eq name line.name
 
--- the place of the first function of that kind and name
+-- the index of the first function with that kind and name
 unfoldable pub function_place : TileKind → List ℕ → List FunctionLine → Option ℕ
 function_place kind name lines = position (is_function kind name) lines
 
--- the place of the first extra bit of that name
+-- the place of the first extra bit with that name
 unfoldable pub extra_place : List ℕ → List ExtraLine → Option Place
 extra_place name lines = option_map (λ line. line.at) (find (λ line. bytes_eq name line.name) lines)
 
@@ -40,10 +40,10 @@ tile_of input = record { x = input.x; y = input.y }
 abbrev pub pin_of : GlobalPin → PinXy
 pin_of pin = record { x = pin.x; y = pin.y; n = pin.pad }
 
--- the tile of the first line of a global net
+-- the tile of the first line for a global net
 unfoldable pub input_of : ℕ → List GlobalInput → Option TileXy8
 input_of g inputs = option_map tile_of (find (λ input. input.global == g) inputs)
 
--- the pad of the first line of a global net
+-- the pad of the first line for a global net
 unfoldable pub pad_of : ℕ → List GlobalPin → Option PinXy
 pad_of g pins = option_map pin_of (find (λ pin. pin.global == g) pins)

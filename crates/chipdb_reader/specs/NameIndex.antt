@@ -1,4 +1,4 @@
--- The index from a name at a place to its net: cells of a table for the first names, and a map for all others.
+-- The index from the name of a net at a tile to that net: cells of a table for the first names, and a map for all others.
 use Rattle.std.specs.Prelude.{ℕ, ◌+◌, ◌*◌, ◌&&◌, List, get_or, nat_lt, ◌==◌, if◌then◌else◌, Option, Some, None}
 use Rattle.std.specs.declared.cmp.Ordering.{Ordering}
 use Rattle.std.specs.BTreeMap.{get}
@@ -12,18 +12,18 @@ use Rattle.chipdb_reader.specs.contracts.items.NetNameOrd.TheImpl as net_name_or
 abbrev pub name_cmp : NetName → NetName → Ordering
 name_cmp = (net_name_ord.ghosts).cmp
 
--- the cell of a name: those of one name stand together, row by row of the grid, and only the first names have cells
+-- the cell of a name, which only the first names have; the cells of one name are together, row by row of the grid
 abbrev pub cell_of : NetName → Option ℕ
 cell_of name =
     if nat_lt name.x SIDE && (nat_lt name.y SIDE && nat_lt name.name NAMES)
     then Some ((name.name * SIDE + name.y) * SIDE + name.x)
     else None
 
--- the net that a cell holds, where it holds one
+-- the net that a cell holds, if it holds one
 abbrev pub net_held : ℕ → Option ℕ
 net_held net = if net == NO_NET then None else Some net
 
--- the net in a cell; one behind the table's end is empty
+-- the net in a cell; a cell past the end of the table is empty
 abbrev pub held_at : List ℕ → Option ℕ → Option ℕ
 held_at table None = None
 held_at table (Some cell) = net_held (get_or table cell NO_NET)

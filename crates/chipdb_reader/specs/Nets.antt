@@ -1,4 +1,4 @@
--- Nets with their names in the order of the text, and the index from a name at a place to its net.
+-- Nets with their names in the order of the text, and the index from the name of a net at a tile to that net.
 use Rattle.std.specs.Prelude.{◌≡◌, ℕ, ◌+◌, ◌≤◌, Bool, false, ◌&&◌, ◌||◌, List, [], ◌∷◌, ◌++◌, length, take, drop, map, flat_map, nat_eq, is_some, ◌==◌, Option, Some, None, All}
 use Rattle.std.specs.Map.{lookup}
 use Rattle.indexmap.specs.IndexMap.{get as index_get, IsUnique}
@@ -19,7 +19,7 @@ abbrev pub last_names : Option ℕ → List NetName → List (NetName × ℕ)
 last_names None names = []
 last_names (Some net) names = names_with net names
 
--- the names that stand in a span
+-- the names in a span
 abbrev pub names_in : List NetName → Span → List NetName
 names_in names span = take span.count (drop span.start names)
 
@@ -38,7 +38,7 @@ has_net nets net = is_some (index_get nat_eq nets.earlier net) || is_net net net
 abbrev pub is_name : NetName → NetName → Bool
 is_name name other = (other.x == name.x) && ((other.y == name.y) && (other.name == name.name))
 
--- the index has the first net of each name, and the last net isn't among the earlier ones, whose names stand before its own
+-- the index has the first net of each name; the last net isn't among the earlier ones, and their names come before its own
 pub record IsNetIndex (nets : Nets) : Type 0 where
   pub found : (name : NetName) → named_net nets name ≡ lookup (is_name name) (net_names nets)
   pub apart : (net : ℕ) → nets.last ≡ Some net → index_get nat_eq nets.earlier net ≡ None
@@ -47,7 +47,7 @@ pub record IsNetIndex (nets : Nets) : Type 0 where
   pub begins : nets.start ≤ length nets.names.items
   pub unique : IsUnique nat_eq nets.earlier
 
--- the last net is put to the earlier ones
+-- the last net is moved to the earlier ones
 pub record ClosesNet (old new : Nets) : Type 0 where
   pub indexed : IsNetIndex new
   pub last : new.last ≡ None

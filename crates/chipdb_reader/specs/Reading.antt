@@ -1,5 +1,5 @@
--- What the reader keeps between the lines of a database, and what a line makes of it. Only contracts within this crate
--- cite this; what a text means stands in `Database` and `Faults`.
+-- What the reader keeps between the lines of a database, and how a line changes it. Only contracts within this crate use this; `Database`
+-- and `Faults` say what a text means.
 use Rattle.std.specs.Bool.{MatchBool}
 use Rattle.std.specs.Prelude.{◌≡◌, ℕ, ◌<◌, ◌≤◌, true, false, List, [], ◌∷◌, ◌++◌, length, is_some, if◌then◌else◌, Option, Some, None, Result, Ok, Err}
 use Rattle.std.specs.Result.{result_err, MatchResult}
@@ -34,13 +34,13 @@ use Rattle.chipdb_reader.specs.Texts.{IsIndexed, Interns}
 use Rattle.chipdb_reader.specs.Nets.{IsNetIndex, BeginsNet, AddsName, has_net, named_net, net_names}
 use Rattle.chipdb_reader.specs.Buffers.{IsChosen, BeginsBuffers, AddsBuffer, buffer_cause}
 
--- the list of a statement of links is one of these, with as many bits as the statement tells
+-- the list of a statement of links is one of these lists, and has as many bits as the statement says
 pub record IsHeadOf (bits : List (List RowCol)) (head : LinkHead) : Type 0 where
   pub bits_in : head.bits.place < length bits
   pub counted : head.count ≡ length (bits_named bits head.bits)
   pub few : head.count ≤ 64
 
--- what a line has to find in order
+-- what must hold before a line below the statement is read
 abbrev pub IsBelowReady : List (List RowCol) → Option ℕ → Below → Type 0
 IsBelowReady bits last (Names net) = last ≡ Some net
 IsBelowReady bits last (Buffers head) = IsHeadOf bits head
@@ -55,13 +55,13 @@ pub record IsReady (reader : Reader) : Type 0 where
 
 -- ---- lines below statements
 
--- an item is added that a line says
+-- the item that a line says is added
 pub record Pushes {A : Type 0} (said : Result A DbCause) (old new : List A) : Type 0 where
   pub item : A
   pub says : said ≡ Ok item
   pub added : new ≡ old ++ item ∷ []
 
--- the link that a statement and a choice make
+-- the link that a statement and one of its choices make
 abbrev pub link_with : LinkHead → Choice → LinkLine
 link_with head choice = record { x = head.x; y = head.y; dst = head.dst; src = choice.src; bits = head.bits; values = choice.values }
 
@@ -117,7 +117,7 @@ TakesItem old chip (Names net) words new = PushesName chip.device net words old 
 TakesItem old chip (Buffers head) words new = PushesBuffer chip.nets head words old new
 TakesItem old chip (Routings head) words new = PushesRouting chip.nets head words old.routings.items new.routings.items × (new ≡ record old { routings = new.routings })
 
--- a name that its place has already
+-- the tile has that name already
 pub record IsNamedTwice (device : DeviceName) (net : ℕ) (words : List (List ℕ)) (old : Reader) : Type 0 where
   pub x : ℕ
   pub y : ℕ
@@ -128,13 +128,13 @@ pub record IsNamedTwice (device : DeviceName) (net : ℕ) (words : List (List �
   pub interned : Interns old.texts texts text id
   pub named : is_some (named_net old.nets (record { x = x; y = y; name = id })) ≡ true
 
--- values that choose another net already
+-- the values choose another net already
 pub record IsChosenTwice (nets : ℕ) (head : LinkHead) (words : List (List ℕ)) (old : Reader) (cause : DbCause) : Type 0 where
   pub choice : Choice
   pub chosen : Chooses nets head.count words choice
   pub twice : buffer_cause old.buffers (link_with head choice) ≡ Some cause
 
--- a cause that a line has by itself, or by an earlier one
+-- why a name is refused: for the line itself, or because of an earlier one
 pub data NameRefusal (device : DeviceName) (net : ℕ) (words : List (List ℕ)) (old : Reader) (cause : DbCause) : Type 0 where
   name_own : name_of device net words ≡ Err cause → NameRefusal device net words old cause
   name_twice : IsNamedTwice device net words old → cause ≡ NameTwice → NameRefusal device net words old cause
@@ -143,7 +143,7 @@ pub data BufferRefusal (nets : ℕ) (head : LinkHead) (words : List (List ℕ)) 
   buffer_own : choice_of nets head.count words ≡ Err cause → BufferRefusal nets head words old cause
   buffer_twice : IsChosenTwice nets head words old cause → BufferRefusal nets head words old cause
 
--- why the words of a line aren't taken
+-- why the words of a line are refused
 abbrev pub RefusesItem : Reader → Chip → Below → List (List ℕ) → DbCause → Type 0
 RefusesItem old chip Passed words cause = ⊥
 RefusesItem old chip (Device given) words cause = ⊥
@@ -155,12 +155,12 @@ RefusesItem old chip (Names net) words cause = NameRefusal chip.device net words
 RefusesItem old chip (Buffers head) words cause = BufferRefusal chip.nets head words old cause
 RefusesItem old chip (Routings head) words cause = result_err (choice_of chip.nets head.count words) ≡ Some cause
 
--- a cause that is told is one
+-- the reported cause is one of these; out of memory may come in place of any answer
 abbrev pub ForCause : (DbCause → Type 0) → Refusal → Type 0
 ForCause P (Cause cause) = P cause
 ForCause P (Memory e) = Unit {0}
 
--- what the words of a line change, where it has any and the device is known
+-- what the words of a line change, if it has any and the device is known
 abbrev pub TakesWords : Reader → Option Chip → List (List ℕ) → Reader → Type 0
 TakesWords old None words new = new ≡ old
 TakesWords old (Some chip) [] new = new ≡ old
@@ -173,7 +173,7 @@ RefusesWords old (Some chip) (word ∷ words) cause = RefusesItem old chip old.b
 
 -- ---- statements
 
--- what else changes where the lines below a statement begin
+-- what else changes when the lines below a statement begin
 abbrev pub ChangesAt : Reader → Below → Reader → Type 0
 ChangesAt old (Device chip) new = new ≡ record old { chip = or_else old.chip (Some chip); below = Device chip; buffers = new.buffers }
 ChangesAt old (Names net) new = BeginsNet old.nets new.nets net × (new ≡ record old { below = Names net; nets = new.nets; buffers = new.buffers })
@@ -184,7 +184,7 @@ pub record BeginsBlock (old : Reader) (below : Below) (new : Reader) : Type 0 wh
   pub buffers : BeginsBuffers old.buffers new.buffers
   pub changes : ChangesAt old below new
 
--- what is wrong where they begin
+-- what is wrong with beginning the lines below a statement
 abbrev pub begin_cause : Nets → Below → Option DbCause
 begin_cause nets (Names net) = if has_net nets net then Some NetTwice else None
 begin_cause nets below = None
@@ -198,7 +198,7 @@ pub record TakesStatement (old : Reader) (line : List ℕ) (new : Reader) : Type
   pub fits : begin_cause old.nets below ≡ None
   pub begun : BeginsBlock (record old { bits = bits }) below new
 
--- a net that was begun before
+-- the net was begun before
 pub record IsBegunTwice (old : Reader) (line : List ℕ) (cause : DbCause) : Type 0 where
   pub bits : List (List RowCol)
   pub below : Below
@@ -215,7 +215,7 @@ pub data StatementRefusal (old : Reader) (line : List ℕ) (cause : DbCause) : T
 abbrev pub TakesLine : Reader → List ℕ → Reader → Type 0
 TakesLine old line new = MatchBool (is_statement line) (TakesStatement old line new) (TakesWords old old.chip (own_words line) new)
 
--- why a line isn't taken
+-- why a line is refused
 abbrev pub RefusesLine : Reader → List ℕ → DbCause → Type 0
 RefusesLine old line cause = MatchBool (is_statement line) (StatementRefusal old line cause) (RefusesWords old old.chip (own_words line) cause)
 
@@ -226,7 +226,7 @@ pub record TakesFirst (old : Reader) (text rest : List ℕ) (new : Reader) : Typ
   pub shorter : length rest < length text
   pub taken : TakesLine old line new
 
--- why it isn't taken
+-- why it is refused
 pub record RefusesFirst (old : Reader) (text : List ℕ) (cause : DbCause) : Type 0 where
   pub line : List ℕ
   pub rest : List ℕ
@@ -251,7 +251,7 @@ pub record IsUnread (reader : Reader) : Type 0 where
 
 -- ---- the end
 
--- a database has what was read
+-- the database has exactly what was read
 pub record FitsReader (chip : Chip) (reader : Reader) (kept : Kept) : Type 0 where
   pub chip_is : kept.chip ≡ chip
   pub texts : kept.texts ≡ reader.texts.arena
@@ -268,12 +268,12 @@ abbrev pub IsOutOfMemory : DbFault → Type 0
 IsOutOfMemory (OutOfMemory e) = Unit {0}
 IsOutOfMemory (At line cause) = ⊥
 
--- a refusal as the fault of a line
+-- the fault that a refusal of a line makes
 abbrev pub located : Refusal → ℕ → DbFault
 located (Cause cause) line = At line cause
 located (Memory e) line = OutOfMemory e
 
--- a fault of a line has a cause that is one
+-- the fault of a line has one of these causes
 abbrev pub FaultOf : ℕ → (DbCause → Type 0) → DbFault → Type 0
 FaultOf number P (At line cause) = (line ≡ number) × P cause
 FaultOf number P (OutOfMemory e) = Unit {0}

@@ -1,4 +1,4 @@
--- What is kept is in order: names and lists of bits are some of what is kept, and indexes are those of the lists.
+-- The kept lists are consistent: names and lists of bits are among those that are kept, and the indexes are those of the lists.
 use Rattle.std.specs.Prelude.{◌≡◌, ◌<◌, ◌^◌, List, length, All, None}
 use Rattle.plane_map.specs.declared.tile.RowCol.{RowCol}
 use Rattle.chipdb_lines.specs.Kept.{bits_named}
@@ -14,7 +14,7 @@ pub record IsLinkIn (bits : List (List RowCol)) (line : LinkLine) : Type 0 where
   pub bits_in : line.bits.place < length bits
   pub values_few : line.values < 2 ^ length (bits_named bits line.bits)
 
--- each name is one of the names that are kept, and each list of bits one of the lists that are kept
+-- each name is one of the kept names, and each list of bits one of the kept lists
 pub record IsSound (kept : Kept) : Type 0 where
   pub names : All (λ p. p.0.name < length kept.texts) kept.names
   pub functions : All (λ f. f.name < length kept.texts) kept.functions
@@ -23,7 +23,7 @@ pub record IsSound (kept : Kept) : Type 0 where
   pub buffers : All (IsLinkIn kept.bits) kept.buffers
   pub routings : All (IsLinkIn kept.bits) kept.routings
 
--- the indexes are those of the lists, and all nets are earlier ones
+-- the indexes are those of the lists, and all nets have been moved to the earlier ones
 pub record AreIndexed (texts : Texts) (nets : Nets) : Type 0 where
   pub texts_indexed : IsIndexed texts
   pub nets_indexed : IsNetIndex nets

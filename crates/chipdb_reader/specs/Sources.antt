@@ -1,4 +1,4 @@
--- Why a database isn't read from a source or a file.
+-- Why a database couldn't be read from a source or a file.
 use Rattle.std.specs.Prelude.{◌≡◌, Option, Some, Result, Ok, Err}
 use Rattle.ice_io.specs.declared.source.TakeFault.{TakeFault}
 use Rattle.ice_io.specs.declared.source.TakeFault.TheVariants.{Failed as ReadFails, TooLong as TooMany, Memory as NoRoom}
@@ -16,18 +16,18 @@ ForDb P TooLong = Unit {0}
 ForDb P (Db fault) = P fault
 ForDb P (OutOfMemory e) = Unit {0}
 
--- a fault of the text is that one, and no want of memory
+-- a fault of the text is that one, and never out of memory
 abbrev pub TellsFault : Option Fault → DbFault → Type 0
 TellsFault fault (At line cause) = fault ≡ Some (record { line = line; cause = cause })
 TellsFault fault (Memory e) = ⊥
 
--- why bytes weren't all taken
+-- why the bytes weren't all taken
 abbrev pub untaken : TakeFault → SourceDbFault
 untaken ReadFails = Failed
 untaken TooMany = TooLong
 untaken (NoRoom e) = OutOfMemory e
 
--- what is answered where they were
+-- the answer after all bytes were taken
 abbrev pub answer_of : Result Kept DbFault → Result Kept SourceDbFault
 answer_of (Ok db) = Ok db
 answer_of (Err (At line cause)) = Err (Db (At line cause))

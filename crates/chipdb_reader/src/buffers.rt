@@ -11,30 +11,30 @@ use chipdb_lines::{DbCause, Refusal};
 use std::alloc::{AllocError, Global};
 use std::collections::BTreeMap;
 
-/// How many lines of a statement are looked through; where it has more, they are looked up in an index, for speed alone.
+/// How many lines of a statement are searched one by one. If it has more, they are looked up in an index, which is only there for speed.
 const FEW: usize = 16;
 
 /// How many marks there are.
 const MARKS: usize = 64;
 
-/// Lines of `.buffer` statements, and the choices of the statement that came last.
+/// The lines of `.buffer` statements, and an index of the lines of the last statement.
 #[derive(Drop)]
 pub(crate) struct Buffers {
     pub(crate) lines: Vec<LinkLine>,
-    /// Where the lines of the last statement begin.
+    /// Where the lines of the last statement begin in `lines`.
     start: usize,
-    /// By the remainders of values: those of the last statement's lines are marked. They are there for speed alone.
+    /// A small filter, only there for speed: the mark at `values % MARKS` is set for each line of the last statement.
     marks: [bool; MARKS],
-    /// Whether they are in the index.
+    /// Whether the lines of the last statement are in the index.
     is_indexed: bool,
-    /// The index: the net that each of their values choose. It is empty where they aren't in it.
+    /// The index: the source net that each of their values choose. Empty if they aren't in it.
     chosen: BTreeMap<u64, u32>,
 }
 
 impl Buffers {
     ghost use Rattle.chipdb_reader.specs.Buffers.{AddsBuffer, BeginsBuffers, buffer_cause, chosen_src, Indexes, IsChosen};
 
-    /// No lines. It takes no memory yet.
+    /// A list without lines. It takes no memory yet.
     pub(crate) fn new(alloc: Global) -> Buffers
         ensures empty { result.lines.items ≡ [] }
         ensures chosen { IsChosen result }
@@ -55,7 +55,7 @@ impl Buffers {
         self.lines
     }
 
-    /// Another statement begins.
+    /// Begins the lines of the next statement.
     pub(crate) fn begin(&mut self)
         ensures { BeginsBuffers self.old self.new }
     {
@@ -65,8 +65,8 @@ impl Buffers {
         self.chosen.clear();
     }
 
-    /// Adds a line of the last statement. One that is equal to an earlier one is passed over; none has the values of
-    /// another.
+    /// Adds a line of the last statement. A line equal to an earlier one of that statement is skipped. A line with the values of an earlier
+    /// one but another net is refused.
     pub(crate) fn add(&mut self, line: LinkLine) -> Result<(), Refusal>
         requires { IsChosen self.old }
         ensures added { IfOk result (λ _. AddsBuffer self.old self.new line) }
@@ -80,7 +80,7 @@ impl Buffers {
         }
     }
 
-    /// The net that values choose in the last statement so far.
+    /// The net that these values choose in the last statement so far.
     fn chosen_src(&self, values: u64) -> Option<u32>
         requires { IsChosen self.now }
         ensures { result ≡ chosen_src self.now values }
@@ -94,7 +94,7 @@ impl Buffers {
         }
     }
 
-    /// Adds a line whose values no other has.
+    /// Adds a line whose values no other line has.
     fn add_new(&mut self, line: LinkLine) -> Result<(), Refusal>
         requires indexed { IsChosen self.old }
         requires absent { chosen_src self.old line.values ≡ None }
@@ -111,7 +111,7 @@ impl Buffers {
         }
     }
 
-    /// Adds a line whose values no other has, where the lines aren't in the index.
+    /// Adds a line whose values no other line has, while the lines aren't in the index.
     fn add_few(&mut self, line: LinkLine) -> Result<(), Refusal>
         requires indexed { IsChosen self.old }
         requires few { self.old.is_indexed ≡ false }
@@ -124,7 +124,7 @@ impl Buffers {
         Ok(())
     }
 
-    /// Adds a line whose values no other has, where the lines are in the index.
+    /// Adds a line whose values no other line has, when the lines are in the index.
     fn add_indexed(&mut self, line: LinkLine) -> Result<(), Refusal>
         requires indexed { IsChosen self.old }
         requires many { self.old.is_indexed ≡ true }
@@ -152,7 +152,7 @@ impl Buffers {
     }
 }
 
-/// The place of the mark for values.
+/// The index of the mark for values.
 fn mark_of(values: u64) -> usize
     ensures is { result ≡ values % MARKS }
     ensures inside { result < MARKS }
@@ -178,7 +178,7 @@ fn first_src(lines: &[LinkLine], values: u64) -> Option<u32>
     }
 }
 
-/// Puts lines into an index that has none. There are few of them.
+/// Puts a few lines into an index that has none of them.
 fn index_lines(chosen: &mut BTreeMap<u64, u32>, lines: &[LinkLine]) -> Result<(), AllocError>
     requires { (q : ℕ) → get nat_cmp chosen.old q ≡ None }
     ensures { OnOk result ((q : ℕ) → get nat_cmp chosen.new q ≡ lookup (nat_eq q) (choices_of lines.now)) }
@@ -192,7 +192,7 @@ fn index_lines(chosen: &mut BTreeMap<u64, u32>, lines: &[LinkLine]) -> Result<()
     }
 }
 
-/// Gives values their net, whether or not they have one.
+/// Sets the net that values choose, whether or not they have one already.
 fn put(chosen: &mut BTreeMap<u64, u32>, values: u64, src: u32) -> Result<(), AllocError>
     ensures { OnOk result ((q : ℕ) → get nat_cmp chosen.new q ≡ cond (is_at (nat_cmp values) q) (Some src) (get nat_cmp chosen.old q)) }
 {

@@ -9,8 +9,8 @@ use crate::texts::Texts;
 use chipdb_lines::{BitTable, Chip, GlobalInput, GlobalPin};
 use std::marker::Model;
 
-/// A database: a device, the names of its nets, their links, the functions of its tiles, and its extra bits. Contracts see
-/// the lists that are kept, and what they say is a function of these.
+/// A chip database: a device, the names of its nets, the links between them, the functions of its tiles, and its extra bits. In contracts,
+/// the lists that are kept; what the database says is a function of these.
 #[derive(Drop)]
 pub struct ChipDb {
     pub(crate) chip: Chip,
@@ -43,7 +43,7 @@ impl ChipDb {
     ghost use Rattle.chipdb_reader.specs.Reading.{FitsReader, IsReady, IsOutOfMemory};
     ghost use Rattle.chipdb_reader.specs.Sound.{IsSound};
 
-    /// What the lines of a text have given.
+    /// The database that the lines of a text give.
     pub(crate) fn of(chip: Chip, reader: Reader) -> Result<ChipDb, DbFault>
         requires ready { IsReady reader }
         requires sound { (kept : Kept) → FitsReader chip reader kept → IsSound kept }

@@ -1,4 +1,4 @@
-// Why a database isn't read.
+// Why a database is refused.
 ghost use Rattle.std.specs.Prelude.{◌≡◌};
 ghost use Rattle.chipdb_reader.specs.declared.fault.DbFault.TheVariants.{Memory};
 
@@ -6,11 +6,11 @@ use chipdb_lines::DbCause;
 use std::alloc::AllocError;
 use thiserror::Error;
 
-/// Why a database isn't read.
+/// Why a database is refused.
 #[derive(Clone, Copy, Debug, PartialEq, Eq, Error)]
 pub enum DbFault {
-    /// The first faulty line, counted from 1, and the first of its causes. Where the text ends without a device the line is
-    /// the number of lines plus 1.
+    /// The first faulty line, counted from 1, and the first of its causes. If the text ends without a `.device`, the line is the number of
+    /// lines plus 1.
     #[error("line {line}: {cause}")]
     At { line: u64, cause: DbCause },
     /// Out of memory. It may come in place of any other answer.

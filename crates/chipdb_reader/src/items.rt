@@ -1,4 +1,4 @@
-// What a database gives of its lines.
+// What lines of a database give.
 use chipdb_lines::BitList;
 use name_arena::NameId;
 use plane_map::{Place, TileKind};
@@ -11,10 +11,10 @@ pub struct NetName {
     pub name: NameId,
 }
 
-/// A link from the net `src` to the net `dst` in the tile at (x, y). It is on where each of the bits has its value.
+/// A link from the net `src` to the net `dst` in the tile at (x, y). It is on if each of its bits has its value.
 #[derive(Clone, Copy, Debug, PartialEq, Eq)]
 pub struct LinkLine {
-    /// The values of the bits: that of the first one is the lowest bit.
+    /// The values of the bits; the value of the first bit is the lowest bit of the number.
     pub values: u64,
     pub dst: u32,
     pub src: u32,
@@ -23,7 +23,7 @@ pub struct LinkLine {
     pub y: u8,
 }
 
-/// A function of the tiles of a kind, and the bits that it has in each.
+/// A function of the tiles of a kind, and its bits in each of them.
 #[derive(Clone, Copy, Debug, PartialEq, Eq)]
 pub struct Function {
     pub kind: TileKind,
@@ -38,7 +38,7 @@ pub struct Extra {
     pub at: Place,
 }
 
-/// A tile by its place in the grid.
+/// A tile, by its place in the grid.
 #[derive(Clone, Copy, Debug, PartialEq, Eq)]
 pub struct TileXy8 {
     pub x: u8,

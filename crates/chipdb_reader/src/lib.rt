@@ -1,7 +1,7 @@
-//! Chip databases: the text that tells of a device which bits its functions have, and how its nets are linked.
+//! Chip databases: texts that say which bits the functions of a device have, and how its nets are linked.
 //!
-//! The text has lines; a line that begins with a dot is a statement, and the lines that follow belong to it. [`read`] makes
-//! a [`ChipDb`] of it or tells its first faulty line; [`DbReader`] takes it in pieces. The look-ups of a `ChipDb` take no memory.
+//! The text has lines. A line that begins with a dot is a statement, and the lines after it belong to it. [`read`] makes a [`ChipDb`] of
+//! the text, or returns its first faulty line; [`DbReader`] takes the text in pieces. The look-ups of a `ChipDb` take no memory.
 #![tactic(auto)]
 
 mod buffers;

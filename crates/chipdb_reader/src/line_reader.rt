@@ -1,4 +1,4 @@
-// The lines of a database, one after another.
+// The lines of a database, one after the other.
 ghost use Rattle.std.specs.Prelude.{◌≡◌, ◌+◌, ◌-◌, ◌^◌, ◌<◌, ◌≤◌, [], ℕ, List, length, IfOk, IfErr, OnOk};
 ghost use Rattle.text_lines.specs.Lines.{lines_of};
 ghost use Rattle.chipdb_reader.specs.Faults.{DbMeans, Tells, db_fault_of};
@@ -11,7 +11,7 @@ use chipdb_lines::{DbCause, Refusal};
 use std::alloc::{AllocError, Global};
 use text_lines::{LineTaker, first_line};
 
-/// What the lines so far have given, and how many they are.
+/// What the lines so far have given, and how many lines there were.
 #[derive(Drop)]
 pub(crate) struct LineReader {
     reader: Reader,
@@ -21,7 +21,7 @@ pub(crate) struct LineReader {
 impl LineReader {
     ghost use Rattle.chipdb_reader.specs.Feeding.{HasTaken, IsGoing};
 
-    /// No line was read. It takes no memory yet.
+    /// A reader that has read no line. It takes no memory yet.
     pub(crate) fn new(alloc: Global) -> LineReader
         ensures taken { HasTaken [] result }
         ensures none { result.count ≡ 0 }
@@ -30,7 +30,7 @@ impl LineReader {
         LineReader { reader, count: 0 }
     }
 
-    /// Takes the first line of a text, and gives what stands behind it.
+    /// Takes the first line of a text, and returns what follows it.
     fn take_first<'a>(&mut self, text: &'a [u8]) -> Result<&'a [u8], DbFault>
         requires ready { IsReady self.old.reader }
         requires texts { length self.old.reader.texts.arena ≤ self.old.count }
@@ -50,7 +50,7 @@ impl LineReader {
         }
     }
 
-    /// What a database says whose lines were all taken, or its first faulty line.
+    /// The database, after all lines were taken.
     pub(crate) fn finish(self) -> Result<ChipDb, DbFault>
         requires going { IsGoing self }
         requires room { self.count < 2 ^ 32 }
@@ -94,7 +94,7 @@ impl LineTaker for LineReader {
 
 ghost use Rattle.chipdb_reader.specs.Reading.{EndsReading, FaultOf, IsReady, RefusesFirst, RefusesLine, TakesFirst, TakesLine, located};
 
-/// Takes the first line of a text, which has that number, and gives what stands behind it.
+/// Takes the first line of a text, which is line `number` of the database, and returns what follows it.
 fn take_first<'a>(reader: &mut Reader, number: u64, text: &'a [u8]) -> Result<&'a [u8], DbFault>
     requires ready { IsReady reader.old }
     requires room { length reader.old.texts.arena < 2 ^ 32 - 1 }
@@ -110,7 +110,7 @@ fn take_first<'a>(reader: &mut Reader, number: u64, text: &'a [u8]) -> Result<&'
     }
 }
 
-/// The same, whatever form the line has.
+/// Takes the first line of a text, whatever form the line has; the slow path of `take_first`.
 fn take_any<'a>(reader: &mut Reader, number: u64, text: &'a [u8]) -> Result<&'a [u8], DbFault>
     requires ready { IsReady reader.old }
     requires room { length reader.old.texts.arena < 2 ^ 32 - 1 }
@@ -128,7 +128,7 @@ fn take_any<'a>(reader: &mut Reader, number: u64, text: &'a [u8]) -> Result<&'a 
     }
 }
 
-/// Takes the next line, which has that number.
+/// Takes the next line, which is line `number` of the database.
 fn take_line(reader: &mut Reader, number: u64, line: &[u8]) -> Result<(), DbFault>
     requires ready { IsReady reader.old }
     requires room { length reader.old.texts.arena < 2 ^ 32 - 1 }
@@ -142,7 +142,7 @@ fn take_line(reader: &mut Reader, number: u64, line: &[u8]) -> Result<(), DbFaul
     }
 }
 
-/// A refusal as the fault of a line.
+/// The fault that a refusal of that line makes.
 fn fault_at(line: u64, refusal: Refusal) -> DbFault
     ensures { result ≡ located refusal line }
 {
@@ -159,7 +159,7 @@ ghost use Rattle.chipdb_reader.specs.Kept.{Kept};
 ghost use Rattle.chipdb_reader.specs.Reading.{FitsReader};
 ghost use Rattle.chipdb_reader.specs.Sound.{IsSound};
 
-/// What the lines have given, all of them being read; the line behind the last has that number.
+/// The database, after all lines were read. `number` is the number of the line after the last.
 fn finish(reader: Reader, number: u64) -> Result<ChipDb, DbFault>
     requires ready { IsReady reader }
     requires sound { (chip : Chip) (kept : Kept) → reader.chip ≡ Some chip → FitsReader chip reader kept → IsSound kept }

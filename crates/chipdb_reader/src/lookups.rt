@@ -26,14 +26,14 @@ impl ChipDb {
         self.chip.device
     }
 
-    /// How many nets there are.
+    /// How many nets the device has.
     pub fn net_count(&self) -> u32
         ensures { result ≡ self.now.chip.nets }
     {
         self.chip.nets
     }
 
-    /// The net that has a name in the tile at (x, y).
+    /// The net with that name in the tile at (x, y), or `None` if no net has it there.
     pub fn net_of(&self, x: u8, y: u8, name: &[u8]) -> Option<u32>
         ensures { result ≡ net_at x y name.now (database_in self.now).names }
     {
@@ -43,14 +43,14 @@ impl ChipDb {
         }
     }
 
-    /// The names of a net, in the order of the text.
+    /// The names of a net, in the order of the text. Empty if the text names no such net.
     pub fn names_of(&self, net: u32) -> &[NetName]
         ensures { name_lines self.now.texts (names_with net result.now) ≡ names_of_net net (database_in self.now).names }
     {
         self.nets.names_of(net)
     }
 
-    /// The bytes of a name of this database.
+    /// The bytes of a name of this database. Empty if the name is one of another database and has no place in this one.
     pub fn text(&self, name: NameId) -> &[u8]
         ensures { result.now ≡ text_at self.now.texts name }
     {
@@ -75,7 +75,7 @@ impl ChipDb {
         &self.routings
     }
 
-    /// The bits of a list of this database.
+    /// The bits of a list of this database. Empty if the list is one of another database and has no place in this one.
     pub fn bits(&self, list: BitList) -> &[RowCol]
         ensures bits { result.now ≡ bits_named self.now.bits list }
         ensures few { length result.now ≤ 64 }
@@ -92,7 +92,7 @@ impl ChipDb {
         &self.functions
     }
 
-    /// The place of the first function of a kind and name.
+    /// The index in `functions` of the first function with that kind and name, or `None` if there is none.
     pub fn function(&self, kind: TileKind, name: &[u8]) -> Option<usize>
         ensures { result ≡ function_place kind name.now (database_in self.now).functions }
     {
@@ -111,7 +111,7 @@ impl ChipDb {
         &self.extras
     }
 
-    /// The place of the first extra bit of a name.
+    /// The place of the first extra bit with that name, or `None` if there is none.
     pub fn extra(&self, name: &[u8]) -> Option<Place>
         ensures { result ≡ extra_place name.now (database_in self.now).extras }
     {
@@ -121,14 +121,14 @@ impl ChipDb {
         }
     }
 
-    /// The tile of the first `.gbufin` line of a global net.
+    /// The tile of the first `.gbufin` line of a global net, or `None` if there is no such line.
     pub fn gbufin(&self, g: u8) -> Option<TileXy8>
         ensures { result ≡ input_of g self.now.global_inputs }
     {
         first_input(&self.global_inputs, g)
     }
 
-    /// The pad of the first `.gbufpin` line of a global net.
+    /// The pad of the first `.gbufpin` line of a global net, or `None` if there is no such line.
     pub fn gbufpin(&self, g: u8) -> Option<PinXy>
         ensures { result ≡ pad_of g self.now.global_pins }
     {
@@ -136,7 +136,7 @@ impl ChipDb {
     }
 }
 
-/// The place of the first function of a kind and name.
+/// The index of the first function with that kind and name.
 fn first_function(functions: &[Function], kind: TileKind, name: NameId) -> Option<usize>
     ensures { result ≡ position (λ function. is_same_kind function.kind kind && (function.name == name)) functions.now }
 {
@@ -145,7 +145,7 @@ fn first_function(functions: &[Function], kind: TileKind, name: NameId) -> Optio
         .position(|function| function.kind == kind && function.name == name)
 }
 
-/// The place of the first extra bit of a name.
+/// The place of the first extra bit with that name.
 fn first_extra(extras: &[Extra], name: NameId) -> Option<Place>
     ensures { result ≡ option_map (λ extra. extra.at) (find (λ extra. extra.name == name) extras.now) }
 {
@@ -155,7 +155,7 @@ fn first_extra(extras: &[Extra], name: NameId) -> Option<Place>
     }
 }
 
-/// The tile of the first line of a global net.
+/// The tile of the first line for a global net.
 #[tactic(auto, unfolding(crate::specs::Lookups::input_of))]
 fn first_input(inputs: &[GlobalInput], g: u8) -> Option<TileXy8>
     ensures { result ≡ input_of g inputs.now }
@@ -169,7 +169,7 @@ fn first_input(inputs: &[GlobalInput], g: u8) -> Option<TileXy8>
     }
 }
 
-/// The pad of the first line of a global net.
+/// The pad of the first line for a global net.
 #[tactic(auto, unfolding(crate::specs::Lookups::pad_of))]
 fn first_pin(pins: &[GlobalPin], g: u8) -> Option<PinXy>
     ensures { result ≡ pad_of g pins.now }

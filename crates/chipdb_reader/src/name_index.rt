@@ -1,4 +1,4 @@
-// The index from a name at a place to its net.
+// The index from the name of a net at a tile to that net.
 ghost use Rattle.std.specs.Prelude.{◌≡◌, ◌≢◌, ◌+◌, ◌<◌, ℕ, None, Some, cond, get_or, max, vec_len, IfSome, OnErr, OnOk};
 ghost use Rattle.std.specs.BTreeMap.{get, is_at};
 ghost use Rattle.chipdb_reader.specs.NameIndex.{cell_of, held_at, name_cmp, net_held, net_in};
@@ -7,7 +7,7 @@ use crate::items::NetName;
 use std::alloc::{AllocError, Global};
 use std::collections::BTreeMap;
 
-/// The width and the height of the grid for which the table has cells. No device's is greater.
+/// The width and the height of the grid that the table has cells for. The largest device, iCE40 HX8K, has this grid.
 const SIDE: usize = 34;
 
 /// How many names have cells in the table.
@@ -16,21 +16,20 @@ const NAMES: usize = 4096;
 /// How many cells the table has at most.
 const CELLS: usize = NAMES * SIDE * SIDE;
 
-/// What stands in a cell whose name no net has.
+/// The value of a cell whose name no net has.
 const NO_NET: u32 = u32::MAX;
 
-/// The net of each name at a place: of the first names in a table, of all others in a map. The table is there for speed
-/// alone.
+/// The net of each name at a tile. The first names are in a table, all others in a map. The table is only there for speed.
 #[derive(Drop)]
 pub(crate) struct NameIndex {
-    /// The nets that have the first name, tile by tile, then those that have the second one, and so on.
+    /// The nets that have the first name, tile by tile, then the nets that have the second name, and so on.
     table: Vec<u32>,
-    /// The nets of names that have no cell in the table.
+    /// The nets of all names that have no cell in the table.
     others: BTreeMap<NetName, u32>,
 }
 
 impl NameIndex {
-    /// No names. It takes no memory yet.
+    /// An index without names. It takes no memory yet.
     pub(crate) fn new(alloc: Global) -> NameIndex
         ensures { (name : NetName) → net_in result name ≡ None }
     {
@@ -40,7 +39,7 @@ impl NameIndex {
         }
     }
 
-    /// The net of a name.
+    /// The net of a name, if there is one.
     pub(crate) fn get(&self, name: &NetName) -> Option<u32>
         ensures { result ≡ net_in self.now name.now }
     {
@@ -50,7 +49,7 @@ impl NameIndex {
         }
     }
 
-    /// Gives a name its net, where it has none.
+    /// Sets the net of a name, if the name has none yet.
     pub(crate) fn put(&mut self, name: &NetName, net: u32) -> Result<(), AllocError>
         requires { net_in self.old name.now ≡ None }
         ensures { OnOk result ((q : NetName) → net_in self.new q ≡ cond (is_at (name_cmp name.now) q) (Some net) (net_in self.old q)) }
@@ -62,7 +61,7 @@ impl NameIndex {
     }
 }
 
-/// The place of a name's cell in the table, where it has one.
+/// The index of a name's cell in the table, if it has one.
 fn cell_of(name: &NetName) -> Option<usize>
     ensures cell { result ≡ cell_of name.now }
     ensures small { IfSome result (λ cell. cell < CELLS) }
@@ -75,7 +74,7 @@ fn cell_of(name: &NetName) -> Option<usize>
     }
 }
 
-/// The net in a cell.
+/// The net in a cell. A cell past the end of the table is empty.
 fn held_at(table: &[u32], cell: Option<usize>) -> Option<u32>
     ensures { result ≡ held_at table.now cell }
 {
@@ -88,14 +87,14 @@ fn held_at(table: &[u32], cell: Option<usize>) -> Option<u32>
     }
 }
 
-/// The net that a cell holds, where it holds one.
+/// The net that a cell holds, if it holds one.
 fn net_held(net: u32) -> Option<u32>
     ensures { result ≡ net_held net }
 {
     if net == NO_NET { None } else { Some(net) }
 }
 
-/// Puts a net into a cell. The table becomes no longer than it has to be; after a refusal it is as it was.
+/// Puts a net into a cell. The table grows no longer than it has to; after an error it is as it was.
 fn put_cell(table: &mut Vec<u32>, cell: usize, net: u32) -> Result<(), AllocError>
     requires { cell < CELLS }
     ensures here { OnOk result (get_or table.new.items cell NO_NET ≡ net) }
@@ -108,7 +107,7 @@ fn put_cell(table: &mut Vec<u32>, cell: usize, net: u32) -> Result<(), AllocErro
     Ok(())
 }
 
-/// Makes the table long enough to have a cell, and no longer.
+/// Makes the table just long enough to have a cell.
 fn grow(table: &mut Vec<u32>, cell: usize) -> Result<(), AllocError>
     requires { cell < CELLS }
     ensures length { OnOk result (vec_len table.new ≡ max (vec_len table.old) (cell + 1)) }
@@ -122,7 +121,7 @@ fn grow(table: &mut Vec<u32>, cell: usize) -> Result<(), AllocError>
     }
 }
 
-/// Gives a name its net in the map.
+/// Sets the net of a name in the map.
 fn put_other(
     others: &mut BTreeMap<NetName, u32>,
     name: &NetName,

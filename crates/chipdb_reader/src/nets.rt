@@ -8,32 +8,32 @@ use chipdb_lines::{DbCause, Refusal};
 use indexmap::IndexMap;
 use std::alloc::{AllocError, Global};
 
-/// Where the names of a net stand among those of all nets.
+/// Where the names of a net are in the list of all names.
 #[derive(Clone, Copy)]
 struct Span {
     start: u32,
     count: u32,
 }
 
-/// Nets with their names, and an index from a place and a name to the net.
+/// Nets with their names, and an index from a tile and a name to the net.
 #[derive(Drop)]
 pub(crate) struct Nets {
     /// The names of all nets, in the order of the text.
     names: Vec<NetName>,
-    /// The nets that were begun before the last, in the order of the text, and where the names of each stand.
+    /// The nets that were begun before the last, in the order of the text, and where the names of each are.
     earlier: IndexMap<u32, Span>,
     /// The net that was begun last.
     last: Option<u32>,
     /// Where the names of that net begin.
     start: usize,
-    /// The net of each name.
+    /// The index from a name to its net.
     index: NameIndex,
 }
 
 impl Nets {
     ghost use Rattle.chipdb_reader.specs.Nets.{AddsName, BeginsNet, ClosesNet, IsNetIndex, earlier_names, has_net, named_net, net_names};
 
-    /// No nets. It takes no memory yet.
+    /// No nets yet. It takes no memory.
     pub(crate) fn new(alloc: Global) -> Nets
         ensures indexed { IsNetIndex result }
         ensures none { result.last ≡ None }
@@ -49,7 +49,7 @@ impl Nets {
         }
     }
 
-    /// Begins the names of a net, which wasn't begun before.
+    /// Begins the names of a net, unless that net was begun before.
     pub(crate) fn begin(&mut self, net: u32) -> Result<(), Refusal>
         requires { IsNetIndex self.old }
         ensures begun { IfOk result (λ _. BeginsNet self.old self.new net) }
@@ -64,7 +64,7 @@ impl Nets {
         Ok(())
     }
 
-    /// Puts the net that was begun last to the earlier ones.
+    /// Moves the net that was begun last to the earlier ones.
     pub(crate) fn close(&mut self) -> Result<(), AllocError>
         requires { IsNetIndex self.old }
         ensures { IfOk result (λ _. ClosesNet self.old self.new) }
@@ -75,7 +75,7 @@ impl Nets {
         }
     }
 
-    /// Puts a net that was begun last to the earlier ones.
+    /// Moves a net that was begun last to the earlier ones.
     fn put_earlier(&mut self, net: u32) -> Result<(), AllocError>
         requires indexed { IsNetIndex self.old }
         requires last { self.old.last ≡ Some net }
@@ -89,7 +89,7 @@ impl Nets {
         Ok(())
     }
 
-    /// Adds a name to the net that was begun last, where the place hasn't that name yet.
+    /// Adds a name to the net that was begun last, unless the tile has that name already.
     pub(crate) fn add(&mut self, net: u32, name: NetName) -> Result<(), Refusal>
         requires indexed { IsNetIndex self.old }
         requires last { self.old.last ≡ Some net }
@@ -104,14 +104,14 @@ impl Nets {
         Ok(())
     }
 
-    /// The net of a name.
+    /// The net of a name at a tile, if there is one.
     pub(crate) fn net_of(&self, name: NetName) -> Option<u32>
         ensures { result ≡ named_net self.now name }
     {
         self.index.get(&name)
     }
 
-    /// The names of a net that isn't the last.
+    /// The names of an earlier net, that is one other than the last.
     pub(crate) fn names_of(&self, net: u32) -> &[NetName]
         ensures { result.now ≡ earlier_names self.now net }
     {
@@ -124,7 +124,7 @@ impl Nets {
 
 ghost use Rattle.chipdb_reader.specs.Nets.{names_in};
 
-/// Names from one place up to another. There is no memory for so many names that a place takes more than four bytes.
+/// The span from one index to another. Memory never holds so many names that an index needs more than four bytes.
 fn span_between(start: usize, end: usize) -> Result<Span, AllocError>
     requires { start ≤ end }
     ensures { IfOk result (λ span. (span.start ≡ start) × (span.start + span.count ≡ end)) }
@@ -139,7 +139,7 @@ fn span_between(start: usize, end: usize) -> Result<Span, AllocError>
     }
 }
 
-/// The names of a net, as far as they are there.
+/// The names of a net, as far as the list has them.
 fn names_in(names: &[NetName], span: Span) -> &[NetName]
     ensures { result.now ≡ names_in names.now span }
 {

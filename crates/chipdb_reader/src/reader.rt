@@ -1,4 +1,4 @@
-// A database read from bytes, whole or in pieces.
+// Reads a database from bytes, whole or in pieces.
 ghost use Rattle.std.specs.Prelude.{◌≡◌, ◌≤◌, length, IfOk, IfErr};
 ghost use Rattle.chipdb_reader.specs.Faults.{DbMeans, Tells, db_fault_of};
 ghost use Rattle.chipdb_reader.specs.Kept.{database_in};
@@ -10,7 +10,19 @@ use std::alloc::{AllocError, Global};
 use std::marker::Model;
 use text_lines::{LineFeed, LineTaker};
 
-/// What a database says, or its first faulty line. A text has at most 268,435,456 bytes.
+/// Reads a chip database. The text must have at most 268,435,456 bytes.
+///
+/// # Errors
+/// `At` with the first faulty line and the first of its causes. `Memory` if memory is out; it may come in place of any other answer.
+///
+/// # Example
+/// ```ignore
+/// use chipdb_reader::read;
+///
+/// let db = read(alloc, b".device 1k 14 18 2\n.net 1\n1 1 lutff_0/out\n")?;
+/// let device = db.device(); // DeviceName::K1
+/// let net = db.net_of(1, 1, b"lutff_0/out"); // Some(1)
+/// ```
 pub fn read(alloc: Global, bytes: &[u8]) -> Result<ChipDb, DbFault>
     requires { length bytes.now ≤ 268435456 }
     ensures means { IfOk result (λ db. DbMeans bytes.now (database_in db)) }
@@ -23,13 +35,12 @@ pub fn read(alloc: Global, bytes: &[u8]) -> Result<ChipDb, DbFault>
     }
 }
 
-/// A reader of a database that comes in pieces. It keeps what the lines so far have given, and the bytes of a line that hasn't
-/// ended yet.
+/// Reads a chip database that comes in pieces. It keeps what the lines so far have given, and the bytes of a line that hasn't ended yet.
 #[derive(Drop)]
 pub struct DbReader {
     /// How many bytes were fed.
     fed: u64,
-    /// What takes the lines. A fault of the text, or that there was no memory, stays in it.
+    /// Feeds the lines. It keeps a fault of the text, or that memory was out.
     lines: LineFeed<LineReader, DbFault>,
 }
 
@@ -53,7 +64,7 @@ impl DbReader {
     ghost use Rattle.chipdb_reader.specs.declared.fault.DbFault.TheVariants.{Memory};
     ghost use Rattle.chipdb_reader.specs.Feeding.{StandsFor, fed_to, lack_of};
 
-    /// A reader to which nothing was fed. It takes no memory yet.
+    /// A reader that has been given nothing yet. It takes no memory.
     pub fn new(alloc: Global) -> DbReader
         ensures stands { StandsFor [] result }
         ensures fed { fed_to result ≡ 0 }
@@ -64,7 +75,10 @@ impl DbReader {
         DbReader { fed: 0, lines }
     }
 
-    /// Takes the next bytes. A faulty line is told by `finish`. Where there was no memory, each later call answers that again.
+    /// Takes the next bytes. All pieces together must have fewer than 2^32 bytes. A faulty line is reported by `finish`.
+    ///
+    /// # Errors
+    /// `AllocError` if memory is out, and for no other cause. Each later call returns it again.
     pub fn feed(&mut self, piece: &[u8]) -> Result<(), AllocError>
         requires { fed_to self.old + length piece.now < 2 ^ 32 }
         ensures fed { fed_to self.new ≡ fed_to self.old + length piece.now }
@@ -76,7 +90,10 @@ impl DbReader {
         lack_of(self.lines.feed(piece))
     }
 
-    /// What the database says, or its first faulty line.
+    /// The database, after the last piece.
+    ///
+    /// # Errors
+    /// `At` with the first faulty line and the first of its causes. `Memory` if memory is out, now or in an earlier call.
     pub fn finish(self) -> Result<ChipDb, DbFault>
         ensures means { IfOk result (λ db. (text : List ℕ) → StandsFor text self → DbMeans text (database_in db)) }
         ensures refused { IfErr result (λ fault. (text : List ℕ) → StandsFor text self → Tells (db_fault_of text) fault) }
@@ -94,7 +111,7 @@ ghost use Rattle.std.specs.Prelude.{None, Some, MatchResult};
 ghost use Rattle.std.specs.Result.{result_err};
 ghost use Rattle.chipdb_reader.specs.Feeding.{lack_in};
 
-/// That there was no memory, where it wasn't a faulty line.
+/// Keeps only out of memory: a faulty line counts as success here.
 fn lack_of(told: Result<(), DbFault>) -> Result<(), AllocError>
     ensures { MatchResult result (λ _. lack_in (result_err told) ≡ None) (λ e. lack_in (result_err told) ≡ Some e) }
 {

@@ -1,4 +1,4 @@
-// What is kept between the lines of a database, and how a line is taken.
+// The state between the lines of a database, and how a line is taken.
 ghost use Rattle.std.specs.Prelude.{◌≡◌, ◌-◌, ◌^◌, ◌<◌, ◌≤◌, ℕ, List, length, IfOk, IfErr, OnErr, OnOk, MatchOption, MatchResult, None, false};
 ghost use Rattle.std.specs.Result.{result_err};
 ghost use Rattle.chipdb_lines.specs.Words.{has_none, own_words, words_in};
@@ -17,7 +17,7 @@ use chipdb_lines::{
 use plane_map::{DeviceName, TileKind};
 use std::alloc::{AllocError, Global};
 
-/// What the lines so far have given, and what the next ones are.
+/// What the lines so far have given, and how the next ones are read.
 #[derive(Drop)]
 pub(crate) struct Reader {
     pub(crate) chip: Option<Chip>,
@@ -39,7 +39,7 @@ impl Reader {
     ghost use Rattle.chipdb_reader.specs.Buffers.{IsChosen};
     ghost use Rattle.chipdb_reader.specs.Reading.{BeginsBlock, BufferRefusal, ForCause, IsReady, IsUnread, NameRefusal, PushesBuffer, PushesExtra, PushesFunction, PushesName, RefusesFirst, RefusesItem, RefusesLine, RefusesWords, StatementRefusal, TakesFirst, TakesItem, TakesLine, TakesStatement, TakesWords, begin_cause};
 
-    /// No line was read. It takes no memory yet.
+    /// A reader that has read no line. It takes no memory yet.
     pub(crate) fn new(alloc: Global) -> Reader
         ensures { IsUnread result }
     {
@@ -76,8 +76,8 @@ impl Reader {
         }
     }
 
-    /// Takes the first line of a text where it is one of links in their usual form, and tells what stands behind it. It is
-    /// there for speed alone: `accept` takes such lines too.
+    /// A fast path of `accept` for a line of links in its usual form: takes the first line of a text, and returns what follows it. `None`
+    /// if the line has another form.
     pub(crate) fn accept_choice<'a>(&mut self, text: &'a [u8]) -> Result<Option<&'a [u8]>, Refusal>
         requires { IsReady self.old }
         ensures taken { IfOk result (λ rest. MatchOption rest (self.new ≡ self.old) (λ rest. TakesFirst self.old text.now rest.now self.new)) }
@@ -90,7 +90,7 @@ impl Reader {
         }
     }
 
-    /// The same below a `.buffer`.
+    /// The fast path below a `.buffer`.
     fn first_buffer<'a>(
         &mut self,
         chip: Chip,
@@ -111,7 +111,7 @@ impl Reader {
         }
     }
 
-    /// The same below a `.routing`.
+    /// The fast path below a `.routing`.
     fn first_routing<'a>(
         &mut self,
         chip: Chip,
@@ -176,7 +176,7 @@ impl Reader {
         }
     }
 
-    /// Takes the words of a line for the statement above it, behind the device.
+    /// Takes the words of a line for the statement above it, after the device was given.
     fn accept_item(&mut self, chip: Chip, words: &[u8]) -> Result<(), Refusal>
         requires ready { IsReady self.old }
         requires room { length self.old.texts.arena < 2 ^ 32 - 1 }
@@ -279,7 +279,7 @@ ghost use Rattle.place_search.specs.Places.{or_else};
 ghost use Rattle.chipdb_lines.specs.Items.{extra_of, function_of};
 ghost use Rattle.chipdb_reader.specs.Reading.{Pushes, PushesRouting, link_with};
 
-/// The device that was given before, or else this one.
+/// The device that was given before, or this one if none was.
 fn first_chip(earlier: Option<Chip>, chip: Chip) -> Option<Chip>
     ensures { result ≡ or_else earlier (Some chip) }
 {
@@ -289,7 +289,7 @@ fn first_chip(earlier: Option<Chip>, chip: Chip) -> Option<Chip>
     }
 }
 
-/// The link of a statement's line.
+/// The link that a line of a statement gives.
 fn link(head: LinkHead, choice: Choice) -> LinkLine
     ensures { result ≡ link_with head choice }
 {

@@ -1,4 +1,4 @@
-// A database read from a source or from a file.
+// Reads a database from a source or from a file.
 ghost use Rattle.std.specs.Prelude.{◌≡◌, ◌+◌, ◌^◌, ◌<◌, ◌≤◌, ℕ, List, length, IfOk, IfErr, IsErrOf, IsTrue};
 ghost use Rattle.ice_io.specs.Faults.{Rose, RoseBy};
 ghost use Rattle.ice_io.specs.Files.{HasFile, HasMore, LacksFile};
@@ -13,20 +13,20 @@ use crate::reader::DbReader;
 use ice_io::{Files, Source, TakeFault, Taker, feed_all, load_into};
 use std::alloc::{AllocError, Global};
 
-/// Why a database isn't read from a source or a file.
+/// Why a database couldn't be read from a source or a file.
 #[derive(Clone, Copy, Debug, PartialEq, Eq)]
 pub enum SourceDbFault {
     /// A read failed.
     Failed,
     /// There are more bytes than the limit.
     TooLong,
-    /// The text is faulty. It is never want of memory.
+    /// The text is faulty. Out of memory is never reported here.
     Db(DbFault),
     /// Out of memory. It may come in place of any other answer.
     Memory(AllocError),
 }
 
-/// What takes the pieces of a database. That there was no memory is told at the end.
+/// A reader takes the pieces of a database. If memory is out, `finish` reports it at the end.
 impl Taker for DbReader {
     ghost use Rattle.chipdb_reader.specs.Feeding.{fed_to, stands_for};
 
@@ -41,7 +41,11 @@ impl Taker for DbReader {
     }
 }
 
-/// What a database says that a source gives up to its end, or why it isn't read. `TooLong` leaves `limit + 1` bytes read.
+/// Reads a database from a source, up to its end.
+///
+/// # Errors
+/// `Failed` if a read failed. `TooLong` if the source gives more than `limit` bytes; `limit + 1` bytes are read then. `Db` with the first
+/// faulty line. `Memory` if memory is out; it may come in place of any other answer.
 pub fn read_from<S: Source>(
     alloc: Global,
     source: &mut S,
@@ -66,7 +70,11 @@ pub fn read_from<S: Source>(
     }
 }
 
-/// What a database says that the file of a name has, or why it isn't read. `TooLong` leaves `limit + 1` bytes read.
+/// Reads a database from the file with that name.
+///
+/// # Errors
+/// `Failed` if the file couldn't be read. `TooLong` after `limit + 1` bytes were read. `Db` with the first faulty line. `Memory` if memory
+/// is out; it may come in place of any other answer.
 pub fn read_file<F: Files>(
     alloc: Global,
     files: &mut F,
@@ -105,7 +113,7 @@ fn untaken(fault: TakeFault) -> SourceDbFault
     }
 }
 
-/// What is answered where all bytes were taken.
+/// The answer after all bytes were taken.
 fn answer(read: Result<ChipDb, DbFault>) -> Result<ChipDb, SourceDbFault>
     ensures { result ≡ answer_of read }
 {

@@ -5,7 +5,7 @@ ghost use Rattle.chipdb_reader.specs.Texts.{text_at};
 use name_arena::{NameId, NameTable};
 use std::alloc::{AllocError, Global};
 
-/// Names without repeats, by their ids and by their bytes.
+/// Interned names: each is kept once, and known by its id and by its bytes.
 #[derive(Drop)]
 pub(crate) struct Texts {
     arena: NameTable,
@@ -14,7 +14,7 @@ pub(crate) struct Texts {
 impl Texts {
     ghost use Rattle.chipdb_reader.specs.Texts.{Interns, IsIndexed};
 
-    /// No names. It takes no memory yet.
+    /// No names yet. It takes no memory.
     pub(crate) fn new(alloc: Global) -> Texts
         ensures empty { result.arena ≡ [] }
         ensures indexed { IsIndexed result }
@@ -24,7 +24,7 @@ impl Texts {
         }
     }
 
-    /// The bytes of a name: none of an id of another database that has no place here.
+    /// The bytes of a name. Empty if the id is one of another database and has no place in this one.
     pub(crate) fn get(&self, id: NameId) -> &[u8]
         ensures { result.now ≡ text_at self.now.arena id }
     {
@@ -35,7 +35,7 @@ impl Texts {
         }
     }
 
-    /// The id of a name, where it is kept.
+    /// The id of a name, if it is kept.
     pub(crate) fn find(&self, text: &[u8]) -> Option<NameId>
         requires { IsIndexed self.now }
         ensures { result ≡ position (bytes_eq text.now) self.now.arena }
@@ -43,7 +43,7 @@ impl Texts {
         self.arena.find(text)
     }
 
-    /// The id of a name; where it isn't kept it is added.
+    /// Interns a name: its id, after adding it if it wasn't kept yet.
     pub(crate) fn intern(&mut self, text: &[u8]) -> Result<NameId, AllocError>
         requires indexed { IsIndexed self.old }
         requires room { length self.old.arena < 2 ^ 32 - 1 }
@@ -55,7 +55,7 @@ impl Texts {
         }
     }
 
-    /// Adds a name that isn't kept.
+    /// Adds a name that isn't kept yet.
     fn add(&mut self, text: &[u8]) -> Result<NameId, AllocError>
         requires indexed { IsIndexed self.old }
         requires absent { position (bytes_eq text.now) self.old.arena ≡ None }

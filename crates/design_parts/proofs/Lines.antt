@@ -40,14 +40,14 @@ module _ (input_name : Pin → List ℕ) (name_of : Output → List ℕ) (fabric
 
 -- ---- events
 
--- an event of the module is that of the fabric, and the other way
+-- the events of the module and of the fabric correspond, in both directions
 same-events : (events : List ModuleEvent) → map module_event (map fabric_event events) ≡ events
 same-events [] = refl
 same-events (event ∷ events) = ap (λ rest. event ∷ rest) (same-events events)
 
 -- ---- the text
 
--- The lines of a module's run, where it matches the run of a fabric.
+-- The lines of a module's run, if it matches the run of a fabric.
 pub run-shown : (input_name : Pin → List ℕ) (name_of : Output → List ℕ) (fabric : Fabric) (m : Parts) (registers : Bool) (events : List ℕ) (entries : List Entry)
     → AllZip (MatchesAs input_name name_of fabric) entries (module_run m (map module_event (fabric_events m.ports events)))
     → run_text m (events_of m.ports events) registers ≡ fabric_text registers entries

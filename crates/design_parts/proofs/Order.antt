@@ -1,4 +1,4 @@
--- The write order, where there is one, is the one that the function gives.
+-- The write order, if there is one, is the one that the function gives.
 use Rattle.std.proofs.Common.{◌≡◌, ℕ, zero, suc, ◌<◌, Bool, true, false, not, ◌&&◌, ◌||◌, List, [], ◌∷◌, length, take, get_or, refl, sym, ap, ◌∙◌, inl, inr, arith}
 use Rattle.std.specs.Prelude.{Some, None}
 use Rattle.std.specs.List.{list_all}
@@ -63,7 +63,7 @@ module _ (wiring : Wiring) where
 -- ---- the order
 
 module _ (wiring : Wiring) (order : List ℕ) (is : IsWriteOrder wiring order) where
-  -- the next class of the order is the least that can be written
+  -- the next class of the order is the least that can come next
   next-least : (n : ℕ) → n < length order → least_below wiring.count (is_ready wiring (take n order)) ≡ Some (get_or order n 0)
   next-least n lt =
       let least = is.each n lt in
@@ -76,7 +76,7 @@ module _ (wiring : Wiring) (order : List ℕ) (is : IsWriteOrder wiring order) w
       ])
       (ready-passes wiring (take n order) (get_or order n 0) least.ready)
 
-  -- behind the whole order no class can be written
+  -- after the whole order no class can come next
   none-left : least_below wiring.count (is_ready wiring order) ≡ None
   none-left =
       least_below-none wiring.count (is_ready wiring order) (λ k below. elim (cases_Bool (is_ready wiring order k)) [
@@ -97,7 +97,7 @@ module _ (wiring : Wiring) (order : List ℕ) (is : IsWriteOrder wiring order) w
             rw (first-taken n) (rw all (rw none-left (append-nil order ∙ sym (take_all (suc n) order (omega (arith, ge))))))
       ]
 
-  -- the order is that of the function
+  -- the order is the one that the function gives
   pub order-is : order ≡ write_order wiring
   unfolding write_order
   order-is = sym (first-taken wiring.count ∙ take_all wiring.count order (order-few wiring order is))

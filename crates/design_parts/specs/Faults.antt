@@ -1,4 +1,4 @@
--- What a tool says of a database and an image that aren't taken.
+-- The messages for a database and an image whose design isn't taken.
 use Rattle.std.specs.Prelude.{◌≡◌, ℕ, List, ◌++◌, codes, decimal, Option, Some, None}
 use Rattle.net_extract.specs.declared.driver.ClockUser.{ClockUser}
 use Rattle.net_extract.specs.declared.driver.ClockUser.TheVariants as user
@@ -15,7 +15,7 @@ tile_text x y = codes "tile " ++ decimal x ++ codes " " ++ decimal y
 abbrev pub net_text : ℕ → List ℕ
 net_text net = codes "net " ++ decimal net
 
--- the six bits of a pin's type
+-- the six bits of a pin's type (`PIN_TYPE` of `SB_IO` in Lattice's iCE technology library)
 abbrev pub pintype_text : ℕ → List ℕ
 pintype_text pintype = codes ": PinMode " ++ six_digits pintype
 
@@ -30,7 +30,7 @@ cell_text i = codes " cell " ++ decimal i
 abbrev pub clock_text : ℕ → List ℕ
 clock_text net = codes ": Clock net " ++ decimal net
 
--- a cell of a tile, the register of an input or output pin, or a port of a RAM
+-- what a clock drives: the flip-flop of a cell, the register of an input or output pin, or the read or write port of a RAM
 abbrev pub user_text : ClockUser → List ℕ
 user_text (user.Cell i) = cell_text i
 user_text (user.Input n) = codes " input " ++ decimal n
@@ -38,7 +38,7 @@ user_text (user.Output n) = codes " output " ++ decimal n
 user_text user.Read = codes " read"
 user_text user.Write = codes " write"
 
--- where the fault is, and the cause
+-- the place of the fault, and the cause
 abbrev pub design_fault_text : Fault → List ℕ
 design_fault_text Fault.other_device = codes "Device"
 design_fault_text (Fault.pll x y) = tile_text x y ++ codes ": Pll"
@@ -48,7 +48,7 @@ design_fault_text (Fault.two_drivers net first second) = net_text net ++ codes "
 design_fault_text (Fault.loop net) = net_text net ++ codes ": Loop"
 design_fault_text (Fault.clock x y user net) = tile_text x y ++ user_text user ++ clock_text net
 
--- the fault that a refusal tells, and none where memory ran out
+-- the fault that is told, and none if memory was out
 abbrev pub told_fault : FabricFault → Option Fault
 told_fault Device = Some Fault.other_device
 told_fault (Pll x y) = Some (Fault.pll x y)
@@ -59,7 +59,7 @@ told_fault (Loop net cycle) = Some (Fault.loop net)
 told_fault (Clock x y user net) = Some (Fault.clock x y user net)
 told_fault (OutOfMemory failed) = None
 
--- a tool stops by telling a fault, or out of memory where there is none
+-- a tool stops with a refusal that tells the fault; if there is none, it stops out of memory
 abbrev pub StopsFor : Option Fault → Stop → Type 0
 StopsFor (Some fault) (Refused refusal) = design_fault_text fault ≡ refusal_text refusal
 StopsFor None Memory = Unit {0}

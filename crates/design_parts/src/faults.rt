@@ -1,4 +1,4 @@
-// What is said of a database and an image that aren't taken.
+// The messages for a database and an image whose design isn't taken.
 ghost use Rattle.std.specs.Prelude.{◌≡◌, ◌++◌};
 ghost use Rattle.tool_run.specs.Lines.{phrase_text, refusal_text};
 ghost use Rattle.design_parts.specs.Faults.{net_text, pintype_text, tile_text, told_fault, user_text, StopsFor};
@@ -8,7 +8,7 @@ use net_extract::ClockUser;
 use tool_parts::{refusal, whole};
 use tool_run::{Number, Phrase, Refusal, Stop, decimal, text};
 
-// A refusal at a tile: what of it, and the cause.
+// A refusal at a tile: the part of the tile, and the cause.
 fn at_tile(x: u8, y: u8, part: Phrase<'static>, cause: Phrase<'static>) -> Refusal<'static>
     ensures { refusal_text result ≡ tile_text x y ++ phrase_text part.entry ++ phrase_text cause.entry }
 {
@@ -20,14 +20,14 @@ fn at_tile(x: u8, y: u8, part: Phrase<'static>, cause: Phrase<'static>) -> Refus
     }
 }
 
-// A refusal of a net.
+// A refusal at a net, and the cause.
 fn at_net(net: u32, cause: &'static str) -> Refusal<'static>
     ensures { refusal_text result ≡ net_text net ++ cause.now }
 {
     refusal(decimal("net ", u64::from(net)), text(cause))
 }
 
-// The six bits of a pin's type.
+// The six bits of a pin's type (`PIN_TYPE` of `SB_IO`).
 fn pintype_phrase(pintype: u8) -> Phrase<'static>
     ensures { phrase_text result ≡ pintype_text pintype }
 {
@@ -37,7 +37,7 @@ fn pintype_phrase(pintype: u8) -> Phrase<'static>
     }
 }
 
-// A user of a clock in its tile.
+// What a clock drives in its tile.
 fn user_phrase(user: ClockUser) -> Phrase<'static>
     ensures { phrase_text result ≡ user_text user }
 {
@@ -50,7 +50,7 @@ fn user_phrase(user: ClockUser) -> Phrase<'static>
     }
 }
 
-/// Why no module is written.
+/// The stop of a tool for a design that isn't taken: `Stop::Refused` with the place and the cause, or `Stop::Memory`.
 pub fn design_stop(fault: &FabricFault) -> Stop<'static>
     ensures { StopsFor (told_fault fault.now) result }
 {

@@ -1,4 +1,4 @@
--- The text that is written for a database and an image is that of their fabric.
+-- The text that is written for a database and an image spells their fabric.
 use Rattle.std.proofs.Common.{◌≡◌, ◌∙◌, ℕ, ◌^◌, ◌≤◌, Bool, true, false, List, [], ap, refl, subst, sym}
 use Rattle.std.specs.Prelude.{Option, Some, None, Result, Ok, Err, get_or, codes, if◌then◌else◌, is_some, ◌&&◌, nat_le, length}
 use Rattle.clap.specs.Words.{Row, Text, first_of, matches_of}
@@ -53,7 +53,7 @@ use Rattle.design_parts.proofs.Order.{order-is}
 
 -- ---- the module
 
--- where there is no fault, the order that the function gives is the write order
+-- if there is no fault, the order that the function gives is the write order
 ordered : (inputs : LutInputs) (db : Database) (image : Configuration) → IsFit db → design_fault inputs db image ≡ None
     → IsWriteOrder (wiring_of (fabric_with inputs db image)) (write_order (wiring_of (fabric_with inputs db image)))
 ordered inputs db image fit none =
@@ -106,7 +106,7 @@ module _ (inputs : LutInputs) (name : List ℕ) (is_name : IsName name) (db : Da
 
 -- ---- the answer
 
--- what bytes are, by the package of a pin file where there is one
+-- what the bytes are, by the package of a pin file if there is one
 IsWritten : Option (List ℕ) → Bool → List (List ℕ) → List ℕ → Database → Configuration → Type 0
 IsWritten package_name behind texts bytes db image =
     HasNoPinFault package_name behind texts (fabric_of db image).pins × SpellsFabric (names_given package_name behind texts) db image bytes

@@ -1,8 +1,8 @@
 -- the name of a module, from the command line
 mod CommandLines
--- the texts that are taken where a pin file names the ports
+-- the texts that are taken if a pin file names the ports
 mod NamedIntakes
--- what is written for a design, and what is told where there is none
+-- what is written for a design, and what is told if there is none
 mod Written
--- the text that is written for a database and an image is that of their fabric
+-- the text that is written for a database and an image spells their fabric
 mod Fabric

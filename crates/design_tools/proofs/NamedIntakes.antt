@@ -1,4 +1,4 @@
--- The texts that `icebox_vlog` takes where a pin file names the ports.
+-- The texts that `icebox_vlog` takes if a pin file names the ports.
 use Rattle.std.proofs.Common.{◌≡◌, ◌∙◌, ◌+◌, ◌<◌, ◌≤◌, zero, suc, ℕ, Bool, true, false, List, [], ◌∷◌, ◌++◌, ap, refl, subst, sym, arith, length}
 use Rattle.std.specs.Prelude.{get_or, IfOk, Option, Result, Ok, Err}
 use Rattle.std.specs.Result.{result_ok}
@@ -18,7 +18,7 @@ use Rattle.design_tools.specs.declared.named_intake.NamedIntake.{NamedIntake}
 use Rattle.design_tools.specs.Pins.{HasPins, StandsBehind, database_so_far, database_text, design_bytes, first_text, pin_file_so_far, pin_text, texts_without_pins}
 use Rattle.design_tools.specs.Taken.{TakesAt}
 
--- where there was no memory for a reader there is none
+-- if memory was out for a reader, there is none
 pub ok-kept : (name text : List ℕ) (read : Result PinReader AllocError) → IfOk read (StandsFor name text) → HasPins name text (result_ok read)
 ok-kept name text (Ok reader) stands = stands
 ok-kept name text (Err failed) stands = tt
@@ -87,7 +87,7 @@ module _ (package_name : List ℕ) (named : Bool) (texts : List (List ℕ)) (byt
         subst (λ one. TakesAt package_name named texts (bytes ++ piece) one new) (sym is)
         (record { stands = was.stands; taking = fed was.taking; file = rw of_file was.file; pins = read was.pins })
 
-    -- of a text behind it
+    -- of a text after it
     pub fed-other : at ≡ next.Other → TakesAt package_name named texts bytes at old → new.pins ≡ old.pins → TakesAt package_name named texts (bytes ++ piece) at new
     fed-other is taken of_pins =
         let was = subst (λ one. TakesAt package_name named texts bytes one old) is taken in
@@ -130,7 +130,7 @@ module _ (bytes : List ℕ) where
   pins-are false [] stands = refl
   pins-are false (text ∷ texts) stands = absurd (omega (arith, stands))
 
-  -- the database, which stands behind the pin file
+  -- the database, which comes after the pin file
   pub record EndsDatabase (named : Bool) (texts : List (List ℕ)) : Type 0 where
     pub stands : StandsBehind named (length (texts ++ bytes ∷ [])) next.Other
     pub without : texts_without_pins named (texts ++ bytes ∷ []) ≡ texts_without_pins named texts ++ bytes ∷ []
@@ -146,7 +146,7 @@ module _ (bytes : List ℕ) where
   database-ends false (file ∷ []) stands = record { stands = omega arith; without = refl; file = refl; database = refl }
   database-ends false (file ∷ text ∷ texts) stands = absurd (omega (arith, stands))
 
-  -- a text behind it
+  -- a text after it
   pub record EndsOther (named : Bool) (texts : List (List ℕ)) : Type 0 where
     pub stands : StandsBehind named (length (texts ++ bytes ∷ [])) next.Other
     pub without : texts_without_pins named (texts ++ bytes ∷ []) ≡ texts_without_pins named texts ++ bytes ∷ []
@@ -195,7 +195,7 @@ module _ (package_name : List ℕ) (named : Bool) (texts : List (List ℕ)) (byt
         pins = rw (ends.database, of_pins) taken.pins;
       }
 
-  -- a text behind it
+  -- a text after it
   pub closed-other : (taking : Taking DesignInput) → IsTaking TakesInput named (texts_without_pins named texts ++ bytes ∷ []) [] taking → TakesAt package_name named texts bytes next.Other old
       → (new : NamedIntake) → new.taking ≡ taking → new.file ≡ old.file → new.pins ≡ old.pins → TakesAt package_name named (texts ++ bytes ∷ []) [] next.Other new
   closed-other taking closed taken new of_taking of_file of_pins =

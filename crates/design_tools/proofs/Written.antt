@@ -1,4 +1,4 @@
--- What is written for a design, and what is told where there is none.
+-- What is written for a design, and what is told if there is none.
 use Rattle.std.proofs.Common.{◌≡◌, ℕ, List, refl, subst, sym, ap, ap₂, ◌∙◌}
 use Rattle.std.specs.Prelude.{Option, None, Some}
 use Rattle.plane_map.specs.declared.device.DeviceName.{DeviceName}

@@ -1,4 +1,4 @@
--- What a written module promises: it is the fabric of the database and the image for which it was written.
+-- What a written module promises: it behaves as the fabric of the database and the image for which it was written.
 use Rattle.std.specs.Prelude.{◌≡◌, ℕ, Bool, false, List, [], map, codes, get_or, is_some, Option, Some, None, Ok}
 use Rattle.std.specs.List.{AllZip}
 use Rattle.clap.specs.Words.{first_of, matches_of}
@@ -29,25 +29,25 @@ use Rattle.design_parts.specs.Lines.{fabric_events, fabric_text}
 use Rattle.design_tools.specs.Pins.{database_text, pin_text, texts_without_pins}
 use Rattle.design_tools.specs.Vlog.{vlog_command, vlog_outcome}
 
--- A text spells the fabric of a database and an image, whose ports have the names of a pin file where these are given.
+-- A text spells the fabric of a database and an image. Its ports have the names of a pin file, if these are given.
 pub record SpellsFabric (named : List PinName) (db : Database) (image : Configuration) (text : List ℕ) : Type 0 where
   -- it spells exactly one module
   pub one_module : ExactlyOne (IsSpelling text)
-  -- its ports are those of the pins
+  -- the module has the ports of the fabric's pins
   pub ports : one_module.it.ports ≡ named_ports named (fabric_of db image).pins
   -- the fabric has exactly one run for each list of events
   pub one_run : (events : List Event) → ExactlyOne (IsRun (fabric_of db image) events)
-  -- the module runs as it does: at the start and after each event the two hold the same values
+  -- the module runs as the fabric does: at the start and after each event the two have the same values
   pub alike : (events : List Event) (entries : List Entry) → IsRun (fabric_of db image) events entries
       → AllZip (MatchesNamed named (fabric_of db image)) entries (module_run one_module.it (map module_event events))
-  -- the lines of its run over the events of a text are those of the fabric's run
+  -- the lines of the module's run over the events of a text are the lines of the fabric's run
   pub lines : (registers : Bool) (events : List ℕ) (entries : List Entry)
       → IsRun (fabric_of db image) (fabric_events (named_ports named (fabric_of db image).pins) events) entries
       → run_text one_module.it (events_of one_module.it.ports events) registers ≡ fabric_text registers entries
 
 -- ---- what was appended
 
--- the texts without the pin file, where there is one for a package
+-- the texts without the pin file, if there is one for a package
 abbrev pub texts_of_design : Option (List ℕ) → Bool → List (List ℕ) → List (List ℕ)
 texts_of_design None behind texts = texts
 texts_of_design (Some package_name) behind texts = texts_without_pins behind texts
@@ -56,19 +56,19 @@ texts_of_design (Some package_name) behind texts = texts_without_pins behind tex
 abbrev pub package_read : List ℕ → Bool → List (List ℕ) → Package
 package_read package_name behind texts = package_of package_name (database_text behind texts)
 
--- the names that the pin file gives for the package, where there is one
+-- the names that the pin file gives for the package, if there is one
 abbrev pub names_given : Option (List ℕ) → Bool → List (List ℕ) → List PinName
 names_given None behind texts = []
 names_given (Some package_name) behind texts = ports_of (package_read package_name behind texts) (pin_text behind texts)
 
--- the pin file has no fault, where there is one, for pins of which some can be switched off
+-- the pin file, if there is one, has no fault, for a design with these pins
 abbrev pub HasNoPinFault : Option (List ℕ) → Bool → List (List ℕ) → List Pin → Type 0
 HasNoPinFault None behind texts pins = Unit {0}
 HasNoPinFault (Some package_name) behind texts pins =
     pin_fault_of (package_read package_name behind texts) (switched_places pins) (pin_text behind texts) ≡ None
 
--- Bytes spell the fabric of a database and an image. The texts are those that were loaded: the layout file where one is `named`, the pin
--- file where a package is given, then the database, then the image, which is read under the layouts.
+-- Bytes spell the fabric of a database and an image. The texts are those that were loaded: the layout file if one is `named`, the pin
+-- file if a package is given, then the database, then the image, which is read under the layouts.
 pub record WritesFabric (package_name : Option (List ℕ)) (named : Bool) (texts : List (List ℕ)) (bytes : List ℕ) : Type 0 where
   pub layouts : Layouts
   pub db : Database
@@ -88,8 +88,8 @@ abbrev pub package_given : List (List ℕ) → Option (List ℕ)
 package_given args = first_of (codes "package") (matches_of vlog_command args)
 
 -- If a run of `icebox_vlog` with these arguments has status 0, and isn't asked for help, then there are texts of its files and of standard
--- input for which the bytes that it appended spell the fabric of their database and image. What files and input tell of their contents are
--- these texts; of real ones nothing is told, and each is within its limit.
+-- input such that the bytes that it appended spell the fabric of their database and image. Each text is within its limit. Where files and
+-- input tell their contents, as those in memory do, the texts are these contents; real files tell nothing of them.
 abbrev pub PromisesFabric : {F I O E : Type 0} → Outside F I O E → List (List ℕ) → ℕ → Scene F I O E → Scene F I O E → Type 0
 PromisesFabric by args status old new =
     status ≡ 0 → asks_for_help args ≡ false → AppendsFor by (WritesFabric (package_given args) (names_layout args)) (vlog_outcome args) old new

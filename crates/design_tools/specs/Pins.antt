@@ -1,4 +1,4 @@
--- The pin file of `icebox_vlog`, and what is told of its fault.
+-- The pin file of `icebox_vlog`, and the message for its fault.
 use Rattle.std.specs.Prelude.{◌≡◌, ◌<◌, ℕ, Bool, true, false, List, [], ◌++◌, codes, decimal, drop, get_or, length, take, Option, Some, None}
 use Rattle.pin_file.specs.declared.fault.PinCause.{PinCause}
 use Rattle.pin_file.specs.declared.fault.PinCause.TheVariants.{Statement, Package, Pin, Repeated, Name}
@@ -32,12 +32,12 @@ abbrev pub pin_fault_text : PinFault → List ℕ
 pin_fault_text (At line cause) = codes "pin file line " ++ decimal line ++ pin_cause_text cause
 pin_fault_text (Memory e) = codes "out of memory"
 
--- a tool stops for the fault of a pin file
+-- a tool stops with the message for the fault of a pin file, or out of memory
 abbrev pub StopsForPins : PinFault → Stop → Type 0
 StopsForPins (At line cause) stop = StopsWith (Refused (pin_fault_text (At line cause))) stop
 StopsForPins (Memory e) stop = stop ≡ OutOfMemory
 
--- ---- the texts: the layout file where it is named, the pin file, the database and the image
+-- ---- the texts: the layout file if it is named, the pin file, the database and the image
 
 -- the pin file among the texts
 abbrev pub pin_text : Bool → List (List ℕ) → List ℕ
@@ -53,7 +53,7 @@ texts_without_pins named texts = take (behind_layout named 0) texts ++ drop (beh
 
 -- ---- what was taken
 
--- the reader stands for the text of a database and the package of a name; there is none where there was no memory
+-- the reader has read the text of a database, for the package of this name; there is no reader if memory was out
 abbrev pub HasPins : List ℕ → List ℕ → Option PinReader → Type 0
 HasPins package_name text (Some pins) = StandsFor package_name text pins
 HasPins package_name text None = Unit {0}
@@ -63,14 +63,14 @@ abbrev pub first_text : Bool → NextText
 first_text true = next.Layout
 first_text false = next.PinFile
 
--- so many texts were taken whole before the next one
+-- how many whole texts were taken before the next one
 abbrev pub StandsBehind : Bool → ℕ → NextText → Type 0
 StandsBehind named count next.Layout = (named ≡ true) × (count ≡ 0)
 StandsBehind named count next.PinFile = count ≡ behind_layout named 0
 StandsBehind named count next.Database = count ≡ behind_layout named 1
 StandsBehind named count next.Other = behind_layout named 1 < count
 
--- of these bytes of the next text those that go to the layouts, the database and the image
+-- of these bytes of the next text, those that belong to the layout file, the database or the image
 abbrev pub design_bytes : NextText → List ℕ → List ℕ
 design_bytes next.Layout bytes = bytes
 design_bytes next.PinFile bytes = []
@@ -91,6 +91,6 @@ database_so_far named texts next.PinFile bytes = []
 database_so_far named texts next.Database bytes = bytes
 database_so_far named texts next.Other bytes = database_text named texts
 
--- no byte of the next text counts while the pin file is taken
+-- while the pin file is taken, no byte of the next text counts towards its limit
 abbrev pub IsIdle : NextText → Taking DesignInput → Type 0
 IsIdle at taking = at ≡ next.PinFile → fed_of fed_input taking ≡ 0

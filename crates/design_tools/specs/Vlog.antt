@@ -1,4 +1,5 @@
--- `icebox_vlog`: the module of a database and an image.
+-- `icebox_vlog`: writes the module of a database and an image. `-n` and `-p` are options of Project IceStorm's `icebox_vlog` (its usage
+-- text).
 use Rattle.std.specs.Prelude.{ℕ, Bool, true, false, List, [], ◌∷◌, codes, is_some, Option, None, Some}
 use Rattle.std.specs.Option.{option_map}
 use Rattle.clap.specs.Words.{App, Row, Text, first_of}
@@ -36,17 +37,17 @@ use Rattle.design_parts.specs.Faults.{design_fault_text}
 
 -- ---- the answer
 
--- the module that is written for a database and an image, with this name: that of their fabric, whose LUTs read these inputs, in the
--- write order
+-- the module that is written for a database and an image under this name: the module of their fabric, whose LUTs read these inputs, in the
+-- write order, a topological order of the combinational logic
 unfoldable pub written_module : LutInputs → List ℕ → Database → Configuration → Parts
 written_module inputs name db image = module_of (fabric_with inputs db image) (write_order (wiring_of (fabric_with inputs db image))) name
 
--- the same with the names of a pin file for the ports
+-- the module that is written if the ports have the names of a pin file
 unfoldable pub module_with_names : List PinName → LutInputs → List ℕ → Database → Configuration → Parts
 module_with_names named inputs name db image =
     named_module named (fabric_with inputs db image) (write_order (wiring_of (fabric_with inputs db image))) name
 
--- its text, where there is no fault
+-- the text of the module, or the message for the fault of the design
 abbrev pub written_with : LutInputs → List ℕ → Database → Configuration → Option Fault → Answer
 written_with inputs name db image None = Done (printed (written_module inputs name db image))
 written_with inputs name db image (Some fault) = Refused (design_fault_text fault)
@@ -54,13 +55,13 @@ written_with inputs name db image (Some fault) = Refused (design_fault_text faul
 abbrev pub written : LutInputs → List ℕ → Database → Configuration → Answer
 written inputs name db image = written_with inputs name db image (design_fault inputs db image)
 
--- the text of the module whose ports have the names of a pin file, where the file has no fault
+-- the text of the module whose ports have the names of a pin file, or the message for the fault of the file
 abbrev pub named_with : LutInputs → List ℕ → List PinName → Database → Configuration → Option PinFault → Answer
 named_with inputs name named db image None = Done (printed (module_with_names named inputs name db image))
 named_with inputs name named db image (Some fault) = Refused (pin_fault_text fault)
 
--- the same where the database and the image have no fault either; theirs is told first. The pins are those of the package that was
--- chosen
+-- the text of the module whose ports have the names of a pin file for the chosen package. A fault of the design goes before one of the pin
+-- file
 abbrev pub named_where : LutInputs → List ℕ → Package → List ℕ → Database → Configuration → Option Fault → Answer
 named_where inputs name chosen file db image None =
     named_with inputs name (ports_of chosen file) db image (pin_fault_of chosen (switched_places (fabric_with inputs db image).pins) file)
@@ -69,12 +70,12 @@ named_where inputs name chosen file db image (Some fault) = Refused (design_faul
 abbrev pub written_named : LutInputs → List ℕ → Package → List ℕ → Database → Configuration → Answer
 written_named inputs name chosen file db image = named_where inputs name chosen file db image (design_fault inputs db image)
 
--- the same for texts, and for a package of the database
+-- the answer for the texts that were loaded: the layout file if it is `named`, the pin file, the database, and the image
 abbrev pub named_answer : LutInputs → Bool → List ℕ → List ℕ → List (List ℕ) → Answer
 named_answer inputs named name package_name texts =
     input_answer named (written_named inputs name (package_of package_name (database_text named texts)) (pin_text named texts)) (texts_without_pins named texts)
 
--- `named` tells whether a layout file was taken before the others
+-- the answer for the texts that were loaded, without a pin file: the layout file if it is `named`, the database, and the image
 abbrev pub vlog_answer : LutInputs → Bool → List ℕ → List (List ℕ) → Answer
 vlog_answer inputs named name texts = input_answer named (written inputs name) texts
 
@@ -89,14 +90,14 @@ vlog_usage = codes "icebox_vlog [-n NAME] [-p PCF -d PACKAGE] [--used-inputs] [-
 abbrev pub vlog_command : App
 vlog_command = command vlog_name (short_option (codes "name") 110 ∷ short_option (codes "pins") 112 ∷ short_option (codes "package") 100 ∷ long_flag (codes "used-inputs") ∷ long_option (codes "layout") ∷ positional (codes "db") ∷ positional (codes "image") ∷ [])
 
--- with `--used-inputs` LUTs read only the inputs that they use
+-- with `--used-inputs` LUTs read only the inputs that they use, else all
 abbrev pub inputs_wanted : Bool → LutInputs
 inputs_wanted false = read.All
 inputs_wanted true = read.Used
 
 -- ---- the task
 
--- the database, and the image from a file or from standard input
+-- the task without a pin file: it needs the database, and the image from a file or from standard input
 abbrev pub write_task : LutInputs → Text → Option Text → Text → Option Text → Task
 write_task inputs name layout db image = record {
   tool_name = vlog_name;
@@ -105,7 +106,7 @@ write_task inputs name layout db image = record {
   answer = vlog_answer inputs (is_some layout) name;
 }
 
--- the most bytes of a pin file
+-- the most bytes that a pin file may have
 abbrev pub pins_limit : ℕ
 pins_limit = 1048576
 
@@ -114,7 +115,7 @@ pub record Named : Type 0 where
   pub file : Text
   pub package_name : Text
 
--- the pin file, and what is needed without it
+-- the task with a pin file: it needs that, and what is needed without it
 abbrev pub named_task : LutInputs → Text → Named → Option Text → Text → Option Text → Task
 named_task inputs name pins layout db image = record {
   tool_name = vlog_name;
@@ -124,7 +125,7 @@ named_task inputs name pins layout db image = record {
   answer = named_answer inputs (is_some layout) name pins.package_name;
 }
 
--- with a pin file, or without
+-- the task with a pin file or without
 abbrev pub task_with : LutInputs → Text → Option Named → Option Text → Text → Option Text → Task
 task_with inputs name (Some pins) layout db image = named_task inputs name pins layout db image
 task_with inputs name None layout db image = write_task inputs name layout db image
@@ -135,12 +136,12 @@ named_by (Some file) (Some package_name) = Some (Some (record { file = file; pac
 named_by None None = Some None
 named_by _ _ = None
 
--- the bytes of a name, where there is one
+-- the bytes of a name, if there is one
 abbrev pub name_text : Option ModuleName → Option Text
 name_text None = None
 name_text (Some name) = Some name.text.now
 
--- there has to be a name, and a database, and no pin file without a package
+-- the name must be one, there must be a database, and no pin file without a package
 abbrev pub vlog_task_of : Bool → Option Text → Option (Option Named) → Option Text → Option Text → Option Text → Task
 vlog_task_of used (Some name) (Some pins) layout (Some db) image = task_with (inputs_wanted used) name pins layout db image
 vlog_task_of used (Some name) (Some pins) layout None image = usage_error vlog_name vlog_usage
@@ -160,7 +161,7 @@ vlog_task_by rows =
 abbrev pub icebox_vlog : Manual
 icebox_vlog = record { name = vlog_name; usage = vlog_usage; help = ICEBOX_VLOG_HELP.now; app = vlog_command; task = vlog_task_by }
 
--- what the arguments of `icebox_vlog` ask for, its help among that
+-- what the arguments of `icebox_vlog` ask for, which may be its help
 abbrev pub vlog_outcome : List Text → Task
 vlog_outcome args = outcome icebox_vlog args
 
@@ -168,7 +169,7 @@ vlog_outcome args = outcome icebox_vlog args
 abbrev pub pins_named : PinRequest → Named
 pins_named pins = record { file = pins.file.now; package_name = pins.package_name.now }
 
--- the same where the arguments name them
+-- a pin file and its package, if the arguments name them
 abbrev pub pins_of_request : Option PinRequest → Option Named
 pins_of_request pins = option_map pins_named pins
 

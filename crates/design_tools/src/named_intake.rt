@@ -1,4 +1,4 @@
-// What `icebox_vlog` takes where a pin file names the ports.
+// The input of `icebox_vlog` if a pin file names the ports.
 ghost use Rattle.std.specs.Prelude.{◌≡◌, ◌++◌, ◌∷◌, [], ◌+◌, ◌<◌, ◌≤◌, ◌^◌, ℕ, Bool, List, length};
 ghost use Rattle.design_tools.specs.Pins.{HasPins, IsIdle, first_text};
 
@@ -17,19 +17,20 @@ pub(crate) enum NextText {
     Other,
 }
 
-/// A layout file where one is named, then the pin file, which is collected, and then a database and an image. The pins of a package are
-/// read from the database as it comes.
+/// A layout file if one is named, then the pin file, which is collected, then a database and an image. The pins of the package are read
+/// from the database as it comes.
 #[derive(Drop)]
 pub(crate) struct NamedIntake {
     pub(crate) taking: Taking<DesignInput>,
     pub(crate) file: Collected,
-    /// None where there was no memory.
+    /// `None` if memory was out.
     pub(crate) pins: Option<PinReader>,
     next: NextText,
     ghost idle: { IsIdle next taking },
 }
 
-/// Gives a piece of a database to the reader of pins, where there is one. It keeps that there was no memory, and tells it at the end.
+/// Feeds a piece of the database to the reader of pins, if there is one. If memory is out, the reader remembers that, and tells it at the
+/// end.
 fn feed_pins(pins: &mut Option<PinReader>, piece: &[u8])
     ensures { (package_name text : List ℕ) → HasPins package_name text pins.old → HasPins package_name (text ++ piece.now) pins.new }
 {
@@ -68,7 +69,7 @@ impl NamedIntake {
         }
     }
 
-    /// Takes a piece behind those before.
+    /// Takes the next piece of the text.
     pub(crate) fn feed(&mut self, piece: &[u8])
         requires few { fed_named self.old + length piece.now < 2 ^ 32 }
         requires short { length piece.now ≤ 65536 }
@@ -86,7 +87,7 @@ impl NamedIntake {
         }
     }
 
-    /// Ends the text that was taken last.
+    /// Ends the current text. The next piece begins the next text.
     pub(crate) fn close(&mut self, alloc: Global)
         ensures closed { (package_name : List ℕ) (named : Bool) (texts : List (List ℕ)) (bytes : List ℕ) → TakesNamed package_name named texts bytes self.old
             → TakesNamed package_name named (texts ++ bytes ∷ []) [] self.new }

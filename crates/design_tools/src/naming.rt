@@ -1,4 +1,4 @@
-// `icebox_vlog` with a pin file: the module of an image, whose ports have the names of the file.
+// `icebox_vlog` with a pin file: writes the module of an image, whose ports have the names of the file.
 ghost use Rattle.std.specs.Prelude.{◌≡◌, [], ℕ, Bool, List, IfOk, IfErr};
 ghost use Rattle.ice_image.specs.Configuration.{Configuration};
 ghost use Rattle.ice_image.specs.Either.{configuration_of};
@@ -37,11 +37,11 @@ use tool_run::{Collected, Host, Job, Load, PieceTool, Refusal, Stop, decimal, te
 use vlog_emit::emit;
 use vlog_text::print;
 
-/// The most bytes of a pin file.
+/// The most bytes that a pin file may have.
 const PINS_LIMIT: usize = 1_048_576;
 
-/// Writes the module of a database and an image, with a name, and with the names of a pin file for its ports. LUTs read these inputs.
-/// A layout file comes first where one is named, and then the pin file.
+/// Writes the module of a database and an image under a name, with the names of a pin file for its ports. LUTs read these inputs. If a
+/// layout file is named, it comes first, then the pin file.
 #[derive(Clone, Copy, Debug, PartialEq, Eq)]
 struct Naming<'a> {
     /// Whether a layout file comes first.
@@ -83,7 +83,7 @@ impl<'a> PieceTool for Naming<'a> {
     }
 }
 
-// The module of the database and the image with the names of the pin file, after the last piece of all.
+// The module of the database and the image with the names of the pin file. Called after the last piece of the image.
 fn named_after(
     alloc: Global,
     inputs: LutInputs,
@@ -150,8 +150,8 @@ fn named_design_text(
     text_by_pins(alloc, design, name, &pins, text, &places)
 }
 
-// The module of a design with the names of the text of a pin file, for the pins of a package. Some of the design's pins are at these places,
-// those that can be switched off.
+// The module of a design with the names of a pin file, from the text of the file and the pins of its package. `places` has the places of
+// the design's pins that can be switched off (their output has an enable).
 fn text_by_pins(
     alloc: Global,
     design: &Design,
@@ -173,7 +173,7 @@ fn text_by_pins(
     }
 }
 
-// The pins that were read from a database.
+// The pins of the package that were read from the database.
 fn package_pins(pins: Option<PinReader>) -> Result<PackagePins, AllocError>
     ensures { IfOk result (λ kept. (package_name text : List ℕ) → HasPins package_name text pins → kept_in kept ≡ package_of package_name text) }
 {
@@ -200,7 +200,7 @@ fn named_text(
     print(alloc, &module)
 }
 
-// Why a line of a pin file is refused, behind a colon.
+// Why a line of a pin file is refused, after a colon.
 fn pin_cause_text(cause: PinCause) -> &'static str
     ensures { result.now ≡ pin_cause_text cause }
 {
@@ -213,14 +213,14 @@ fn pin_cause_text(cause: PinCause) -> &'static str
     }
 }
 
-// The fault of a pin file.
+// The refusal of a pin file: the line and the cause.
 fn pin_refusal(line: u64, cause: PinCause) -> Refusal<'static>
     ensures { refusal_text result ≡ pin_fault_text (At line cause) }
 {
     refusal(decimal("pin file line ", line), text(pin_cause_text(cause)))
 }
 
-// What is told of a pin file that isn't taken.
+// The stop for a pin file with this fault.
 fn pin_stop(fault: PinFault) -> Stop<'static>
     ensures { StopsForPins fault result }
 {
@@ -230,7 +230,7 @@ fn pin_stop(fault: PinFault) -> Stop<'static>
     }
 }
 
-/// Writes by the files of a request, with the names of a pin file.
+/// Does a request with a pin file: loads its files and writes the module, whose ports have the names of the pin file.
 pub(crate) fn write_named<H: Host>(
     alloc: Global,
     request: Request<'_>,

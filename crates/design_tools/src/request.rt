@@ -134,7 +134,7 @@ fn inputs_wanted(used: bool) -> LutInputs
     }
 }
 
-// The pin file and its package, where both are given or neither is.
+// The pin file and its package, if both are given (`Some(Some(..))`) or neither is (`Some(None)`).
 fn pins_wanted<'a>(
     file: Option<&'a str>,
     package_name: Option<&'a str>,
@@ -148,7 +148,7 @@ fn pins_wanted<'a>(
     }
 }
 
-// What the arguments ask for by what was found in them: the name has to be one, and there has to be a database.
+// The request, from what was found in the arguments: the name must be one, there must be a database, and no pin file without a package.
 fn wanted<'a>(
     used: bool,
     name: Option<ModuleName<'a>>,
@@ -173,7 +173,7 @@ fn wanted<'a>(
     }
 }
 
-// What was found in the arguments asks for.
+// The request of the arguments, or `None` if they aren't taken.
 pub(crate) fn request_in<'a>(matches: &ArgMatches<'a>) -> Option<Request<'a>>
     ensures { vlog_task_for result ≡ vlog_task_by (rows_of (found_of matches.now)) }
 {

@@ -1,4 +1,4 @@
-// `icebox_vlog`: the module of an image.
+// `icebox_vlog`: writes the module of an image.
 ghost use Rattle.std.specs.Prelude.{◌≡◌, [], ℕ, Bool, List, map, string_bytes, IfOk, IfErr, Some};
 ghost use Rattle.ice_image.specs.Configuration.{Configuration};
 ghost use Rattle.ice_image.specs.Either.{configuration_of};
@@ -33,8 +33,8 @@ use tool_run::{Host, Job, Load, PieceTool, Stop};
 use vlog_emit::emit;
 use vlog_text::print;
 
-/// Writes the module of a database and an image, with a name. LUTs read these inputs. The image is read under the layouts of a file
-/// that comes first where one is named.
+/// Writes the module of a database and an image under a name. LUTs read these inputs. If a layout file is named, it comes first, and the
+/// image is read under its layouts.
 #[derive(Clone, Copy, Debug, PartialEq, Eq)]
 pub(crate) struct Writing<'a> {
     /// Whether a layout file comes first.
@@ -75,7 +75,7 @@ impl<'a> PieceTool for Writing<'a> {
     }
 }
 
-// The module of the database and the image, after the last piece of both.
+// The module of the database and the image. Called after the last piece of the image.
 fn written_after(
     alloc: Global,
     inputs: LutInputs,
@@ -122,7 +122,7 @@ fn module_text(alloc: Global, design: &Design, name: &[u8]) -> Result<Vec<u8>, A
     print(alloc, &module)
 }
 
-// Writes by the files of a request, without a pin file.
+// Does a request without a pin file: loads its files and writes the module.
 fn write_plain<H: Host>(alloc: Global, request: Request<'_>, host: &mut H) -> u8
     ensures { Does H.outside (write_task request.entry.inputs request.entry.name.text.now (text_of request.entry.layout) request.entry.db.now (text_of request.entry.image)) result (H.scene host.old) (H.scene host.new) }
 {
@@ -153,7 +153,7 @@ fn write_plain<H: Host>(alloc: Global, request: Request<'_>, host: &mut H) -> u8
     host.perform_in_pieces(alloc, &tool, &job)
 }
 
-// Writes by the files of a request.
+// Does a request: loads its files and writes the module.
 fn write_files<H: Host>(alloc: Global, request: Request<'_>, host: &mut H) -> u8
     ensures { Does H.outside (vlog_task_for (Some request.entry)) result (H.scene host.old) (H.scene host.new) }
 {
@@ -200,7 +200,7 @@ impl CommandLine for IceboxVlog {
     ghost speaks = { vlog-speaks };
 }
 
-/// Runs `icebox_vlog` with these arguments, of which the first is its name.
+/// Runs `icebox_vlog` with these arguments, the first of which is its name, and answers the exit status.
 pub fn run_icebox_vlog<H: Host>(alloc: Global, args: &[String], host: &mut H) -> u8
     ensures does { Does H.outside (vlog_outcome (map string_bytes args.now)) result (H.scene host.old) (H.scene host.new) }
     ensures fabric { PromisesFabric H.outside (map string_bytes args.now) result (H.scene host.old) (H.scene host.new) }

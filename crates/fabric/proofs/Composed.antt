@@ -60,7 +60,7 @@ module _ (inputs : LutInputs) (db : Database) (image : Configuration) where
     rams = rams;
   }
 
-  -- what is kept is a design, where nothing is wrong
+  -- what is kept is a design, if nothing is wrong
   pub design-of : IsFit db → (fabric_with inputs db image).nets ≤ 4294967295 → AreTaken db image → fabric_fault image.layout.device (fabric_with inputs db image) ≡ None
       → (design : Kept) → IsKeptOf (fabric_with inputs db image) design → IsDesignOf db image design
   unfolding fabric_with

@@ -84,7 +84,7 @@ drivers-evidence fabric apart net first second is =
 abbrev user_of : User → ℕ → User
 user_of one net = record { x = one.x; y = one.y; user = one.user; net = Some net }
 
--- each chain of a fabric comes to its end
+-- each clock chain of a fabric leads to its end
 abbrev HaveEnds : Fabric → Type 0
 HaveEnds fabric = (net : ℕ) → LeadsTo fabric (class_of fabric.joins net) (clock_end fabric net)
 

@@ -1,6 +1,6 @@
 -- lists with their places, lists over tiles, and lists of parts of one length
 pub mod Lists
--- a cause of the parts is the cause of the whole, where nothing before it is wrong
+-- a cause of the parts is the cause of the whole, if nothing before it is wrong
 pub mod Refused
 -- the buffers at the places of those that are on are the buffers that are on
 pub mod Buffers

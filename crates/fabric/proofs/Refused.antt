@@ -1,4 +1,4 @@
--- A cause of the parts is the cause of the whole, where nothing before it is wrong.
+-- A cause of the parts is the cause of the whole, if nothing before it is wrong.
 use Rattle.std.proofs.Common.{◌≡◌, [], refl, sym, subst, ◌∙◌}
 use Rattle.std.specs.Prelude.{◌↔◌, Option, Some, None, Result, Ok, Err, IfErr, OnOk}
 use Rattle.std.specs.Result.{IsErrAnd}
@@ -47,11 +47,11 @@ module _ (inputs : LutInputs) (db : Database) (image : Configuration) where
       rams-refuse : (cause : Fault) → rams_fault db image ≡ Some cause → design_fault inputs db image ≡ Some cause
       rams-refuse cause is = behind-device ∙ rw (pins-taken, is) refl
 
-  -- the fault of the whole is that of the fabric, where the parts are taken
+  -- the fault of the whole is that of the fabric, if the parts are taken
   pub fabric-left : AreTaken db image → design_fault inputs db image ≡ fabric_fault image.layout.device (fabric_with inputs db image)
   fabric-left taken = behind-device taken.device ∙ rw (taken.pins, taken.rams) refl
 
-  -- so nothing is wrong with the whole where nothing is wrong with the fabric
+  -- so nothing is wrong with the whole if nothing is wrong with the fabric
   pub fabric-taken : AreTaken db image → fabric_fault db.chip.device (fabric_with inputs db image) ≡ None → design_fault inputs db image ≡ None
   fabric-taken taken none = fabric-left taken ∙ subst (λ d. fabric_fault d (fabric_with inputs db image) ≡ None) taken.device none
 

@@ -1,4 +1,4 @@
--- The refusals of the parts, as those of the whole.
+-- Each refusal of a part as a refusal of the whole.
 use Rattle.net_extract.specs.declared.fault.LinkFault.{LinkFault}
 use Rattle.net_extract.specs.declared.fault.LinkFault.TheVariants as links
 use Rattle.fabric_parts.specs.declared.io.fault.PinFault.{PinFault}

@@ -1,4 +1,4 @@
--- When a design is that of a database and an image.
+-- When a design is the design of a database and an image.
 use Rattle.std.specs.Prelude.{◌≡◌, ℕ, ◌^◌, ◌≤◌, ◌==◌, List, find, slice_get, option_map, Option, None}
 use Rattle.ice_image.specs.Configuration.{Configuration}
 use Rattle.chipdb_reader.specs.Database.{Database}
@@ -13,8 +13,8 @@ use Rattle.fabric_wiring.specs.declared.parts.Buffer.{Buffer}
 use Rattle.fabric.specs.declared.design_type.LinkEnds.{LinkEnds}
 use Rattle.fabric.specs.Kept.{Kept, IsKeptOf}
 
--- A design is of a database and an image where they have no fault and it keeps what they configure, where the LUTs read the inputs
--- that it tells.
+-- A design is the design of a database and an image if these two have no fault, and it keeps what they configure. Both hold for LUTs that
+-- read the inputs that the design says.
 pub record IsDesignOf (db : Database) (image : Configuration) (design : Kept) : Type 0 where
   pub fit : IsFit db
   pub few : db.chip.nets ≤ 2 ^ 64
@@ -25,7 +25,7 @@ pub record IsDesignOf (db : Database) (image : Configuration) (design : Kept) : 
 abbrev pub IsDesign : Kept → Type 0
 IsDesign design = (db : Database) × (image : Configuration) × IsDesignOf db image design
 
--- the pin at which a chain ends
+-- the pin at which a clock chain ends, if it ends at one
 abbrev pub end_pin : List Pin → ClockEnd → Option PinXy
 end_pin inputs (at_pin place) = option_map (λ pin. record { x = pin.x; y = pin.y; n = pin.n }) (slice_get inputs place)
 end_pin inputs undriven = None
@@ -35,6 +35,6 @@ end_pin inputs logic = None
 abbrev pub ends_of : Buffer → LinkEnds
 ends_of buffer = record { src = buffer.src; dst = buffer.dst }
 
--- the two nets of the buffer of a line, where it is on
+-- the two nets of the buffer of a line, if the buffer is on
 abbrev pub link_in : Kept → ℕ → Option LinkEnds
 link_in design line = option_map ends_of (find (λ buffer. buffer.line == line) design.parts.buffers.items)

@@ -18,11 +18,11 @@ use Rattle.fabric.specs.declared.fault.FabricFault.TheVariants.{Device, Pll, Pin
 
 -- ---- evidence
 
--- the first two drivers of each class differ
+-- the first two drivers of each class of joined nets differ
 abbrev pub HasDriversApart : Fabric → Type 0
 HasDriversApart fabric = (class : ℕ) (one two : Drive) (rest : List Drive) → drivers_of fabric class ≡ one ∷ two ∷ rest → one.driver ≢ two.driver
 
--- two different drivers of a class, the first two of all
+-- the first two drivers of a class of joined nets, which differ
 pub record AreTwoDrivers (fabric : Fabric) (class : ℕ) (first second : Driver) : Type 0 where
   pub one : Drive
   pub two : Drive
@@ -32,13 +32,14 @@ pub record AreTwoDrivers (fabric : Fabric) (class : ℕ) (first second : Driver)
   pub second_is : two.driver ≡ second
   pub differ : first ≢ second
 
--- A cycle that begins with a class: each class depends on the next, and the last one on the first. No cycle has a lesser class.
+-- A combinational cycle that begins with a class of joined nets: each class depends on the next, and the last one on the first. No cycle
+-- has a lesser class.
 pub record IsCycleFrom (fabric : Fabric) (class : ℕ) (cycle : List ℕ) : Type 0 where
   pub is_cycle : IsCycle (wiring_of fabric) cycle
   pub begins : first_of cycle ≡ Some class
   pub least : (lesser : ℕ) (rest : List ℕ) → lesser < class → IsCycle (wiring_of fabric) (lesser ∷ rest) → ⊥
 
--- a user of a clock whose chain leads to another driver than a pin
+-- a user of a clock whose clock chain leads to another driver than a pin
 pub record IsUnclocked (device : DeviceName) (fabric : Fabric) (x y : ℕ) (user : ClockUser) (net : ℕ) : Type 0 where
   pub there : Contains (users_of device fabric) (record { x = x; y = y; user = user; net = Some net })
   pub ends : clock_end fabric net ≡ logic
@@ -59,7 +60,7 @@ IsCause device fabric fault (Memory failed) = Unit {0}
 
 -- ---- what is taken
 
--- the devices are one, and pins and RAMs have no fault
+-- the devices are the same, and pins and RAMs have no fault
 pub record AreTaken (db : Database) (image : Configuration) : Type 0 where
   pub device : db.chip.device ≡ image.layout.device
   pub pins : pins_fault db image ≡ None

@@ -1,4 +1,4 @@
--- What is kept of a design, and when it is that of a fabric.
+-- What is kept of a design, and when it is the design of a fabric.
 use Rattle.std.specs.Prelude.{◌≡◌, ℕ, ◌+◌, ◌*◌, ◌<◌, List, [], length, map, get_or}
 use Rattle.bit_plane.specs.BitList.{word_of}
 use Rattle.net_extract.specs.declared.pin.Pin.{Pin}
@@ -13,8 +13,8 @@ use Rattle.fabric_wiring.specs.Ends.{AreEndsOf}
 use Rattle.fabric_wiring.specs.declared.output_pins.Output.{Output}
 use Rattle.fabric_wiring.specs.Outputs.{output_of}
 
--- the parts of a fabric, its input pins, its outputs and its drivers, the order in which classes are written, where the chain from
--- each class ends, and the start words of the used RAMs, 256 for each
+-- the parts of a fabric, its input pins, its outputs and its drivers, the write order of its classes of joined nets (a topological order of
+-- the combinational logic), where the clock chain from each class ends, and the start words of the used RAMs, 256 for each
 pub record Kept : Type 0 where
   pub parts : Parts
   pub inputs : List Pin
@@ -24,16 +24,16 @@ pub record Kept : Type 0 where
   pub ends : List ClockEnd
   pub words : List ℕ
 
--- a start word of the used RAM at a place
+-- a start word of the used RAM with an index
 abbrev pub word_in : List ℕ → ℕ → ℕ → ℕ
 word_in words ram word = get_or words (ram * 256 + word) 0
 
--- the words are those of a fabric
+-- the words are the start words of the used RAMs of a fabric
 pub record AreWordsOf (fabric : Fabric) (words : List ℕ) : Type 0 where
   pub count : length words ≡ length fabric.rams * 256
   pub each : (ram word : ℕ) → ram < length fabric.rams → word < 256 → word_in words ram word ≡ word_of (get_or (get_or fabric.start ram []) word [])
 
--- all of it is that of a fabric
+-- all that is kept belongs to a fabric
 pub record IsKeptOf (fabric : Fabric) (design : Kept) : Type 0 where
   pub parts : ArePartsOf fabric design.parts
   pub inputs : design.inputs ≡ inputs_of fabric

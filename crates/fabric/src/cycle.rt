@@ -1,9 +1,10 @@
-// A cycle of classes.
+// A cycle of classes of joined nets.
 ghost use Rattle.std.specs.Prelude.{◌≡◌};
 
 use std::marker::Model;
 
-/// A cycle of classes, each named by its least net. Each class depends on the next, and the last one on the first.
+/// A combinational cycle of classes of joined nets, each named by its least net. Each class depends on the next, and the last one on the
+/// first.
 #[derive(Drop)]
 pub struct Cycle {
     pub(crate) nets: Vec<u32>,
@@ -18,7 +19,7 @@ impl Model for Cycle {
 }
 
 impl Cycle {
-    /// The names of the classes. It takes no memory.
+    /// The classes of joined nets on the cycle, each by its least net. It allocates no memory.
     pub fn nets(&self) -> &[u32]
         ensures { result.now ≡ self.now }
     {

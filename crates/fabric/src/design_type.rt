@@ -22,10 +22,10 @@ pub struct LinkEnds {
     pub dst: u32,
 }
 
-/// What a database and an image configure, where they have no fault.
+/// What a database and an image configure, if they have no fault.
 ///
-/// Contracts see what is kept. It is the design of a database and an image where `IsDesignOf` says so, and each design is one of at
-/// least one database and image. No call takes memory.
+/// Contracts see what is kept. `IsDesignOf` says of which database and image it is the design. Each design is the design of at least one
+/// database and image. No call allocates memory.
 #[derive(Drop)]
 pub struct Design {
     parts: Parts,
@@ -48,7 +48,7 @@ impl Model for Design {
     ghost invariant = { λ design. IsDesign (record { parts = design.parts; inputs = design.inputs.items; outputs = design.outputs.items; drivers = design.drivers; order = design.order.items; ends = design.ends.items; words = design.words.items }) };
 }
 
-/// The two nets of the buffer of a line, where there is one.
+/// The two nets of the buffer of a line, or `None` if that buffer isn't on.
 fn ends_of_line(buffers: &[Buffer], line: u32) -> Option<LinkEnds>
     ensures { result ≡ option_map ends_of (find (λ buffer. buffer.line == line) buffers.now) }
 {
@@ -102,7 +102,7 @@ impl Design {
         &self.inputs
     }
 
-    /// The outputs of the output pins, in their order. A pin that can be switched off has two, and the second tells whether it is on.
+    /// The outputs of the output pins, in the order of the pins. A tri-state pin has two: its value, then its output enable.
     pub fn outputs(&self) -> &[Output]
         ensures outputs { result.now ≡ self.now.outputs }
         ensures design { IsDesign self.now }
@@ -125,7 +125,7 @@ impl Design {
         &self.parts.lcs
     }
 
-    /// The registers: the flip-flops of the cells, in their order, then those of pins, by tile and number.
+    /// The registers: the flip-flops of the cells, in the order of the cells, then the registers of pins, by tile and number.
     pub fn registers(&self) -> &[Register]
         ensures registers { result.now ≡ self.now.parts.registers.items }
         ensures design { IsDesign self.now }
@@ -148,7 +148,7 @@ impl Design {
         &self.parts.rams
     }
 
-    /// The nets of globals, by global and net.
+    /// The nets of global networks, by network and net.
     pub fn globals(&self) -> &[GlobalNet]
         ensures { result.now ≡ self.now.parts.globals.items }
     {
@@ -163,7 +163,7 @@ impl Design {
         self.drivers.len()
     }
 
-    /// The class of a net of the database: the least of the nets that are joined to it.
+    /// The class of joined nets that a net of the database belongs to, named by its least net.
     pub fn class_of(&self, net: u32) -> u32
         requires { net < length self.now.drivers.places }
         ensures { result ≡ class_in self.now.parts.links net }
@@ -171,7 +171,8 @@ impl Design {
         self.parts.links.class_of(net)
     }
 
-    /// The driver of a class and how it makes its value. A number that names no class has none.
+    /// The driver of a class of joined nets and how it makes its value. It is `None` if the class has no driver, or if no class has this
+    /// number.
     pub fn drive(&self, class: u32) -> Option<Drive>
         ensures { result ≡ driver_in self.now.drivers class }
     {
@@ -182,15 +183,15 @@ impl Design {
         }
     }
 
-    /// The driver of a class. A number that names no class has none.
+    /// The driver of a class of joined nets. It is `None` if the class has no driver, or if no class has this number.
     pub fn driver(&self, class: u32) -> Option<Driver>
         ensures { result ≡ option_map (λ drive. drive.driver) (driver_in self.now.drivers class) }
     {
         self.drive(class).map(|drive| drive.driver)
     }
 
-    /// The order in which classes with a driver are written: the next one is the least class whose read classes with a driver are
-    /// all written.
+    /// The order in which the classes of joined nets with a driver are written: a topological order of the combinational logic. The next
+    /// class is always the least one whose fan-in is written, apart from classes without a driver.
     pub fn order(&self) -> &[u32]
         ensures order { result.now ≡ self.now.order }
         ensures design { IsDesign self.now }
@@ -198,7 +199,7 @@ impl Design {
         &self.order
     }
 
-    /// Where the chain of a clock net of the database ends.
+    /// Where the clock chain from a net of the database ends.
     pub fn clock_end(&self, net: u32) -> ClockEnd
         requires { net < length self.now.drivers.places }
         ensures { end_of result ≡ end_in self.now.ends (class_in self.now.parts.links net) }
@@ -210,7 +211,7 @@ impl Design {
             .unwrap_or(ClockEnd::Undriven)
     }
 
-    /// The pin that is the clock of a net of the database, where its chain ends at one.
+    /// The pin at which the clock chain from a net of the database ends, or `None` if it ends elsewhere.
     pub fn clock(&self, net: u32) -> Option<PinXy>
         requires { net < length self.now.drivers.places }
         ensures { result ≡ end_pin self.now.inputs (end_in self.now.ends (class_in self.now.parts.links net)) }
@@ -243,7 +244,7 @@ impl Design {
         ends_of_line(&self.parts.buffers, line).unwrap()
     }
 
-    /// A start word of the used RAM at a place.
+    /// A start word of the used RAM with that index.
     pub fn start_word(&self, ram: usize, word: u8) -> u16
         requires { ram < length self.now.parts.rams.items }
         ensures { result ≡ word_in self.now.words ram word }

@@ -7,8 +7,9 @@ use fabric_wiring::DriverFault;
 use net_extract::{ClockUser, Driver, LinkFault};
 use std::alloc::AllocError;
 
-/// Why a database and an image aren't taken: the first cause that holds, in the order below, with the least that has it. Tiles go
-/// by rows, then by columns; a class of nets is named by its least net, and a RAM by its lower tile.
+/// Why a database and an image aren't taken: the first cause that holds, in the order below, with the first tile, pin, class of joined nets
+/// or clock user that has it. Tiles are ordered by row, then by column. A class of joined nets is named by its least net, and a RAM by its
+/// lower tile.
 #[derive(Drop)]
 pub enum FabricFault {
     /// They are for different devices.
@@ -18,30 +19,30 @@ pub enum FabricFault {
         x: u8,
         y: u8,
     },
-    /// Pin `pio` of the io tile at (x, y), whose type is `pintype`, isn't taken.
+    /// Pin `pio` of the io tile at (x, y) isn't taken. Its PIN_TYPE is `pintype`.
     PinMode {
         x: u8,
         y: u8,
         pio: u8,
         pintype: u8,
     },
-    /// The RAM at (x, y) passes on its address.
+    /// The RAM at (x, y) is cascaded.
     Cascade {
         x: u8,
         y: u8,
     },
-    /// The class `net` has two drivers or more, of which these are the first.
+    /// The class of joined nets `net` has two drivers or more. These are the first two.
     TwoDrivers {
         net: u32,
         first: Driver,
         second: Driver,
     },
-    /// The class `net` lies on this cycle, which begins with it.
+    /// The class of joined nets `net` lies on this combinational cycle, which begins with it.
     Loop {
         net: u32,
         cycle: Cycle,
     },
-    /// The clock of a user at the tile at (x, y), which is the net `net`, comes from another driver than a pin.
+    /// The clock of a user at the tile at (x, y), on the net `net`, comes from another driver than a pin.
     Clock {
         x: u8,
         y: u8,

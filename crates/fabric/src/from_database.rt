@@ -26,11 +26,23 @@ use std::alloc::Global;
 /// Finds the design of a database and an image. The LUTs read all of their inputs.
 ///
 /// For each state and all values of the input pins there is exactly one list of net values that is consistent with them, and for each
-/// list of events exactly one run, in each entry of which the clock of a register or RAM port has the value of its pin, or is 0 where
-/// no driver gives it one.
+/// list of events exactly one run. In each entry of that run the clock of a register or RAM port has the value of its pin, or is 0 if it
+/// has no driver.
 ///
 /// # Errors
-/// The first cause why the two aren't taken, in the order of [`FabricFault`], with the least that has it.
+/// The first cause why the two aren't taken, in the order of [`FabricFault`], with the first tile, pin, class of joined nets or clock user
+/// that has it. `FabricFault::Memory` if memory is out, in place of any other answer.
+///
+/// # Example
+/// ```ignore
+/// let db = chipdb_reader::read(alloc, db_bytes)?;
+/// let file = asc_text::read(alloc, asc_bytes)?;
+/// match fabric::design(alloc, &db, &file.image) {
+///     Ok(design) => use_cells(design.lcs()),
+///     Err(FabricFault::Loop { net, cycle }) => tell_cycle(net, cycle.nets()),
+///     Err(fault) => tell_fault(&fault),
+/// }
+/// ```
 pub fn design(alloc: Global, db: &ChipDb, image: &AnyImage) -> Result<Design, FabricFault>
     ensures design { IfOk result (IsDesignOf (database_in db.now) (configuration_of image.now)) }
     ensures inputs { IfOk result (λ design. design.parts.lut_inputs ≡ read.All) }
@@ -46,11 +58,20 @@ pub fn design(alloc: Global, db: &ChipDb, image: &AnyImage) -> Result<Design, Fa
 
 /// Finds the design of a database and an image whose LUTs read these inputs.
 ///
-/// Where they read only those that they use, a LUT doesn't depend on what comes to another of its inputs: more is taken, since such an
-/// input closes no cycle. The values of nets, the runs and the clocks are still those of the fabric whose LUTs read all inputs.
+/// If LUTs read only the inputs that they use, a LUT doesn't depend on its other inputs. So more designs are taken, since an input that
+/// isn't used closes no cycle. The values of nets, the runs and the clocks are still those of the fabric whose LUTs read all inputs.
 ///
 /// # Errors
-/// As [`design`]; a cycle is one of LUTs that read these inputs.
+/// As for [`design`]. A cycle is one of the fabric whose LUTs read these inputs.
+///
+/// # Example
+/// ```ignore
+/// // A cycle through an input that its LUT doesn't use is no cycle here.
+/// let design = fabric::design_with(alloc, &db, &image, LutInputs::Used)?;
+/// for class in design.order() {
+///     write_wire(*class, design.drive(*class));
+/// }
+/// ```
 pub fn design_with(
     alloc: Global,
     db: &ChipDb,

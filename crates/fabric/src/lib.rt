@@ -1,8 +1,8 @@
-//! The design of a database and an image: the configured fabric, with the driver of each class of nets, the order in which classes
-//! are written, and the pins of clocks.
+//! The design of a database and an image: the configured fabric, with the driver of each class of joined nets, the order in which the
+//! classes are written (a topological order of the combinational logic), and the pins of clocks.
 //!
-//! [`design`] finds it, or the first cause why the two aren't taken; [`design_with`] does so where LUTs may read only the inputs that they
-//! use. The calls of [`Design`] take no memory.
+//! [`design`] finds it, or the first cause why the two aren't taken. [`design_with`] does the same for LUTs that read all of their inputs,
+//! or only those that they use. The calls of [`Design`] allocate no memory.
 #![tactic(auto)]
 
 mod cycle;

@@ -1,4 +1,4 @@
-// The order in which classes are written.
+// The write order of classes of joined nets.
 ghost use Rattle.std.specs.Prelude.{◌≡◌, ◌≤◌, length, IfOk, IfErr, OnOk, None};
 ghost use Rattle.plane_map.specs.declared.device.DeviceName.{DeviceName};
 ghost use Rattle.net_extract.specs.Fabric.{Fabric};
@@ -16,7 +16,8 @@ use crate::fault::FabricFault;
 use fabric_wiring::{Drivers, Parts, least_cycle, wires, write_order};
 use std::alloc::Global;
 
-/// Finds the order in which the classes of a fabric are written, from what they read, or the least class that lies on a cycle.
+/// Finds the order in which the classes of joined nets of a fabric are written, from what they read. If there is none, it finds a cycle
+/// that begins with the least class on any cycle.
 fn order_of(alloc: Global, driven: &[bool], reads: &[Vec<u32>]) -> Result<Vec<u32>, FabricFault>
     ghost fabric: { Fabric }
     requires few { length driven.now ≤ u32.MAX }
@@ -35,13 +36,13 @@ fn order_of(alloc: Global, driven: &[bool], reads: &[Vec<u32>]) -> Result<Vec<u3
                 net: nets[0],
                 cycle: Cycle { nets },
             }),
-            // It never comes to this: where there is no order, some class lies on a cycle.
+            // This never happens: if there is no order, some class of joined nets lies on a cycle.
             None => Ok(Vec::new(alloc)),
         },
     }
 }
 
-/// Finds the order in which the classes of a fabric are written, or the least class that lies on a cycle.
+/// Finds the order in which the classes of joined nets of a fabric are written, or a cycle that begins with the least class on any cycle.
 pub(crate) fn order(
     alloc: Global,
     parts: &Parts,

@@ -20,7 +20,7 @@ use ice_image::AnyImage;
 use net_extract::{Lc, LutInputs, Pin, Register, links};
 use std::alloc::{AllocError, Global};
 
-/// Appends the buffer of the line at a place, where there is one.
+/// Appends the buffer of the line with an index, if there is one.
 fn append_buffer(
     buffers: &mut Vec<Buffer>,
     lines: &[LinkLine],
@@ -38,7 +38,7 @@ fn append_buffer(
     Ok(())
 }
 
-/// The buffers of a database at some of their places.
+/// The buffers of a database that have these indexes.
 fn buffers(alloc: Global, db: &ChipDb, places: &[u32]) -> Result<Vec<Buffer>, AllocError>
     ensures buffers { IfOk result (λ buffers. map buffer_of buffers.items ≡ buffers_at db.now.buffers places.now) }
     ensures fit { IsFit (database_in db.now) }
@@ -51,7 +51,7 @@ fn buffers(alloc: Global, db: &ChipDb, places: &[u32]) -> Result<Vec<Buffer>, Al
     Ok(buffers)
 }
 
-/// The registers: the flip-flops of cells, whose LUTs read these inputs, then those of pins.
+/// The registers: the flip-flops of cells, whose LUTs read these inputs, then the registers of pins.
 fn registers(
     alloc: Global,
     db: &ChipDb,

@@ -29,8 +29,8 @@ use ice_image::AnyImage;
 use plane_map::DeviceName;
 use std::alloc::Global;
 
-/// The drivers of a fabric, the order in which its classes are written, where the chain from each class ends, its outputs, and the start
-/// words of its RAMs.
+/// The drivers of a fabric, the order in which its classes of joined nets are written, where the clock chain from each class ends, its
+/// outputs, and the start words of its RAMs.
 #[derive(Drop)]
 pub(crate) struct Wired {
     pub(crate) drivers: Drivers,
@@ -40,7 +40,7 @@ pub(crate) struct Wired {
     pub(crate) words: Vec<u16>,
 }
 
-/// Whether each user of a clock has a pin for it, or the first that hasn't.
+/// Checks that no clock comes from another driver than a pin. If one does, the error tells the first user of such a clock.
 fn clocked(device: DeviceName, parts: &Parts, ends: &[ClockEnd]) -> Result<(), FabricFault>
     ghost fabric: { Fabric }
     requires parts { ArePartsOf fabric parts.now }

@@ -56,7 +56,7 @@ three-same x y n a b c of_x of_y of_n of_a of_b of_c same =
     let rest = cut-same (decimal y) (decimal b) (decimal n) (decimal c) (number-digits y of_y) (number-digits b of_b) cut.1 in
     (decimal_injective x a of_x of_a cut.0, decimal_injective y b of_y of_b rest.0, decimal_injective n c of_n of_c rest.1)
 
--- a tail behind a third number tells three numbers from others
+-- a tail after a third number tells three numbers from others
 pub three-tail : (x y n a b c : ℕ) (tail : List ℕ) → IsSmall x → IsSmall y → IsSmall n → IsSmall a → IsSmall b → three_numbers x y n ≡ three_numbers a b c ++ 95 ∷ tail → ⊥
 unfolding three_numbers
 three-tail x y n a b c tail of_x of_y of_n of_a of_b same =

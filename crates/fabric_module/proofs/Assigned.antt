@@ -1,4 +1,4 @@
--- Items that assign one name each may follow one another where their names are apart; the assigned outputs of a written module.
+-- Items that assign one name each may follow one another if their names are distinct; the assigned outputs of a written module.
 use Rattle.std.proofs.Common.{◌≡◌, ℕ, ◌≤◌, false, List, [], ◌∷◌, ◌++◌, map, fold, refl, sym, ap, ◌∙◌, subst, arith, append_assoc, append-nil}
 use Rattle.std.specs.Prelude.{All, flat_map, bytes_eq, not, IsTrue}
 use Rattle.std.specs.List.{list_any}

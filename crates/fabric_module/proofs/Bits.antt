@@ -97,7 +97,7 @@ module _ (word mask bits : List Bool) (few_mask : length mask ≡ 16) (few_bits 
       let no_bits : bit_at (word_of bits) k ≡ 0 = bit_at-word_of bits k ∙ ap bit_value (get_or_past bits k false (omega arith)) in
       masked-bit k ∙ (rw (no_mask, no_bits) (none-left (bit_at (word_of word) k) (bit_at (65535 - word_of mask) k)))
 
-  -- a bit stays where the mask is 1, and is new elsewhere
+  -- a bit stays if the mask is 1, and is new if it is 0
   pub masked-word : masked (word_of word) (word_of mask) (word_of bits) ≡ word_of (row_from 16 (chosen word mask bits))
   masked-word =
       same_from_bits (masked (word_of word) (word_of mask) (word_of bits)) (word_of (row_from 16 (chosen word mask bits))) (λ k.

@@ -330,7 +330,7 @@ module _ (m : Parts) (fabric : Fabric) (within : IsWithin fabric) (state : State
       ∙ (ap (λ e. edge && e && atom_value (readable before) (atom_or_0 fabric second)) (input-value true first)
       ∙ ap (λ e. edge && input_or_1 (is_connected fabric) (bit_in v) first && e) (input-value false second))
 
-  -- the word that is taken, where the memory has the words of the RAM
+  -- the word that is taken, if the memory has the words of the RAM
   taken-word : (ram : RamCell) (words : List (List Bool)) (old : ℕ) → IsPorted ram → value_in before.memories (memory_name ram) ≡ Some (map word_of words)
       → done given_value (read_by m fabric before event ram) old
       ≡ word_of (shown (is_connected fabric) (bit_in v) ram (word_at words (word_address (is_connected fabric) (bit_in v) ram.raddr)))

@@ -88,7 +88,7 @@ module _ {X W : Type 0} (way : X → Option W) where
         (pairs-all (λ y. bytes_eq (name x) (name y) ≡ false) (λ (pair : X × W). bytes_eq (name x) (name pair.0) ≡ false) (λ y at away is. away) xs apart.0)
         (pairs-apart xs apart.1)
 
--- an item by its clock, where there is one
+-- an item by its clock, if there is one
 clocked-optional : (clock : Option (List ℕ)) (item : List ℕ → Item) → clocked clock item ≡ optional clock item
 clocked-optional None item = refl
 clocked-optional (Some name) item = refl
@@ -132,7 +132,7 @@ knows-same fabric old new wired same knows =
 there-same : (old new : Scope) (name : List ℕ) (as_sort : Sort) → new.declared ≡ old.declared → IsThere old name as_sort → IsThere new name as_sort
 there-same old new name as_sort same there = there-more old new [] name as_sort (same ∙ sym (append-nil old.declared)) there
 
--- it stays where names are assigned
+-- it stays if names are assigned
 standing-after : (fabric : Fabric) (j k : ℕ) (assigned names : List (List ℕ)) (before after : Scope) → Standing fabric j assigned before → Assigned before after k names
     → Standing fabric k (assigned ++ names) after
 standing-after fabric j k assigned names before after standing more = record {

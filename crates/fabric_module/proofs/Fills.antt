@@ -21,7 +21,7 @@ module _ {X A I : Type 0} (name : X → List ℕ) (step : List (List ℕ × A) �
         ∙ (past-all xs entry (fold step rest (given x)) (All-tail (λ y. bytes_eq entry.0 (name y) ≡ false) x xs away)
         ∙ ap (λ list. entry ∷ list) (sym (fold-append step rest (given x) (flat_map given xs)))))
 
-    -- where the names are apart, each gets its new value
+    -- if the names are distinct, each gets its new value
     pub filled : (old : X → A) (xs : List X) → Apart name xs
         → fold step (map (λ x. (name x, old x)) xs) (flat_map given xs) ≡ map (λ x. (name x, new x (old x))) xs
     filled old [] apart = refl

@@ -67,7 +67,7 @@ module _ (fabric : Fabric) (pins : List Bool) (state : State) (before : ℕ → 
   words-stay : (place : ℕ × RamCell) → words_after (is_connected fabric) before before state place ≡ get_or state.words place.0 []
   words-stay place = rw (stay place.1.wneg place.1.wclk) refl
 
-  -- where no clock changes, the state stays
+  -- if no clock changes, the state stays
   state-stays : state_after fabric pins state before before ≡ state
   unfolding state_after
   state-stays =

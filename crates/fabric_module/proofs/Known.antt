@@ -56,7 +56,7 @@ module _ {X : Type 0} (name : X → List ℕ) (sort_of : X → Sort) where
           (rw (All-head (λ z. bytes_eq (name x) (name z) ≡ false) y ys away) (All-head (IsSorted name sort_of (with_sorts name sort_of xs)) y ys there))
           (all-away ys (All-tail (λ z. bytes_eq (name x) (name z) ≡ false) y ys away) (All-tail (IsSorted name sort_of (with_sorts name sort_of xs)) y ys there))
 
-  -- they stay where more stands before and behind them
+  -- they stay if there is more before and after them
   sorted-between : (front back : List (List ℕ × Sort)) (xs : List X) → Apart name xs → ((x : X) → NoName front (name x))
       → All (IsSorted name sort_of ((front ++ with_sorts name sort_of xs) ++ back)) xs
   sorted-between front back xs apart absent =
@@ -87,7 +87,7 @@ pub record Stands (fabric : Fabric) (scope : Scope) : Type 0 where
   pub reads : All (λ ram. IsThere scope (read_name ram) sort.Word) fabric.rams
   pub memories : All (λ ram. IsThere scope (memory_name ram) sort.Memory) fabric.rams
 
--- they stay where more is declared
+-- they stay if more is declared
 pub stands-more : (fabric : Fabric) (old new : Scope) (more : List (List ℕ × Sort)) → new.declared ≡ old.declared ++ more → Stands fabric old → Stands fabric new
 stands-more fabric old new more is stands =
     let moved = λ (name : List ℕ) (as_sort : Sort) (there : IsThere old name as_sort). there-more old new more name as_sort is there in record {

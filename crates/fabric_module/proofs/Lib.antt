@@ -12,14 +12,14 @@ pub mod Fills
 pub mod Computed
 -- the ports of a written module, inputs and outputs each by themselves
 pub mod Ports
--- the right side that is written for a driver has the driver's value, where pins, state and the wires that it reads have theirs
+-- the right-hand side that is written for a driver has the driver's value, if pins, state and the wires that it reads have theirs
 pub mod Rights
--- the wires, registers and outputs of a module once they have settled, where its inputs, registers and memories hold what the
+-- the wires, registers and outputs of a module once they have settled, if its inputs, registers and memories hold what the
 -- fabric's pins are and what its state was before it settled
 pub mod Settled
 -- the start of a written module: registers are 0, and memories have the words of the image
 pub mod Beginning
--- an event is the edge of a clocked item of the module exactly where it is an edge of the fabric's clock
+-- an event is an edge for a clocked item of the module exactly if it is an edge of the fabric's clock
 pub mod Ticks
 -- what registers and RAM ports become in the module at an event, before registers settle, is what they become in the fabric
 pub mod Clocked
@@ -30,9 +30,9 @@ pub mod Apart
 -- what holds of the fabric that a database and an image configure: its names are apart, its RAMs have all their ports and start
 -- words, and its drivers name parts that it has
 pub mod Configured
--- where a database and an image aren't refused, each pad that drives a global is an input pin
+-- if a database and an image aren't refused, each pad that drives a global network is an input pin
 pub mod Pads
--- where a database and an image aren't refused, the module that is written for them is their fabric, and it is well-formed
+-- if a database and an image aren't refused, the module that is written for them runs as their fabric, and it is well-formed
 pub mod Design
 -- the law
 pub mod IsFabric
@@ -52,9 +52,9 @@ pub mod Used
 pub mod Readings
 -- the wires of a written module may stand after its state, in the order of their classes
 pub mod Wired
--- items that assign one name each may follow one another where their names are apart; the assigned outputs of a written module
+-- items that assign one name each may follow one another if their names are distinct; the assigned outputs of a written module
 pub mod Assigned
--- the items of registers and RAM ports may stand where what they use is declared and what they assign isn't assigned yet
+-- the items of registers and RAM ports are allowed once what they use is declared and as long as what they assign isn't assigned yet
 pub mod Ticking
 -- the start words of a RAM may stand at the end of a written module
 pub mod Starts

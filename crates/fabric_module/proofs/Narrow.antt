@@ -133,7 +133,7 @@ put-is mode high word bits value some few small sixteen at =
 
 -- ---- high parts
 
--- the number of three atoms that have the bits of a high part, and 0 where the mode has no such bit
+-- the number of three atoms that have the bits of a high part, and 0 if the mode has no such bit
 abbrev pub high_bit : {A : Type 0} → (A → Bool) → List A → A → ℕ → ℕ → Bool
 high_bit value ports missing mode k = if nat_lt k mode then value (get_or ports (8 + k) missing) else false
 

@@ -1,4 +1,4 @@
--- The right side that is written for a driver has the driver's value, where pins, state and the wires that it reads have theirs.
+-- The right-hand side that is written for a driver has the driver's value, if pins, state and the wires that it reads have theirs.
 use Rattle.std.proofs.Common.{◌≡◌, ℕ, zero, suc, ◌<◌, ◌≤◌, Bool, true, false, List, [], ◌∷◌, ◌++◌, length, get_or, refl, sym, ap, ◌∙◌, ◌⊎◌, inl, inr}
 use Rattle.std.specs.Prelude.{All, Contains, Option, Some, None, find, filter, option_to_list, ◌&&◌, if◌then◌else◌}
 use Rattle.std.proofs.lemmas.Bool.{cases_Bool}
@@ -128,7 +128,7 @@ module _ (fabric : Fabric) (within : IsWithin fabric) (state : State) (pins v : 
   still-bit net still = net-bit fabric within state pins v is net ∙ class-still fabric within state pins v (class_of fabric.joins net) still
 
   module _ (wired : ℕ → Bool) (from : Readable) (gives : Gives fabric state pins v wired from) where
-    -- the net, where there is one that is connected, has a wire with its value
+    -- the net, if there is one and it is connected, has a wire with its value
     abbrev IsWired : Option ℕ → Type 0
     IsWired net = (n : ℕ) → net ≡ Some n → is_connected fabric n ≡ true → wired (class_of fabric.joins n) ≡ true
 

@@ -1,4 +1,4 @@
--- The wires, registers and outputs of a module once they have settled, where its inputs, registers and memories hold what the fabric's
+-- The wires, registers and outputs of a module once they have settled, if its inputs, registers and memories hold what the fabric's
 -- pins are and what its state was before it settled.
 use Rattle.std.proofs.Common.{◌≡◌, ℕ, ◌^◌, ◌<◌, ◌≤◌, Bool, true, false, List, [], ◌∷◌, ◌++◌, length, map, get_or, fold, refl, sym, ap, ◌∙◌, subst, arith, inl, inr, append_assoc, append-nil}
 use Rattle.std.specs.Prelude.{All, Contains, Option, Some, None, flat_map, bytes_eq, codes, decimal}
@@ -150,7 +150,7 @@ settle-skips from (Write falling clock clock_enable enable memory address mask b
 settle-skips from (WriteNarrow falling clock clock_enable enable memory address pattern shift bits) away given = refl
 settle-skips from (Start memory k word) away given = refl
 
--- the items of a register set it where its wire is 1, and pass others
+-- the items of a register set it if its wire is 1, and leave others as they are
 module _ (fabric : Fabric) (from : Readable) where
   rest-own : (register : Register) (wire clock : Option (List ℕ)) (old : Bool) (rest : List (List ℕ × Bool))
       → fold (settle_step from) ((register_name register, old) ∷ rest) (items_by fabric register wire clock) ≡ (register_name register, unless_set from register wire old) ∷ rest
@@ -348,7 +348,7 @@ module _ (fabric : Fabric) (within : IsWithin fabric) (writable : IsWritable fab
 
     -- ---- outputs
 
-    -- where the state has settled, the atom of an output has its value
+    -- once the state has settled, the atom of an output has its value
     output-value : settled_bits fabric (bit_in v) state.bits ≡ state.bits → (rule : Rule) → IsOutputRule fabric rule
         → atom_value from_all (output_atom fabric rule) ≡ value_of (is_connected fabric) state pins (bit_in v) rule
     unfolding value_of

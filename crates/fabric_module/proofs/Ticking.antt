@@ -1,4 +1,4 @@
--- The clocked items of a written module may stand where what they use is declared and what they assign isn't assigned yet.
+-- The clocked items of a written module are allowed once what they use is declared and as long as what they assign isn't assigned yet.
 use Rattle.std.proofs.Common.{◌≡◌, ℕ, ◌+◌, ◌/◌, ◌<◌, ◌≤◌, Bool, true, false, List, [], ◌∷◌, ◌++◌, length, take, get_or, refl, ap, ◌∙◌, arith, inl, inr, append-nil}
 use Rattle.std.specs.Prelude.{All, Option, Some, None, flat_map, bytes_eq, nat_lt, ◌==◌}
 use Rattle.std.proofs.lemmas.List.{length-map, length-take-le}

@@ -1,4 +1,4 @@
--- An event is the edge of a clocked item of the module exactly where it is an edge of the fabric's clock.
+-- An event is an edge for a clocked item of the module exactly if it is an edge of the fabric's clock.
 use Rattle.std.proofs.Common.{◌≡◌, ◌≢◌, ℕ, zero, suc, ◌+◌, ◌<◌, Bool, true, false, List, [], ◌∷◌, length, map, get_or, set, refl, sym, ap, ◌∙◌, subst, arith, inl, inr, get_or-set_same, get_or-set_other, eq-eqb}
 use Rattle.std.specs.Prelude.{Option, Some, None, filter, flat_map, bytes_eq, not, ◌&&◌, ◌==◌, if◌then◌else◌}
 use Rattle.std.proofs.lemmas.Bool.{cases_Bool, eqb-true}
@@ -160,7 +160,7 @@ module _ (device : DeviceName) (fabric : Fabric) (taken : fabric_fault device fa
       sym none
   tick-end inverted net logic is good = absurd good
 
-  -- the module's clock ticks where the fabric's does
+  -- the module's clock has an edge if the fabric's has
   pub tick : (inverted : Bool) (clock : Option ℕ) → IsClocked fabric clock
       → clock_test (ports_of fabric) (module_event event) inverted (clock_name fabric clock) ≡ has_edge inverted clock (bit_in before.v) (bit_in after.v)
   unfolding clock_name

@@ -60,7 +60,7 @@ pub record Knows (fabric : Fabric) (scope : Scope) (wired : ℕ → Bool) : Type
   pub read : (place : ℕ) → place < length fabric.rams → IsThere scope (read_at fabric place) sort.Word
   pub wire : (class : ℕ) → wired class ≡ true → IsThere scope (wire_name class) sort.Wire
 
--- it stays where more is declared
+-- it stays if more is declared
 pub there-more : (old new : Scope) (more : List (List ℕ × Sort)) (name : List ℕ) (as_sort : Sort) → new.declared ≡ old.declared ++ more → IsThere old name as_sort → IsThere new name as_sort
 there-more old new more name as_sort is there = record {
   named = there.named;
@@ -97,7 +97,7 @@ module _ (fabric : Fabric) (wired : ℕ → Bool) where
         | inr away ↦ let never : None ≡ Some wire = rw away at is in absurd cc
       ]
 
-  -- the wire that sets a register at once is that of a class that the register's driver reads
+  -- the wire of a register's asynchronous set or reset is that of a class of joined nets that the register's driver reads
   pub setting-class : (place : ℕ) (register : Register) (wire : List ℕ) → ReadsWired (register_bit place register) → setting_wire fabric register ≡ Some wire
       → (class : ℕ) × (wire ≡ wire_name class) × (wired class ≡ true)
   unfolding nets_read

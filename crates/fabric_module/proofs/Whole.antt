@@ -77,7 +77,7 @@ module _ (fabric : Fabric) (within : IsWithin fabric) (writable : IsWritable fab
           started_is = wires-after.1.started_is ∙ left.started_is;
         }
 
-  -- ---- the items behind the wires
+  -- ---- the items after the wires
 
   starts-end : (scope : Scope) → Standing fabric 9 (after_writes fabric) scope → Grows scope (flat_map (start_items fabric) (numbered fabric.rams))
   starts-end scope standing =

@@ -16,15 +16,15 @@ use Rattle.net_extract.specs.Faults.{design_fault}
 use Rattle.fabric_module.specs.Written.{module_of}
 use Rattle.fabric_module.specs.Matching.{Matches, module_event}
 
--- The fabric of a database and an image has exactly one run for each list of events, and the module runs as it does that is written where
--- LUTs read these inputs: at the start and after each event the two hold the same values.
+-- The fabric of a database and an image has exactly one run for each list of events. The module that is written for LUTs that read these
+-- inputs runs as the fabric does: at the start and after each event the two hold the same values.
 pub record RunsAlike (inputs : LutInputs) (db : Database) (image : Configuration) (order name : List ℕ) : Type 0 where
   pub one_run : (events : List Event) → ExactlyOne (IsRun (fabric_of db image) events)
   pub alike : (events : List Event) (entries : List Entry) → IsRun (fabric_of db image) events entries
       → AllZip (Matches (fabric_of db image)) entries (module_run (module_of (fabric_with inputs db image) order name) (map module_event events))
 
--- Where a database and an image aren't refused, the module that is written for them in the write order, under any name, is
--- well-formed, and it runs as their fabric, whichever inputs LUTs read. What is read of a text is fit, and it has fewer nets.
+-- If a database and an image aren't refused, the module that is written for them in the write order, under any name, is well-formed, and it
+-- runs as their fabric, whichever inputs LUTs read. A database that was read from a text is fit, and has fewer nets than the bound.
 abbrev pub ModuleIsFabric : LutInputs → Database → Configuration → Type 0
 ModuleIsFabric inputs db image =
     IsFit db → db.chip.nets ≤ 2 ^ 64 → design_fault inputs db image ≡ None

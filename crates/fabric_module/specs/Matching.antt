@@ -13,20 +13,20 @@ use Rattle.net_extract.specs.Values.{bit_in}
 use Rattle.net_extract.specs.Steps.{Event, Entry}
 use Rattle.fabric_module.specs.Names.{port_name, output_name, register_name, read_name, memory_name, wire_name}
 
--- exactly these names, in this order, have these values
+-- exactly these names have values, in this order, and the values are these
 pub record HasValues {A : Type 0} (entries : List (List ℕ × A)) (names : List (List ℕ)) (values : List A) : Type 0 where
   pub named : names_of entries ≡ names
   pub valued : values_of entries ≡ values
 
--- exactly the classes with a driver have a wire, and each wire has the value of its class
+-- exactly the classes of joined nets with a driver have a wire, and each wire has the value of its class
 pub record HasWires (fabric : Fabric) (v : List Bool) (wires : List (List ℕ × Bool)) : Type 0 where
   pub each : (class : ℕ) → is_driven fabric class ≡ true → value_in wires (wire_name class) ≡ Some (bit_in v class)
   pub only : (wire : List ℕ × Bool) → Contains wires wire
       → (class : ℕ) × (is_driven fabric class ≡ true) × (wire.0 ≡ wire_name class) × (wire.1 ≡ bit_in v class)
 
--- An entry of a fabric and one of a module match, where the ports of input pins and those of outputs have these names: inputs have the
--- values of the pins and outputs those of the outputs, in the order of the ports, registers and memories those of the state, and wires
--- those of the nets.
+-- An entry of a fabric and an entry of a module match, if the ports of input pins and of outputs have these names: the module's inputs have
+-- the values of the pins, and its outputs the values of the outputs, in the order of the ports; its registers and memories have the values
+-- of the state, and its wires the values of the nets.
 pub record MatchesAs (input_name : Pin → List ℕ) (name_of : Output → List ℕ) (fabric : Fabric) (entry : Entry) (other : ModuleEntry) : Type 0 where
   pub inputs : HasValues other.inputs (map input_name (inputs_of fabric)) entry.pins
   pub outputs : HasValues other.outputs (map name_of (outputs_of fabric)) entry.outputs
@@ -35,10 +35,10 @@ pub record MatchesAs (input_name : Pin → List ℕ) (name_of : Output → List 
   pub memories : HasValues other.memories (map memory_name fabric.rams) (map (map word_of) entry.state.words)
   pub wires : HasWires fabric entry.v other.wires
 
--- so with the names of the module that is written for the fabric
+-- the same with the port names of the module that is written for the fabric
 abbrev pub Matches : Fabric → Entry → ModuleEntry → Type 0
 Matches fabric entry other = MatchesAs port_name output_name fabric entry other
 
--- the same event of a module
+-- an event of a fabric as an event of its module
 abbrev pub module_event : Event → ModuleEvent
 module_event event = record { pin = event.pin; bit = event.bit }

@@ -1,4 +1,4 @@
--- The names of a module that is written for a fabric.
+-- The names in a module that is written for a fabric.
 use Rattle.std.specs.Prelude.{ℕ, List, ◌++◌, codes, decimal, if◌then◌else◌}
 use Rattle.net_extract.specs.declared.driver.ClockUser.{ClockUser}
 use Rattle.net_extract.specs.declared.driver.ClockUser.TheVariants.{Cell, Input, Output, Read, Write}
@@ -19,7 +19,7 @@ three_numbers x y n = decimal x ++ (codes "_" ++ (decimal y ++ (codes "_" ++ dec
 unfoldable pub port_name : Pin → List ℕ
 port_name pin = codes "io_" ++ three_numbers pin.x pin.y pin.n
 
--- the port that tells whether a tri-state pin is switched on: `io_X_Y_N_en`
+-- the port that is the output enable of a tri-state pin: `io_X_Y_N_en`
 unfoldable pub enable_name : Pin → List ℕ
 enable_name pin = port_name pin ++ codes "_en"
 
@@ -27,7 +27,7 @@ enable_name pin = port_name pin ++ codes "_en"
 abbrev pub output_name : OutputPort → List ℕ
 output_name output = if output.enable then enable_name output.pin else port_name output.pin
 
--- the beginning of a register's name, by what it is; the ports of RAMs are no registers of one bit
+-- the beginning of a register's name, by what it is; the ports of RAMs aren't registers of one bit
 abbrev pub user_prefix : ClockUser → List ℕ
 user_prefix (Cell i) = codes "ff_"
 user_prefix (Input n) = codes "pi_"
@@ -35,7 +35,7 @@ user_prefix (Output n) = codes "po_"
 user_prefix Read = codes "ff_"
 user_prefix Write = codes "ff_"
 
--- its number in its tile
+-- the number of a register in its tile
 abbrev pub user_number : ClockUser → ℕ
 user_number (Cell i) = i
 user_number (Input n) = n
@@ -43,7 +43,7 @@ user_number (Output n) = n
 user_number Read = 0
 user_number Write = 0
 
--- a register: `ff_X_Y_I` for the flip-flop of a cell, `pi_X_Y_N` for that of an input pin, `po_X_Y_N` for that of an output pin
+-- a register: `ff_X_Y_I` for the flip-flop of a cell, `pi_X_Y_N` for the register of an input pin, `po_X_Y_N` for that of an output pin
 unfoldable pub register_name : Register → List ℕ
 register_name register = user_prefix register.user ++ three_numbers register.x register.y (user_number register.user)
 
@@ -55,6 +55,6 @@ read_name ram = codes "rd_" ++ two_numbers ram.x ram.y
 unfoldable pub memory_name : RamCell → List ℕ
 memory_name ram = codes "mem_" ++ two_numbers ram.x ram.y
 
--- the wire of a class: `n_K`
+-- the wire of a class of joined nets: `n_K`
 unfoldable pub wire_name : ℕ → List ℕ
 wire_name class = codes "n_" ++ decimal class

@@ -1,4 +1,4 @@
--- What is written for inputs and for drivers.
+-- What is written for inputs, and the right-hand sides that are written for drivers.
 use Rattle.std.specs.Prelude.{ℕ, ◌+◌, ◌/◌, nat_lt, Bool, true, false, List, [], ◌∷◌, map, get_or, Option, Some, None, if◌then◌else◌}
 use Rattle.rams_narrow.specs.Narrow.{share}
 use Rattle.vlog_module.specs.declared.atoms.Atom.{Atom}
@@ -21,16 +21,16 @@ use Rattle.fabric_module.specs.Names.{port_name, register_name, read_name, wire_
 
 -- ---- atoms
 
--- an input that isn't connected has its stated value; any other reads the wire of its class
+-- an unconnected input has its stated value; any other input reads the wire of its class of joined nets
 unfoldable pub input_atom : Fabric → Bool → Option ℕ → Atom
 input_atom fabric stated None = Bit stated
 input_atom fabric stated (Some net) = if is_connected fabric net then Whole (wire_name (class_of fabric.joins net)) else Bit stated
 
--- an input that is 0 where it isn't connected
+-- an input that is 0 if it is unconnected
 abbrev pub atom_or_0 : Fabric → Option ℕ → Atom
 atom_or_0 fabric net = input_atom fabric false net
 
--- an input that is 1 where it isn't connected
+-- an input that is 1 if it is unconnected
 abbrev pub atom_or_1 : Fabric → Option ℕ → Atom
 atom_or_1 fabric net = input_atom fabric true net
 
@@ -38,13 +38,13 @@ atom_or_1 fabric net = input_atom fabric true net
 abbrev pub port_atoms : Fabric → List (Option ℕ) → List Atom
 port_atoms fabric ports = map (atom_or_0 fabric) ports
 
--- ---- names by their places
+-- ---- names by indexes
 
--- the port of the input pin at a place
+-- the port of the input pin with an index
 abbrev pub input_name : Fabric → ℕ → List ℕ
 input_name fabric place = get_or (map port_name (inputs_of fabric)) place []
 
--- the read register of the RAM at a place
+-- the read register of the used RAM with an index
 abbrev pub read_at : Fabric → ℕ → List ℕ
 read_at fabric place = get_or (map read_name fabric.rams) place []
 
@@ -66,37 +66,37 @@ lut_of fabric table = record {
   ins = table_atom fabric table 0 ∷ table_atom fabric table 1 ∷ table_atom fabric table 2 ∷ table_atom fabric table 3 ∷ [];
 }
 
--- ---- resets that act at once
+-- ---- asynchronous set and reset
 
--- the wire of a net that may be missing, where it is driven
+-- the wire of a net, or none if the net is missing or has no driver
 abbrev pub driven_wire : Fabric → Option ℕ → Option (List ℕ)
 driven_wire fabric None = None
 driven_wire fabric (Some net) = if is_connected fabric net then Some (wire_name (class_of fabric.joins net)) else None
 
--- the wire that sets a register at once; a reset that waits for the clock, or isn't connected, has none
+-- the wire of a register's asynchronous set or reset; none if that is synchronous or unconnected
 abbrev pub setting_wire : Fabric → Register → Option (List ℕ)
 setting_wire fabric register = if register.at_once then driven_wire fabric register.sr else None
 
--- the value of a register that a wire may set at once
+-- the value of a register: while a wire sets or resets it asynchronously, it is the set bit, else what the register holds
 abbrev pub register_right : Register → Option (List ℕ) → Right
 register_right register (Some wire) = Choose wire register.«set» (register_name register)
 register_right register None = RightWhole (register_name register)
 
 -- ---- narrow words
 
--- the word of a mode: its bits are 1 where a narrow word of high part 0 has bits
+-- the word of a mode whose bits are 1 at the bits of the narrow word with high part 0, and 0 elsewhere
 abbrev pub pattern_of : ℕ → ℕ
 pattern_of mode = get_or (65535 ∷ 21845 ∷ 4369 ∷ 257 ∷ []) mode 0
 
--- a bit of the high part of an address, and 0 where the mode has no such bit
+-- a bit of the high part of an address; 0 if the mode has no such bit
 abbrev pub shift_atom : Fabric → ℕ → List (Option ℕ) → ℕ → Atom
 shift_atom fabric mode ports k = if nat_lt k mode then atom_or_0 fabric (get_or ports (8 + k) None) else Bit false
 
--- the high part of an address in three atoms, the lowest first
+-- the high part of an address as three atoms, the lowest first
 abbrev pub shift_atoms : Fabric → ℕ → List (Option ℕ) → List Atom
 shift_atoms fabric mode ports = shift_atom fabric mode ports 0 ∷ shift_atom fabric mode ports 1 ∷ shift_atom fabric mode ports 2 ∷ []
 
--- what is written in a mode: place j has the data for the bit of a narrow word that stands there
+-- the write data in a mode: atom j is the data for the bit of a narrow word that lies at bit j of a word
 abbrev pub data_atoms : Fabric → ℕ → List (Option ℕ) → List Atom
 data_atoms fabric mode ports = each_below 16 (λ j. atom_or_0 fabric (get_or ports (data_bit mode (j / share mode)) None))
 
@@ -109,15 +109,15 @@ output_atom fabric (register_bit place register) = Whole (register_name register
 output_atom fabric (constant bit) = Bit bit
 output_atom fabric _ = Bit false
 
--- ---- right sides
+-- ---- right-hand sides
 
--- an atom alone
+-- an atom as a right-hand side
 abbrev pub right_alone : Atom → Right
 right_alone (Bit bit) = RightBit bit
 right_alone (Whole name) = RightWhole name
 right_alone (Part name k) = RightPart name k
 
--- the right side that has a driver's value
+-- the right-hand side that has a driver's value
 unfoldable pub right_of : Fabric → Rule → Right
 right_of fabric (pin_bit place) = RightWhole (input_name fabric place)
 right_of fabric (constant bit) = RightBit bit
@@ -128,11 +128,11 @@ right_of fabric (register_bit place register) = register_right register (setting
 right_of fabric (read_bit ram bit) = RightPart (read_at fabric ram) bit
 right_of fabric (copied net) = right_alone (atom_or_0 fabric (Some net))
 
--- the right side by the drivers of a class; a class that is written has one
+-- the right-hand side for the drivers of a class of joined nets; a class that is written has exactly one
 abbrev pub right_by : Fabric → List Drive → Right
 right_by fabric [] = RightBit false
 right_by fabric (drive ∷ drives) = right_of fabric drive.rule
 
--- the right side of the wire of a class
+-- the right-hand side of the wire of a class of joined nets
 unfoldable pub class_right : Fabric → ℕ → Right
 class_right fabric class = right_by fabric (drivers_of fabric class)

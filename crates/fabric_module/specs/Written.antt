@@ -1,4 +1,4 @@
--- The module that is written for a fabric.
+-- The module that is written for a fabric: its ports and its items in their order.
 use Rattle.std.specs.Prelude.{ℕ, Bool, true, false, ◌==◌, List, [], ◌∷◌, ◌++◌, map, flat_map, get_or, take, Option, Some, None, if◌then◌else◌}
 use Rattle.bit_plane.specs.BitList.{word_of}
 use Rattle.vlog_module.specs.Parts.{Parts}
@@ -19,18 +19,18 @@ use Rattle.fabric_module.specs.Rights.{atom_or_0, atom_or_1, port_atoms, lut_of,
 
 -- ---- clocks
 
--- the port of the pin at which a chain ends
+-- the port of the pin at which a clock chain ends, if it ends at one
 abbrev pub end_name : Fabric → ClockEnd → Option (List ℕ)
 end_name fabric (at_pin place) = Some (input_name fabric place)
 end_name fabric undriven = None
 end_name fabric logic = None
 
--- the port that is the clock of a net; a clock that is no pin has none
+-- the port at which the clock chain of a clock net ends, if it ends at a pin
 unfoldable pub clock_name : Fabric → Option ℕ → Option (List ℕ)
 clock_name fabric None = None
 clock_name fabric (Some net) = end_name fabric (clock_end fabric net)
 
--- an item with that clock, where there is one
+-- an item with that clock, if there is a clock
 abbrev pub clocked : Option (List ℕ) → (List ℕ → Item) → List Item
 clocked None item = []
 clocked (Some clock) item = item clock ∷ []
@@ -40,7 +40,7 @@ clocked (Some clock) item = item clock ∷ []
 abbrev pub port_of : Pin → Port
 port_of pin = record { name = port_name pin; output = pin.output }
 
--- the port that tells whether a tri-state pin is switched on
+-- the output enable of a tri-state pin as a port
 abbrev pub enable_ports : Pin → List Port
 enable_ports pin = if is_tri_state pin then record { name = enable_name pin; output = true } ∷ [] else []
 
@@ -59,26 +59,26 @@ read_register ram = Word (read_name ram) 0
 abbrev pub ram_memory : RamCell → Item
 ram_memory ram = Memory (memory_name ram)
 
--- the wire of a class
+-- the wire of a class of joined nets
 abbrev pub class_wire : Fabric → ℕ → Item
 class_wire fabric class = Wire (wire_name class) (class_right fabric class)
 
--- an output has its value
+-- the assignment of an output
 abbrev pub output_assign : Fabric → Output → Item
 output_assign fabric output = Assign (output_name output) (output_atom fabric output.rule)
 
--- a register whose reset waits for the clock: by its enable, its reset and its table
+-- a register with a synchronous set or reset: its clock enable, its set or reset, and its LUT
 abbrev pub flip_item : Fabric → Register → List ℕ → Item
 flip_item fabric register clock =
     Flip register.neg clock (atom_or_1 fabric register.cen) (atom_or_0 fabric register.sr) register.«set» (register_name register)
     (lut_of fabric register.table)
 
--- a register that a wire sets at once, by its clock
+-- a register with an asynchronous set or reset, and a clock
 abbrev pub at_once_item : Fabric → Register → List ℕ → List ℕ → Item
 at_once_item fabric register wire clock =
     FlipAtOnce register.neg clock wire register.«set» (register_name register) (atom_or_1 fabric register.cen) (lut_of fabric register.table)
 
--- what a register is written as, by the wire that sets it at once and by its clock, each of which may be missing
+-- what a register is written as, by the wire of its asynchronous set or reset and by its clock, each of which may be missing
 abbrev pub items_by : Fabric → Register → Option (List ℕ) → Option (List ℕ) → List Item
 items_by fabric register (Some wire) (Some clock) = at_once_item fabric register wire clock ∷ []
 items_by fabric register (Some wire) None = SetAtOnce wire register.«set» (register_name register) ∷ []
@@ -122,7 +122,7 @@ start_items fabric place = each_below 256 (start_item place.1 (get_or fabric.sta
 
 -- ---- the module
 
--- the items: state, wires in the order of their classes, outputs, what clocks change, and start words
+-- the items: state, wires in the order of their classes of joined nets, outputs, what clocks change, and start words
 unfoldable pub items_of : Fabric → List ℕ → List Item
 items_of fabric order =
     map register_item fabric.registers
@@ -135,7 +135,7 @@ items_of fabric order =
     ++ (flat_map (write_items fabric) fabric.rams
     ++ flat_map (start_items fabric) (numbered fabric.rams))))))))
 
--- the module of a fabric, with its classes in an order and with a name
+-- the module of a fabric, with its classes of joined nets in an order, and with a name
 unfoldable pub module_of : Fabric → List ℕ → List ℕ → Parts
 module_of fabric order name = record {
   name = name;

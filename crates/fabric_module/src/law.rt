@@ -4,7 +4,8 @@ ghost use Rattle.chipdb_reader.specs.Database.{Database};
 ghost use Rattle.net_extract.specs.declared.lut_inputs.LutInputs.{LutInputs};
 ghost use Rattle.fabric_module.specs.Law.{ModuleIsFabric};
 
-/// The written module is the fabric, for every database and image, whichever inputs LUTs read. The call does nothing: its clause is the law.
+/// The written module runs as the fabric, for every database and image that aren't refused, whichever inputs LUTs read. The call does
+/// nothing: its clause is the law.
 pub fn module_is_fabric()
     ensures { (inputs : LutInputs) (db : Database) (image : Configuration) → ModuleIsFabric inputs db image }
 {}

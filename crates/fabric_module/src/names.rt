@@ -8,6 +8,9 @@ use std::alloc::{AllocError, Global};
 use vlog_module::Name;
 
 /// The name of a pin's port: `io_X_Y_N`.
+///
+/// # Errors
+/// `AllocError` if memory is out, and for no other cause.
 #[tactic(auto, unfolding(crate::specs::Names::port_name))]
 pub fn port_name(alloc: Global, pin: &Pin) -> Result<Name, AllocError>
     ensures { IfOk result (λ name. name ≡ port_name pin.now) }
@@ -17,7 +20,10 @@ pub fn port_name(alloc: Global, pin: &Pin) -> Result<Name, AllocError>
     Name::new(alloc, text.bytes())
 }
 
-/// The name of the port that tells whether a tri-state pin is switched on: `io_X_Y_N_en`.
+/// The name of the port that is the output enable of a tri-state pin: `io_X_Y_N_en`.
+///
+/// # Errors
+/// `AllocError` if memory is out, and for no other cause.
 #[tactic(auto, unfolding(crate::specs::Names::enable_name, crate::specs::Names::port_name))]
 pub fn enable_name(alloc: Global, pin: &Pin) -> Result<Name, AllocError>
     ensures { IfOk result (λ name. name ≡ enable_name pin.now) }
@@ -28,7 +34,10 @@ pub fn enable_name(alloc: Global, pin: &Pin) -> Result<Name, AllocError>
     Name::new(alloc, text.bytes())
 }
 
-/// The name of a register: `ff_X_Y_I`, `pi_X_Y_N` or `po_X_Y_N`.
+/// The name of a register: `ff_X_Y_I` for a cell, `pi_X_Y_N` for an input pin, `po_X_Y_N` for an output pin.
+///
+/// # Errors
+/// `AllocError` if memory is out, and for no other cause.
 #[tactic(auto, unfolding(crate::specs::Names::register_name))]
 pub fn register_name(alloc: Global, register: &Register) -> Result<Name, AllocError>
     ensures { IfOk result (λ name. name ≡ register_name register.now) }
@@ -38,7 +47,7 @@ pub fn register_name(alloc: Global, register: &Register) -> Result<Name, AllocEr
     Name::new(alloc, text.bytes())
 }
 
-/// The beginning of a register's name. The ports of RAMs are no registers of one bit.
+/// The beginning of a register's name. The ports of RAMs aren't registers of one bit.
 fn user_prefix(user: ClockUser) -> &'static [u8]
     ensures { result.now ≡ user_prefix user }
 {
@@ -61,6 +70,9 @@ fn user_number(user: ClockUser) -> u8
 }
 
 /// The name of the read register of a RAM: `rd_X_Y`.
+///
+/// # Errors
+/// `AllocError` if memory is out, and for no other cause.
 #[tactic(auto, unfolding(crate::specs::Names::read_name))]
 pub fn read_name(alloc: Global, ram: &RamCell) -> Result<Name, AllocError>
     ensures { IfOk result (λ name. name ≡ read_name ram.now) }
@@ -71,6 +83,9 @@ pub fn read_name(alloc: Global, ram: &RamCell) -> Result<Name, AllocError>
 }
 
 /// The name of the memory of a RAM: `mem_X_Y`.
+///
+/// # Errors
+/// `AllocError` if memory is out, and for no other cause.
 #[tactic(auto, unfolding(crate::specs::Names::memory_name))]
 pub fn memory_name(alloc: Global, ram: &RamCell) -> Result<Name, AllocError>
     ensures { IfOk result (λ name. name ≡ memory_name ram.now) }
@@ -80,7 +95,10 @@ pub fn memory_name(alloc: Global, ram: &RamCell) -> Result<Name, AllocError>
     Name::new(alloc, text.bytes())
 }
 
-/// The name of the wire of a class: `n_K`.
+/// The name of the wire of a class of joined nets: `n_K`.
+///
+/// # Errors
+/// `AllocError` if memory is out, and for no other cause.
 #[tactic(auto, unfolding(crate::specs::Names::wire_name))]
 pub fn wire_name(alloc: Global, class: u32) -> Result<Name, AllocError>
     ensures { IfOk result (λ name. name ≡ wire_name class) }
@@ -90,7 +108,7 @@ pub fn wire_name(alloc: Global, class: u32) -> Result<Name, AllocError>
     Name::new(alloc, text.bytes())
 }
 
-/// Two numbers behind a short text.
+/// Two numbers after a short text.
 #[tactic(auto, unfolding(crate::specs::Names::two_numbers))]
 fn two_numbers(before: &[u8], x: u8, y: u8) -> Text
     requires { length before.now ≤ 4 }
@@ -103,7 +121,7 @@ fn two_numbers(before: &[u8], x: u8, y: u8) -> Text
     text
 }
 
-/// Three numbers behind a short text.
+/// Three numbers after a short text.
 #[tactic(auto, unfolding(crate::specs::Names::three_numbers))]
 fn three_numbers(before: &[u8], x: u8, y: u8, n: u8) -> Text
     requires { length before.now ≤ 4 }

@@ -4,7 +4,7 @@ ghost use Rattle.std.specs.Prelude.{◌≡◌, ◌+◌, ◌≤◌, ◌++◌, Lis
 use itoa::Buffer;
 use std::marker::Model;
 
-/// A text of at most 20 bytes. It takes no memory.
+/// A text of at most 20 bytes. It allocates no memory.
 #[derive(Drop)]
 pub(crate) struct Text {
     bytes: [u8; 20],
@@ -33,7 +33,7 @@ impl Text {
         text
     }
 
-    /// Adds bytes.
+    /// Appends bytes.
     pub(crate) fn push(&mut self, bytes: &[u8])
         requires { length self.old + length bytes.now ≤ 20 }
         ensures { self.new ≡ self.old ++ bytes.now }
@@ -43,7 +43,7 @@ impl Text {
         self.length = end;
     }
 
-    /// Adds a number of at most three digits, in decimal.
+    /// Appends a number of at most three digits, in decimal.
     pub(crate) fn push_small(&mut self, number: u8)
         requires { length self.old + 3 ≤ 20 }
         ensures pushed { self.new ≡ self.old ++ decimal number }
@@ -52,7 +52,7 @@ impl Text {
         self.push(Buffer::new().format(number).as_bytes());
     }
 
-    /// Adds a number, in decimal.
+    /// Appends a number, in decimal.
     pub(crate) fn push_number(&mut self, number: u32)
         requires { length self.old + 10 ≤ 20 }
         ensures { self.new ≡ self.old ++ decimal number }
@@ -60,7 +60,7 @@ impl Text {
         self.push(Buffer::new().format(number).as_bytes());
     }
 
-    /// The bytes.
+    /// The bytes of the text.
     pub(crate) fn bytes(&self) -> &[u8]
         ensures { result.now ≡ self.now }
     {

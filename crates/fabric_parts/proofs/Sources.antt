@@ -18,7 +18,7 @@ six_tests false false false false true false = refl
 six_tests false false false false false true = refl
 six_tests false false false false false false = refl
 
--- two tests in a row, of which the second is made where the first fails
+-- two tests in a row, of which the second is made if the first fails
 pub first_passes : (a b value : Bool) → a ≡ true → value ≡ true → value ≡ (a || b)
 first_passes true b value is value_is = value_is
 first_passes false b value is value_is = absurd cc
@@ -39,7 +39,7 @@ made-more made given before now later n so_far more =
     ∙ append_assoc before (map made (gathered_below n given)) (map made (given n))
     ∙ ap (λ items. before ++ items) (sym (map-append made (gathered_below n given) (given n)) ∙ ap (map made) (sym (gathered_below-more n given)))
 
--- an item that is made where a test passes
+-- an item that is made if a test passes
 pub made_if : {A B : Type 0} (made : A → B) (passes : Bool) (item : A) (before : List B) → passes ≡ true → before ++ (made item ∷ []) ≡ before ++ map made (item_if passes item)
 made_if made true item before is = refl
 made_if made false item before is = absurd cc

@@ -17,7 +17,7 @@ IsCause fault (Memory cause) = Unit {0}
 
 -- ---- one RAM
 
--- a RAM that passes on its address
+-- a RAM that is cascaded
 abbrev pub cascade_at : Database → Configuration → ℕ → ℕ → List Fault
 cascade_at db image x y = item_if (is_cascaded db image x y) (cascade x y)
 

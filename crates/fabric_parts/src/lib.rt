@@ -1,5 +1,6 @@
 //! The parts of a fabric that an image uses, by the names of a chip database: logic cells and the carry inputs that are set, pins that
-//! are ports, their registers and global nets, and block RAMs. Each call goes over the tiles of a kind in their order.
+//! are ports, their registers and global nets, and block RAMs. Each call goes over the tiles of a kind in their order, by row, then by
+//! column.
 #![tactic(auto)]
 
 mod io;

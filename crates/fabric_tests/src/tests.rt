@@ -1,5 +1,5 @@
-// What a database and an image of a 1k give. A test of links, parts and designs names a case; the functions below make the calls, one
-// kind of call each.
+// What a database and an image of an iCE40 HX1K give. A test of links, parts and designs names a case; the functions below make the calls,
+// one kind of call each.
 
 ghost use Rattle.std.specs.Prelude.{◌≡◌};
 ghost use Rattle.ice_image.specs.Either.{configuration_of};
@@ -28,17 +28,17 @@ use plane_map::Place;
 use sample_images::{SampleBit, database, image_with, set_bits, set_extras};
 use std::alloc::Global;
 
-/// The class of a net, and whether the net is read.
+/// The class of joined nets that a net belongs to, and whether the net is read.
 type Net = (u32, bool);
 
-/// A database, the bits of an image of a 1k, and what they give.
+/// A database, the bits of an image of an iCE40 HX1K, and what they give.
 #[derive(Clone, Copy)]
 struct Case<'a> {
     text: &'a [u8],
     bits: &'a [SampleBit],
     /// More bits.
     more: &'a [SampleBit],
-    /// Whether the pad of global 2 drives it.
+    /// Whether the pad of global network 2 drives it.
     pad: bool,
     /// Which inputs LUTs read.
     lut_inputs: LutInputs,
@@ -46,7 +46,7 @@ struct Case<'a> {
 }
 
 impl<'a> Case<'a> {
-    /// A case without more bits, in which no pad drives global 2 and LUTs read all of their inputs.
+    /// A case without more bits, in which no pad drives global network 2 and LUTs read all of their inputs.
     fn of(text: &'a [u8], bits: &'a [SampleBit], gives: Gives<'a>) -> Case<'a> {
         Case {
             text,
@@ -62,7 +62,7 @@ impl<'a> Case<'a> {
 /// What a database and an image give.
 #[derive(Clone, Copy)]
 enum Gives<'a> {
-    /// The places of the links that are on, and all nets.
+    /// The indexes of the links that are on, and all nets.
     Links {
         buffers: &'a [u32],
         routings: &'a [u32],
@@ -70,35 +70,35 @@ enum Gives<'a> {
     },
     /// A design with these parts.
     Pins(&'a [Pin], &'a [GlobalNet]),
-    /// A design with one RAM, whose words are written at falling edges and read at falling edges.
+    /// A design with one RAM. The flags say whether its words are written, and whether they are read, at falling clock edges.
     Ram(bool, bool),
     /// A design with these outputs.
     Outputs(&'a [Output]),
-    /// A design with these registers, whose classes are written in this order.
+    /// A design with these registers, whose classes of joined nets are written in this order.
     Registers(&'a [Register], &'a [u32]),
-    /// A design that answers as the clocked inverter does, with the pins, RAMs and cells that are found by themselves.
+    /// A design that answers its calls as the clocked inverter does, and has the pins, RAMs and cells that are found without a design.
     Calls,
     /// A design whose module has this text.
     Module(&'a str),
-    /// No design, since the class of a net is on this cycle.
+    /// No design, since the class of joined nets of this net is on this combinational cycle.
     Loop(u32, &'a [u32]),
 }
 
-/// The place of the extra bit that lets the pad of global 2 drive it.
+/// The place of the extra bit that lets the pad of global network 2 drive it.
 const PAD: Place = Place {
     bank: 0,
     px: 330,
     py: 143,
 };
 
-/// Lets the pad of global 2 drive it, or leaves the image as it is.
+/// Lets the pad of global network 2 drive it, or leaves the image as it is.
 fn set_pad(image: &mut AnyImage, pad: bool) {
     if pad {
         set_extras(image, &[PAD]);
     }
 }
 
-/// The class of a net, and whether the net is read; none where there is no such net.
+/// The class of joined nets that a net belongs to, and whether the net is read; none if there is no such net.
 fn net_at(links: &Links, net: u32) -> Option<Net> {
     if (net as usize) < links.net_count() {
         Some((links.class_of(net), links.is_read(net)))
@@ -130,7 +130,7 @@ fn has_links(links: &Links, gives: Gives) -> bool {
     }
 }
 
-/// Whether the links are those, where links are asked for.
+/// Whether the links are the expected ones, if links are expected.
 fn gives_links(alloc: Global, db: &ChipDb, image: &AnyImage, gives: Gives) -> bool {
     match links(alloc, db, image) {
         Ok(links) => has_links(&links, gives),
@@ -138,7 +138,7 @@ fn gives_links(alloc: Global, db: &ChipDb, image: &AnyImage, gives: Gives) -> bo
     }
 }
 
-/// Whether a RAM is that at (3, 1), with these edges and nets.
+/// Whether a RAM is the one at (3, 1), with these edges and the nets of the database.
 fn is_ram(ram: &RamCell, wneg: bool, rneg: bool) -> bool {
     (ram.x, ram.y, ram.wneg, ram.rneg) == (3, 1, wneg, rneg)
         && ram.rdata[3] == Some(0)
@@ -168,7 +168,7 @@ fn has_parts(alloc: Global, design: &Design, gives: Gives) -> bool {
     }
 }
 
-/// Whether a fault is that cycle.
+/// Whether a fault is this cycle.
 fn is_cycle(fault: &FabricFault, net: u32, nets: &[u32]) -> bool {
     match fault {
         FabricFault::Loop { net: found, cycle } => *found == net && cycle.nets() == nets,
@@ -196,7 +196,7 @@ fn design_by(
     }
 }
 
-/// Whether the design or the cause why there is none are those.
+/// Whether the design, or the cause why there is none, is as expected.
 fn gives_design(
     alloc: Global,
     db: &ChipDb,
@@ -224,7 +224,7 @@ fn holds(
     }
 }
 
-/// Whether there is one pin, that at (0, 1).
+/// Whether there is one pin, pin 0 of the tile at (0, 1).
 fn is_first_pin(pins: &[Pin]) -> bool {
     match pins {
         [pin] => (pin.x, pin.y, pin.n) == (0, 1, 0),
@@ -232,7 +232,7 @@ fn is_first_pin(pins: &[Pin]) -> bool {
     }
 }
 
-/// Whether a design answers as the clocked inverter does.
+/// Whether a design answers its calls as the clocked inverter does.
 fn answers_calls(design: &Design) -> bool {
     let clock = PinXy { x: 0, y: 1, n: 0 };
     is_first_pin(design.inputs())
@@ -242,7 +242,7 @@ fn answers_calls(design: &Design) -> bool {
         && !design.has_link(0)
 }
 
-/// Whether a net is a class of its own, with that pin as its clock.
+/// Whether a net is joined to no other net, and has that pin as its clock.
 fn has_clock(design: &Design, net: u32, clock: PinXy) -> bool {
     (net as usize) < design.net_count()
         && design.class_of(net) == net
@@ -255,7 +255,7 @@ fn has_ends(design: &Design, line: u32, ends: LinkEnds) -> bool {
     design.has_link(line) && design.link(line) == ends
 }
 
-/// Whether the pins that are found by themselves are those of a design.
+/// Whether the pins that are found without a design are those of the design.
 fn finds_pins(alloc: Global, db: &ChipDb, image: &AnyImage, links: &Links, design: &Design) -> bool
     requires device { db.now.chip.device ≡ (configuration_of image.now).layout.device }
     requires links { AreLinks (database_in db.now) (configuration_of image.now) links.now }
@@ -267,7 +267,7 @@ fn finds_pins(alloc: Global, db: &ChipDb, image: &AnyImage, links: &Links, desig
     }
 }
 
-/// Whether as many RAMs are found by themselves as a design has.
+/// Whether the number of RAMs that are found without a design is that of the design.
 fn finds_rams(alloc: Global, db: &ChipDb, image: &AnyImage, links: &Links, design: &Design) -> bool
     requires device { db.now.chip.device ≡ (configuration_of image.now).layout.device }
     requires links { AreLinks (database_in db.now) (configuration_of image.now) links.now }
@@ -278,7 +278,7 @@ fn finds_rams(alloc: Global, db: &ChipDb, image: &AnyImage, links: &Links, desig
     }
 }
 
-/// Whether the cells that are found by themselves are those of a design.
+/// Whether the cells that are found without a design are those of the design.
 fn finds_cells(alloc: Global, db: &ChipDb, image: &AnyImage, design: &Design) -> bool {
     match find_cells(alloc, db, image) {
         Ok(found) => found.lcs.as_slice() == design.lcs() && found.sets.as_slice() == design.sets(),
@@ -286,7 +286,7 @@ fn finds_cells(alloc: Global, db: &ChipDb, image: &AnyImage, design: &Design) ->
     }
 }
 
-/// Whether all parts that are found by themselves are those of a design.
+/// Whether all parts that are found without a design are those of the design.
 fn finds_parts(alloc: Global, db: &ChipDb, image: &AnyImage, design: &Design) -> bool {
     match links(alloc, db, image) {
         Ok(links) => {
@@ -298,7 +298,7 @@ fn finds_parts(alloc: Global, db: &ChipDb, image: &AnyImage, design: &Design) ->
     }
 }
 
-/// Whether the design answers its calls, and the parts that are found by themselves are its own.
+/// Whether the design answers its calls, and the parts that are found without it are its own.
 fn gives_calls(alloc: Global, db: &ChipDb, image: &AnyImage) -> bool {
     match design(alloc, db, image) {
         Ok(design) => answers_calls(&design) && finds_parts(alloc, db, image, &design),
@@ -306,7 +306,7 @@ fn gives_calls(alloc: Global, db: &ChipDb, image: &AnyImage) -> bool {
     }
 }
 
-/// Whether a database and an image with the bits of a case give what it says.
+/// Whether a database and an image with the bits of a case give what the case says.
 fn is_so_in(alloc: Global, db: &ChipDb, case: Case) -> bool {
     match image_with(alloc, case.bits) {
         Ok(mut image) => {

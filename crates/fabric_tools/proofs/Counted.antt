@@ -1,4 +1,4 @@
--- What is told of an image and a database that are counted, and of those that aren't.
+-- The answer for an image and a database, if they are counted and if they are refused.
 use Rattle.std.proofs.Common.{◌≡◌, ℕ, List, refl, sym, ap, ◌∙◌}
 use Rattle.std.specs.Prelude.{Option, None, Some}
 use Rattle.ice_image.specs.Configuration.{Configuration}
@@ -41,6 +41,6 @@ module _ (db : Database) (image : Configuration) where
   pub stops_counted : (cause : Option Fault) (fault : StatFault) (stop : Stop) → IsCause cause fault → StopsFor (told_fault (of_counts fault)) stop → StopsWith (counted_with db image cause) stop
   stops_counted cause fault stop is stops = stops-told cause (told_fault (of_counts fault)) stop (λ one told. cause-told cause fault one is told) stops
 
-  -- the text of the counts, where nothing is wrong
+  -- the text of the counts, if nothing is wrong
   pub counted_done : (text : List ℕ) → stat_fault db image ≡ None → text ≡ stat_text (counts_of db image) → counted db image ≡ Done text
   counted_done text taken is = ap (counted_with db image) taken ∙ ap Done (sym is)

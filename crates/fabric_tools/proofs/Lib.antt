@@ -1,2 +1,2 @@
--- What is told where nothing is counted
+-- What is told if nothing is counted
 mod Counted

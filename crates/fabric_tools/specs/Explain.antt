@@ -1,4 +1,5 @@
--- `icebox_explain`: what the set bits of an image mean.
+-- `icebox_explain`: tells what the set bits of an image mean. `-t` is an option of Project IceStorm's `icebox_explain` (its usage text),
+-- `--layout` is this project's own.
 use Rattle.std.specs.Prelude.{ℕ, ◌==◌, Bool, List, [], ◌∷◌, codes, is_some, option_map, Option, None, Some}
 use Rattle.std.specs.List.{before_first, after_first}
 use Rattle.clap.specs.Words.{App, Row, Text, first_of}
@@ -26,11 +27,11 @@ abbrev pub told_with : List ℕ → Option ExplainFault → Answer
 told_with text None = Done text
 told_with text (Some fault) = Refused (explain_fault_text fault)
 
--- the text, or why there is none
+-- the text that explains an image, or the message for its fault
 abbrev pub told : Database → Configuration → Option TileXy → Answer
 told database image only = told_with (explained database image only) (explain_fault_of database image only)
 
--- `named` tells whether a layout file was taken before the others
+-- the answer for the texts that were loaded: the layout file if it is `named`, the database, and the image
 abbrev pub explain_answer : Bool → Option TileXy → List (List ℕ) → Answer
 explain_answer named only texts = input_answer named (λ db image. told db image only) texts
 
@@ -45,16 +46,16 @@ explain_usage = codes "icebox_explain [-t \"X Y\"] [--layout FILE] DB [IMAGE]"
 abbrev pub explain_command : App
 explain_command = command explain_name (short_option (codes "tile") 116 ∷ long_option (codes "layout") ∷ positional (codes "db") ∷ positional (codes "image") ∷ [])
 
--- a tile by two numbers, where both are there
+-- the tile of these coordinates, if both are there
 abbrev pub tile_of : Option ℕ → Option ℕ → Option TileXy
 tile_of (Some x) (Some y) = Some (record { x = x; y = y })
 tile_of x y = None
 
--- two decimal numbers with one space between
+-- the tile that two decimal numbers with one space between them name: its column and its row
 unfoldable pub tile_in : Text → Option TileXy
 tile_in text = tile_of (number_of (before_first (λ byte. byte == 32) text)) (number_of (after_first (λ byte. byte == 32) text))
 
--- the tile of an option that may be missing: nothing where it isn't written so
+-- the tile of an option that may be missing (`Some None`); `None` if the value isn't two numbers with one space between them
 abbrev pub tile_given : Option Text → Option (Option TileXy)
 tile_given None = Some None
 tile_given (Some text) = option_map Some (tile_in text)
@@ -69,7 +70,7 @@ read_task only layout db image = record {
   answer = explain_answer (is_some layout) only;
 }
 
--- there has to be a database
+-- there must be a database
 abbrev pub explain_task_of : Option (Option TileXy) → Option Text → Option Text → Option Text → Task
 explain_task_of (Some only) layout (Some db) image = read_task only layout db image
 explain_task_of (Some only) layout None image = usage_error explain_name explain_usage
@@ -82,7 +83,7 @@ explain_task_by rows = explain_task_of (tile_given (first_of (codes "tile") rows
 abbrev pub icebox_explain : Manual
 icebox_explain = record { name = explain_name; usage = explain_usage; help = ICEBOX_EXPLAIN_HELP.now; app = explain_command; task = explain_task_by }
 
--- what the arguments of `icebox_explain` ask for, its help among that
+-- what the arguments of `icebox_explain` ask for, which may be its help
 abbrev pub explain_outcome : List Text → Task
 explain_outcome args = outcome icebox_explain args
 

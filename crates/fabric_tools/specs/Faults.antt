@@ -1,4 +1,4 @@
--- What a tool says of a fault.
+-- The messages for faults of explaining and of counting.
 use Rattle.std.specs.Prelude.{ℕ, List, ◌++◌, codes, decimal}
 use Rattle.fabric.specs.declared.fault.FabricFault.{FabricFault}
 use Rattle.fabric.specs.declared.fault.FabricFault.TheVariants.{Device as DesignDevice, Memory as DesignMemory}
@@ -8,13 +8,13 @@ use Rattle.ice_stat.specs.declared.fault.StatFault.TheVariants.{Device as Counts
 use Rattle.tile_bits.specs.declared.fault.ExplainFault.{ExplainFault}
 use Rattle.tile_bits.specs.declared.fault.ExplainFault.TheVariants.{Device as OtherDevice, NoTile, Memory}
 
--- why nothing is explained
+-- the message if nothing is explained
 abbrev pub explain_fault_text : ExplainFault → List ℕ
 explain_fault_text OtherDevice = codes "Device"
 explain_fault_text (NoTile x y) = codes "tile " ++ decimal x ++ codes " " ++ decimal y ++ codes ": NoTile"
 explain_fault_text (Memory e) = codes "out of memory"
 
--- why nothing is counted, as why there is no design
+-- a fault of counting as the same fault of a design, whose message is told
 abbrev pub of_counts : StatFault → FabricFault
 of_counts CountsDevice = DesignDevice
 of_counts (Pins fault) = of_pins fault

@@ -1,4 +1,5 @@
--- What holds of the command lines of `icebox_explain` and `icebox_stat`: each command is simple, and each task is told under the tool's name.
+-- Laws of the command lines of `icebox_explain` and `icebox_stat`: each command is simple, as `clap`'s statement needs it, and each task
+-- has the name of its tool.
 use Rattle.std.specs.Prelude.{◌≡◌, true, List, codes, refl, Option, None, Some}
 use Rattle.clap.specs.Words.{Row, Text, first_of, is_simple_and_free}
 use Rattle.clap.proofs.OnLiterals.{clap_on_literals}
@@ -18,7 +19,7 @@ of-speaks None layout db image = refl
 pub explain-speaks : (rows : List Row) → (explain_task_by rows).tool_name ≡ explain_name
 explain-speaks rows = of-speaks (tile_given (first_of (codes "tile") rows)) (first_of (codes "layout") rows) (first_of (codes "db") rows) (first_of (codes "image") rows)
 
--- ---- the same of `icebox_stat`
+-- ---- icebox_stat
 
 pub stat-simple : is_simple_and_free stat_command ≡ true
 unfolding clap_on_literals

@@ -1,4 +1,4 @@
--- `icebox_stat`: what an image uses of its device.
+-- `icebox_stat`: counts what an image uses of its device.
 use Rattle.std.specs.Prelude.{ℕ, Bool, List, [], ◌∷◌, codes, is_some, Option, None, Some}
 use Rattle.clap.specs.Words.{App, Row, Text, first_of}
 use Rattle.ice_image.specs.Configuration.{Configuration}
@@ -24,11 +24,11 @@ abbrev pub counted_with : Database → Configuration → Option Fault → Answer
 counted_with db image None = Done (stat_text (counts_of db image))
 counted_with db image (Some fault) = Refused (design_fault_text fault)
 
--- the counts, or why there are none
+-- the text of the counts, or the message if there are none
 abbrev pub counted : Database → Configuration → Answer
 counted db image = counted_with db image (stat_fault db image)
 
--- the database is read before the image; `named` tells whether a layout file was taken before both
+-- the answer for the texts that were loaded: the layout file if it is `named`, the database, and the image
 abbrev pub stat_answer : Bool → List (List ℕ) → Answer
 stat_answer named texts = input_answer named counted texts
 
@@ -54,7 +54,7 @@ count_task layout db image = record {
   answer = stat_answer (is_some layout);
 }
 
--- there has to be a database
+-- there must be a database
 abbrev pub stat_task_of : Option Text → Option Text → Option Text → Task
 stat_task_of layout (Some db) image = count_task layout db image
 stat_task_of layout None image = usage_error stat_name stat_usage
@@ -66,7 +66,7 @@ stat_task_by rows = stat_task_of (first_of (codes "layout") rows) (first_of (cod
 abbrev pub icebox_stat : Manual
 icebox_stat = record { name = stat_name; usage = stat_usage; help = ICEBOX_STAT_HELP.now; app = stat_command; task = stat_task_by }
 
--- what the arguments of `icebox_stat` ask for, its help among that
+-- what the arguments of `icebox_stat` ask for, which may be its help
 abbrev pub stat_outcome : List Text → Task
 stat_outcome args = outcome icebox_stat args
 

@@ -1,4 +1,4 @@
-// `icebox_stat`: what an image uses of its device.
+// `icebox_stat`: counts what an image uses of its device.
 ghost use Rattle.std.specs.Prelude.{◌≡◌, [], ℕ, Bool, List, map, string_bytes, IfOk, IfErr, Some};
 ghost use Rattle.clap.specs.Words.{app_of, found_of, rows_of};
 ghost use Rattle.ice_image.specs.Either.{configuration_of};
@@ -73,7 +73,7 @@ first fault; 2 the command line isn't taken; 3 reading failed; 4 writing failed;
 5 out of memory; 6 an input is longer than its limit.
 ";
 
-/// Counts what an image uses, by a database. The image is read under the layouts of a file that comes first where one is named.
+/// Counts what an image uses, by a database. If a layout file is named, it comes first, and the image is read under its layouts.
 #[derive(Clone, Copy, Debug, PartialEq, Eq)]
 pub(crate) struct Counting {
     /// Whether a layout file comes first.
@@ -112,7 +112,7 @@ impl PieceTool for Counting {
     }
 }
 
-// The counts, after the last piece of both.
+// The text of the counts. Called after the last piece of the image.
 fn counted_after(alloc: Global, taking: Taking<DesignInput>) -> Result<Vec<u8>, Stop<'static>>
     ensures bytes { IfOk result (λ bytes. (named : Bool) (texts : List (List ℕ)) → IsTaking TakesInput named texts [] taking
         → stat_answer named texts ≡ Done bytes.items) }
@@ -125,7 +125,7 @@ fn counted_after(alloc: Global, taking: Taking<DesignInput>) -> Result<Vec<u8>, 
     }
 }
 
-// The counts of an image by a database.
+// The text of the counts of an image by a database.
 #[tactic(auto, using(crate::proofs::Counted::stops_counted, crate::proofs::Counted::counted_done))]
 fn count_text(alloc: Global, db: &ChipDb, image: &AnyImage) -> Result<Vec<u8>, Stop<'static>>
     ensures bytes { IfOk result (λ bytes. counted (database_in db.now) (configuration_of image.now) ≡ Done bytes.items) }
@@ -155,7 +155,7 @@ fn command<'a>(alloc: Global) -> Result<Command<'a>, AllocError>
     with(command, positional(alloc, "image"))
 }
 
-// What the arguments ask for by what was found in them: there has to be a database.
+// The inputs, from what was found in the arguments: there must be a database.
 fn wanted<'a>(
     layout: Option<&'a str>,
     db: Option<&'a str>,
@@ -169,7 +169,7 @@ fn wanted<'a>(
     }
 }
 
-// What was found in the arguments asks for.
+// The inputs that the arguments name, or `None` if they aren't taken.
 fn inputs_in<'a>(matches: &ArgMatches<'a>) -> Option<Inputs<'a>>
     ensures { stat_task_for result ≡ stat_task_by (rows_of (found_of matches.now)) }
 {
@@ -179,7 +179,7 @@ fn inputs_in<'a>(matches: &ArgMatches<'a>) -> Option<Inputs<'a>>
     wanted(layout, db, image)
 }
 
-// Counts by the files of the arguments.
+// Does what the arguments ask for: loads their files and counts.
 fn count_files<H: Host>(alloc: Global, inputs: Inputs<'_>, host: &mut H) -> u8
     ensures { Does H.outside (stat_task_for (Some inputs.entry)) result (H.scene host.old) (H.scene host.new) }
 {
@@ -245,7 +245,7 @@ impl CommandLine for IceboxStat {
     ghost speaks = { stat-speaks };
 }
 
-/// Runs `icebox_stat` with these arguments, of which the first is its name.
+/// Runs `icebox_stat` with these arguments, the first of which is its name, and answers the exit status.
 pub fn run_icebox_stat<H: Host>(alloc: Global, args: &[String], host: &mut H) -> u8
     ensures { Does H.outside (stat_outcome (map string_bytes args.now)) result (H.scene host.old) (H.scene host.new) }
 {

@@ -1,4 +1,4 @@
-// `icebox_explain`: what the set bits of an image mean.
+// `icebox_explain`: tells what the set bits of an image mean.
 ghost use Rattle.std.specs.Prelude.{◌≡◌, [], ℕ, Bool, List, map, string_bytes, IfOk, IfErr, Some};
 ghost use Rattle.chipdb_reader.specs.Kept.{database_in};
 ghost use Rattle.tool_run.specs.Needs.{text_of};
@@ -24,8 +24,8 @@ use tool_parts::{
 };
 use tool_run::{Host, Job, Load, PieceTool, Stop};
 
-/// Explains an image by a database: one tile, or all. The image is read under the layouts of a file that comes first where one is
-/// named.
+/// Explains one tile of an image, or all, by a database. If a layout file is named, it comes first, and the image is read under its
+/// layouts.
 #[derive(Clone, Copy, Debug, PartialEq, Eq)]
 pub(crate) struct Explaining {
     /// Whether a layout file comes first.
@@ -65,7 +65,7 @@ impl PieceTool for Explaining {
     }
 }
 
-// What the image means by the database, after the last piece of both.
+// The text that explains the image by the database. Called after the last piece of the image.
 fn explained_after(
     alloc: Global,
     only: Option<TileXy>,
@@ -82,7 +82,7 @@ fn explained_after(
     }
 }
 
-// What an image means by a database.
+// The text that explains an image by a database.
 fn text_of(
     alloc: Global,
     db: &ChipDb,
@@ -99,7 +99,7 @@ fn text_of(
     }
 }
 
-// Explains by the files of a request.
+// Does a request: loads its files and explains.
 fn explain_files<H: Host>(alloc: Global, request: Request<'_>, host: &mut H) -> u8
     ensures { Does H.outside (explain_task_for (Some request.entry)) result (H.scene host.old) (H.scene host.new) }
 {
@@ -166,7 +166,7 @@ impl CommandLine for IceboxExplain {
     ghost speaks = { explain-speaks };
 }
 
-/// Runs `icebox_explain` with these arguments, of which the first is its name.
+/// Runs `icebox_explain` with these arguments, the first of which is its name, and answers the exit status.
 pub fn run_icebox_explain<H: Host>(alloc: Global, args: &[String], host: &mut H) -> u8
     ensures { Does H.outside (explain_outcome (map string_bytes args.now)) result (H.scene host.old) (H.scene host.new) }
 {

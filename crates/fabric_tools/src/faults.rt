@@ -1,4 +1,4 @@
-// What a tool says of a fault.
+// The messages for faults of explaining and of counting.
 ghost use Rattle.std.specs.Prelude.{◌≡◌};
 ghost use Rattle.tool_run.specs.Lines.{refusal_text};
 ghost use Rattle.design_parts.specs.Faults.{told_fault, StopsFor};
@@ -11,7 +11,7 @@ use tile_bits::ExplainFault;
 use tool_parts::whole;
 use tool_run::{Refusal, Stop, decimal, text};
 
-/// Why nothing is explained.
+/// The refusal to explain an image.
 pub(crate) fn explain_refusal(fault: ExplainFault) -> Refusal<'static>
     ensures { refusal_text result ≡ explain_fault_text fault }
 {
@@ -27,14 +27,14 @@ pub(crate) fn explain_refusal(fault: ExplainFault) -> Refusal<'static>
     }
 }
 
-/// Why nothing is counted: it is told in the words for a design.
+/// The stop if nothing is counted, with the message that the same fault has for a design.
 pub(crate) fn stat_stop(fault: StatFault) -> Stop<'static>
     ensures { StopsFor (told_fault (of_counts fault)) result }
 {
     design_stop(&design_fault(fault))
 }
 
-// Why there would be no design either.
+// The same fault as a fault of a design.
 fn design_fault(fault: StatFault) -> FabricFault
     ensures { result ≡ of_counts fault }
 {

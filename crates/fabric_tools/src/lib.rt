@@ -1,6 +1,6 @@
-//! The tools that tell of an image by a chip database: `icebox_explain` and `icebox_stat`.
+//! The tools that report what is in an image, by a chip database: `icebox_explain` and `icebox_stat`.
 //!
-//! Each tool is one module, with its command line, its usage line and what it makes of what it loads. The function that
+//! Each tool is one module, with its command line, its usage line and its answer for what it loads. The function that
 //! runs it has one clause: a run does the task that the arguments ask for.
 #![tactic(auto)]
 

@@ -49,7 +49,7 @@ pub(crate) struct Request<'a> {
     pub(crate) image: Option<&'a str>,
 }
 
-// Two decimal numbers with one space between: a column and a row.
+// The tile that two decimal numbers with one space between them name: its column and its row.
 #[tactic(auto, unfolding(crate::specs::Explain::tile_in))]
 fn tile_in(text: &[u8]) -> Option<TileXy>
     ensures { result ≡ tile_in text.now }
@@ -60,14 +60,14 @@ fn tile_in(text: &[u8]) -> Option<TileXy>
     }
 }
 
-// Where the first space stands.
+// The index of the first space, if there is one.
 fn space_place(bytes: &[u8]) -> Option<usize>
     ensures { result ≡ position (λ byte. byte == 32) bytes.now }
 {
     bytes.iter().position(|byte| *byte == b' ')
 }
 
-// A tile by two numbers, where both are there.
+// The tile of these coordinates, if both are there.
 fn tile_of(x: Option<u32>, y: Option<u32>) -> Option<TileXy>
     ensures { result ≡ tile_of x y }
 {
@@ -77,7 +77,7 @@ fn tile_of(x: Option<u32>, y: Option<u32>) -> Option<TileXy>
     }
 }
 
-// The tile of an option that may be missing: nothing where it isn't written so.
+// The tile of an option that may be missing (`Some(None)`). `None` if the value isn't two numbers with one space between them.
 fn tile_given(text: Option<&str>) -> Option<Option<TileXy>>
     ensures { result ≡ tile_given (text_of text.entry) }
 {
@@ -101,7 +101,7 @@ pub(crate) fn command<'a>(alloc: Global) -> Result<Command<'a>, AllocError>
     with(command, positional(alloc, "image"))
 }
 
-// What the arguments ask for by what was found in them: there has to be a database.
+// The request, from what was found in the arguments: there must be a database.
 fn wanted<'a>(
     only: Option<Option<TileXy>>,
     layout: Option<&'a str>,
@@ -121,7 +121,7 @@ fn wanted<'a>(
     }
 }
 
-// What was found in the arguments asks for.
+// The request of the arguments, or `None` if they aren't taken.
 pub(crate) fn request_in<'a>(matches: &ArgMatches<'a>) -> Option<Request<'a>>
     ensures { explain_task_for result ≡ explain_task_by (rows_of (found_of matches.now)) }
 {

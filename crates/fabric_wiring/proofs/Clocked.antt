@@ -36,7 +36,7 @@ unclocked-more links ends inputs list i d there = sym (
     ∙ (ap (unclocked_in links ends) (flat_map-append inputs (take i list) (get_or list i d ∷ []) ∙ ap (λ l. flat_map inputs (take i list) ++ l) (append-nil (inputs (get_or list i d))))
     ∙ flat_map-append (unclocked_by links ends) (flat_map inputs (take i list)) (inputs (get_or list i d))))
 
--- where nothing stands at any tile, there is no first
+-- if there is nothing at any tile, there is no first
 pub first_on-none : (device : DeviceName) → None ≡ first_on device []
 unfolding first_on over_grid
 first_on-none device =

@@ -39,6 +39,6 @@ module _ {A : Type 0} (test : A → Bool) where
       find-position item_test (numbered items) k (0, d) (position-same items ∙ found)
       ∙ (ap (λ (place : ℕ × A). Some place) (numbered_from-at 0 items k d (0, d) within) ∙ ap (λ (m : ℕ). Some (m, get_or items k d)) same)
 
-  -- none, where no item passes
+  -- none, if no item passes
   pub find-no_numbered : (items : List A) → position test items ≡ None → find (λ (place : ℕ × A). test place.1) (numbered items) ≡ None
   find-no_numbered items none = find-no_position item_test (numbered items) (position-same items ∙ none)

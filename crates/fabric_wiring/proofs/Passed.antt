@@ -32,7 +32,7 @@ first_of-rest : {A : Type 0} (list : List A) (first : A) → first_of list ≡ S
 first_of-rest [] first is = absurd cc
 first_of-rest (head ∷ list) first is = let same : head ≡ first = cc in (list, ap (λ item. item ∷ list) same)
 
--- faults after it, where classes are given more
+-- the faults after that, when classes of joined nets are given more drivers
 record IsMore (class : ℕ) (drive : KeptDrive) (given more : ℕ → List KeptDrive) : Type 0 where
   here : more class ≡ given class ++ drive ∷ []
   away : (other : ℕ) → (class ≡ other → ⊥) → more other ≡ given other
@@ -109,7 +109,7 @@ more-told count class drive first [] given more twice is within one least = seco
 more-told count class drive first (second ∷ others) given more twice is within two least =
     others-told count class drive first second others given more twice is within two least
 
--- what is kept where a class has a driver and gets another
+-- what is kept if a class of joined nets has a driver and gets another
 pub entered : (drives : List KeptDrive) (place class : ℕ) (drive first : KeptDrive) (places : List (Option ℕ)) (twice later : Option Twice) (given : ℕ → List KeptDrive)
     → slice_get drives place ≡ Some drive → class < length places → option_and_then (slice_get drives) (get_or places class None) ≡ Some first
     → later ≡ lesser twice (record { net = class; first = first.driver; second = drive.driver })
@@ -192,7 +192,7 @@ single class [] none = refl
 single class (drive ∷ []) none = refl
 single class (drive ∷ second ∷ list) none = absurd cc
 
--- where no class has two drivers each has the one that is kept
+-- if no class of joined nets has two drivers, each has the one that is kept
 pub each-kept : (links : LinkSet) (drives : List KeptDrive) (places : List (Option ℕ)) (class : ℕ) → ArePassed drives (drivers_in links drives) places None
     → class < length places → drivers_in links drives class ≡ option_to_list (option_and_then (slice_get drives) (get_or places class None))
 each-kept links drives places class passed inside =

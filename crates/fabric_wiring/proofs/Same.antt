@@ -16,7 +16,7 @@ use Rattle.fabric_wiring.specs.Drives.{drive_of}
 use Rattle.fabric_wiring.specs.Parts.{ArePartsOf}
 use Rattle.fabric_wiring.specs.Passed.{IsDriveIn, drivers_in, fault_in, faults_in}
 
--- ---- lists one behind the other
+-- ---- lists one after the other
 
 -- what a list gets, from an equal list
 pub gets : {D X : Type 0} (now later : List D) {a b : X} (part : X → List D) → later ≡ now ++ part a → a ≡ b → later ≡ now ++ part b

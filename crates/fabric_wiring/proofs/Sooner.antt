@@ -53,7 +53,7 @@ module _ (list : List Unclocked) (next : Unclocked) where
   next-here : first_at (next ∷ []) next.x next.y ≡ Some next
   next-here = next-by next.x next.y true (and_from (next.x == next.x) (next.y == next.y) (eq-eqb next.x next.x refl) (eq-eqb next.y next.y refl))
 
-  -- a tile where neither the others nor this one stands
+  -- a tile at which neither the others nor this one is
   clear-more : (x y : ℕ) → first_at list x y ≡ None → ((next.x ≡ x) → (next.y ≡ y) → ⊥) → first_at (list ++ next ∷ []) x y ≡ None
   clear-more x y clear apart =
       at-more x y ∙ (ap (λ first. or_else first (first_at (next ∷ []) x y)) clear ∙ elim (cases_Bool (is_at x y next)) [
@@ -112,7 +112,7 @@ module _ (device : DeviceName) (list : List Unclocked) (next : Unclocked) where
         ]);
       })
 
-  -- it is the first where it goes before what was found
+  -- it is the first if it comes before what was found
   pub sooner : (found : Option Unclocked) → is_on_grid device next ≡ true → is_before_any next found ≡ true
       → found ≡ first_on device list → Some next ≡ first_on device (list ++ next ∷ [])
   sooner None grid before is =

@@ -13,11 +13,11 @@ end_of (Pin place) = at_pin place
 end_of Undriven = undriven
 end_of Logic = logic
 
--- the end that is kept for a class
+-- the end that is kept for a class of joined nets
 abbrev pub end_in : List KeptEnd → ℕ → ClockEnd
 end_in ends class = end_of (get_or ends class Undriven)
 
--- ends are those of a fabric where the clock of each net comes from the end that is kept for its class
+-- ends belong to a fabric if the clock of each net comes from the end that is kept for its class of joined nets
 pub record AreEndsOf (fabric : Fabric) (ends : List KeptEnd) : Type 0 where
   pub classes : length ends ≡ fabric.nets
   pub each : (net : ℕ) → net < fabric.nets → end_in ends (class_of fabric.joins net) ≡ clock_end fabric net

@@ -1,4 +1,4 @@
--- Inputs for clocks whose clock comes from no pin, and the first of some in the order of tiles.
+-- Users of clocks whose clock comes from another driver than a pin, and the first of them in the order of tiles.
 use Rattle.std.specs.Prelude.{ℕ, Bool, true, false, ◌&&◌, ◌||◌, ◌==◌, nat_lt, List, [], ◌∷◌, filter, flat_map, Option, Some, None}
 use Rattle.plane_map.specs.Layout.{grid_width, grid_height}
 use Rattle.plane_map.specs.declared.device.DeviceName.{DeviceName}
@@ -14,25 +14,25 @@ use Rattle.fabric_wiring.specs.declared.users.Unclocked.{Unclocked}
 use Rattle.fabric_wiring.specs.declared.users.ClockInput.{ClockInput}
 use Rattle.fabric_wiring.specs.Ends.{end_in}
 
--- ---- inputs for clocks
+-- ---- users of clocks
 
--- that of a register
+-- a register as a user of its clock
 abbrev pub register_inputs : Register → List ClockInput
 register_inputs register = record { x = register.x; y = register.y; user = register.user; net = register.clk } ∷ []
 
--- those of the ports of a RAM: the read port goes first
+-- the ports of a RAM as users of their clocks: the read port comes first
 abbrev pub ram_inputs : RamCell → List ClockInput
 ram_inputs ram =
     record { x = ram.x; y = ram.y; user = Read; net = ram.rclk }
     ∷ record { x = ram.x; y = ram.y; user = Write; net = ram.wclk } ∷ []
 
--- whether a chain ends at another driver than a pin
+-- whether a clock chain ends at another driver than a pin
 abbrev pub is_other : ClockEnd → Bool
 is_other (at_pin place) = false
 is_other undriven = false
 is_other logic = true
 
--- an input with that net, where its clock comes from another driver than a pin
+-- a user with that clock net, if the clock comes from another driver than a pin
 abbrev pub unclocked_with : LinkSet → List KeptEnd → ClockInput → Option ℕ → List Unclocked
 unclocked_with links ends input None = []
 unclocked_with links ends input (Some net) =
@@ -41,7 +41,7 @@ unclocked_with links ends input (Some net) =
 abbrev pub unclocked_by : LinkSet → List KeptEnd → ClockInput → List Unclocked
 unclocked_by links ends input = unclocked_with links ends input input.net
 
--- those of some inputs
+-- the users in a list whose clock comes from another driver than a pin
 abbrev pub unclocked_in : LinkSet → List KeptEnd → List ClockInput → List Unclocked
 unclocked_in links ends inputs = flat_map (unclocked_by links ends) inputs
 
@@ -50,18 +50,18 @@ unclocked_in links ends inputs = flat_map (unclocked_by links ends) inputs
 abbrev pub is_at : ℕ → ℕ → Unclocked → Bool
 is_at x y found = (found.x == x) && (found.y == y)
 
--- the first at a tile of the grid, in the order of tiles
+-- the first user at a tile of the grid, in the order of tiles
 unfoldable pub first_on : DeviceName → List Unclocked → Option Unclocked
 first_on device list = first_of (over_grid device (λ x y. filter (is_at x y) list))
 
 abbrev pub is_on_grid : DeviceName → Unclocked → Bool
 is_on_grid device found = nat_lt found.x (grid_width device) && nat_lt found.y (grid_height device)
 
--- whether the tile of one comes before that of another: by rows, then by columns
+-- whether the tile of one user comes before the tile of another: by row, then by column
 abbrev pub is_before : Unclocked → Unclocked → Bool
 is_before one two = nat_lt one.y two.y || ((one.y == two.y) && nat_lt one.x two.x)
 
--- and before that of one that may be missing
+-- whether the tile of one user comes before the tile of another; true if there is no other
 abbrev pub is_before_any : Unclocked → Option Unclocked → Bool
 is_before_any one None = true
 is_before_any one (Some two) = is_before one two

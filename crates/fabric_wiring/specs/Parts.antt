@@ -1,4 +1,4 @@
--- When the parts that are kept are those of a fabric.
+-- When the parts that are kept are the parts of a fabric.
 use Rattle.std.specs.Prelude.{◌≡◌, ℕ, length, map}
 use Rattle.net_extract.specs.Joins.{class_of}
 use Rattle.net_extract.specs.Fabric.{Fabric, Buffer}
@@ -11,8 +11,8 @@ use Rattle.fabric_wiring.specs.declared.parts.Parts.{Parts}
 abbrev pub buffer_of : KeptBuffer → Buffer
 buffer_of buffer = record { line = buffer.line; src = buffer.src; dst = buffer.dst }
 
--- Parts are those of a fabric where each list is that of the fabric, the LUTs read the same inputs, and each net has the class that the
--- routings of the fabric give it. All nets of such a fabric are below their count.
+-- Parts are the parts of a fabric if each list is that of the fabric, the LUTs read the same inputs, and each net has the class of joined
+-- nets that the routings of the fabric give it. All nets that such a fabric names are below the number of its nets.
 pub record ArePartsOf (fabric : Fabric) (parts : Parts) : Type 0 where
   pub within : HasNetsIn fabric
   pub nets : length parts.links.classes ≡ fabric.nets

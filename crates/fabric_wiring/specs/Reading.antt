@@ -1,4 +1,4 @@
--- The classes of the nets that drivers read.
+-- The classes of joined nets that drivers read.
 use Rattle.std.specs.Prelude.{ℕ, List, [], map, Option, Some, None}
 use Rattle.net_extract.specs.Drivers.{nets_read}
 use Rattle.net_extract.specs.Links.{LinkSet, class_in}
@@ -6,11 +6,11 @@ use Rattle.fabric_wiring.specs.declared.drive.Rule.{Rule as KeptRule}
 use Rattle.fabric_wiring.specs.declared.drive.Drive.{Drive as KeptDrive}
 use Rattle.fabric_wiring.specs.Drives.{rule_of}
 
--- the classes of the nets that a driver with a rule reads
+-- the classes of joined nets that a driver with a rule reads
 abbrev pub classes_read : LinkSet → KeptRule → List ℕ
 classes_read links rule = map (class_in links) (nets_read (rule_of rule))
 
--- those of a driver that may be missing
+-- the classes of joined nets that a driver reads, and none if the driver is missing
 abbrev pub row_in : LinkSet → Option KeptDrive → List ℕ
 row_in links None = []
 row_in links (Some drive) = classes_read links drive.rule

@@ -1,4 +1,4 @@
--- What the classes of a fabric read, as it is kept.
+-- What the classes of joined nets of a fabric read, as it is kept.
 use Rattle.std.specs.Prelude.{◌≡◌, ℕ, length}
 use Rattle.net_extract.specs.Fabric.{Fabric}
 use Rattle.net_extract.specs.Wiring.{Wiring, depends}
@@ -12,7 +12,7 @@ pub record AreAlike (one two : Wiring) : Type 0 where
   pub driven : (class : ℕ) → one.driven class ≡ two.driven class
   pub reads : (class other : ℕ) → depends one class other ≡ depends two class other
 
--- wires are those of a fabric where they say what its drivers do
+-- wires belong to a fabric if they say which classes of joined nets have a driver, and what these drivers read
 pub record AreWiresOf (fabric : Fabric) (wires : Wires) : Type 0 where
   pub rows : length wires.reads.items ≡ length wires.driven.items
   pub alike : AreAlike (wiring_of wires.driven.items wires.reads.items) (wiring_of_fabric fabric)

@@ -9,7 +9,7 @@ use crate::registers::table_of;
 use net_extract::{CarrySet, Driver, Lc, LutInputs};
 use std::alloc::AllocError;
 
-/// Appends what a cell drives on `lutff_i/out` where it has no flip-flop.
+/// Appends what a cell drives on `lutff_i/out` if it has no flip-flop.
 fn append_lut(drives: &mut Vec<Drive>, inputs: LutInputs, lc: Lc) -> Result<(), AllocError>
     ensures { OnOk result (map drive_of drives.new.items ≡ map drive_of drives.old.items ++ flat_map (lut_drives inputs) (filter (λ lc. not lc.flip) (lc ∷ []))) }
 {
@@ -25,7 +25,7 @@ fn append_lut(drives: &mut Vec<Drive>, inputs: LutInputs, lc: Lc) -> Result<(), 
     push_if(drives, driver, rule, lc.out)
 }
 
-/// Appends what cells without flip-flop drive on `lutff_i/out`.
+/// Appends what cells without a flip-flop drive on `lutff_i/out`.
 pub(crate) fn append_luts(
     drives: &mut Vec<Drive>,
     inputs: LutInputs,
@@ -59,7 +59,7 @@ pub(crate) fn append_louts(
     Ok(())
 }
 
-/// Appends what a cell drives on `lutff_i/cout` where it carries.
+/// Appends what a cell drives on `lutff_i/cout`, its carry-out, if its carry is on.
 fn append_carry(drives: &mut Vec<Drive>, lc: Lc) -> Result<(), AllocError>
     ensures { OnOk result (map drive_of drives.new.items ≡ map drive_of drives.old.items ++ flat_map carry_drives (filter (λ lc. lc.carry) (lc ∷ []))) }
 {
@@ -75,7 +75,7 @@ fn append_carry(drives: &mut Vec<Drive>, lc: Lc) -> Result<(), AllocError>
     push_if(drives, driver, rule, lc.cout)
 }
 
-/// Appends what cells drive on `lutff_i/cout` that carry.
+/// Appends what cells whose carry is on drive on `lutff_i/cout`.
 pub(crate) fn append_carries(drives: &mut Vec<Drive>, lcs: &[Lc]) -> Result<(), AllocError>
     ensures { OnOk result (map drive_of drives.new.items ≡ map drive_of drives.old.items ++ flat_map carry_drives (filter (λ lc. lc.carry) lcs.now)) }
 {
@@ -85,7 +85,7 @@ pub(crate) fn append_carries(drives: &mut Vec<Drive>, lcs: &[Lc]) -> Result<(), 
     Ok(())
 }
 
-/// Appends what carry inputs drive that are set.
+/// Appends what the carry inputs that are set drive.
 pub(crate) fn append_sets(drives: &mut Vec<Drive>, sets: &[CarrySet]) -> Result<(), AllocError>
     ensures { OnOk result (map drive_of drives.new.items ≡ map drive_of drives.old.items ++ flat_map set_drives sets.now) }
 {

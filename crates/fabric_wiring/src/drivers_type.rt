@@ -6,10 +6,10 @@ use crate::drive::Drive;
 use crate::places::driver_at;
 use std::marker::Model;
 
-/// The drivers of a fabric in which no class of nets has two.
+/// The drivers of a fabric in which no class of joined nets has two.
 ///
-/// Contracts see the drivers in their order, and for each class the place of its driver. They are those of a fabric where
-/// `AreDriversOf` says so. No call takes memory.
+/// Contracts see the drivers in their order, and for each class the index of its driver. `AreDriversOf` says that these are the drivers of
+/// a fabric. No call allocates memory.
 #[derive(Drop)]
 pub struct Drivers {
     pub(crate) drives: Vec<Drive>,
@@ -25,14 +25,14 @@ impl Model for Drivers {
 }
 
 impl Drivers {
-    /// How many classes there are: as many as nets.
+    /// The number of nets. A class of joined nets is named by its least net, so classes have numbers below this one.
     pub fn len(&self) -> usize
         ensures { result ≡ length self.now.places }
     {
         self.places.len()
     }
 
-    /// The driver of a class.
+    /// The driver of a class of joined nets, or `None` if it has none.
     pub fn of_class(&self, class: u32) -> Option<Drive>
         requires { class < length self.now.places }
         ensures { result ≡ driver_in self.now class }

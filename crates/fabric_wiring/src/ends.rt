@@ -1,4 +1,4 @@
-// Where the clocks of classes come from.
+// Where the clocks of classes of joined nets come from.
 ghost use Rattle.std.specs.Prelude.{◌≡◌, ℕ, ◌<◌, length, map, option_to_list, IfOk};
 ghost use Rattle.net_extract.specs.Fabric.{Fabric};
 ghost use Rattle.net_extract.specs.Wiring.{wiring_of, IsWriteOrder};
@@ -15,21 +15,23 @@ use crate::{Drivers, Parts, Rule};
 use net_extract::Links;
 use std::alloc::{AllocError, Global};
 
-/// Where the chain from a class ends: it goes on along buffers, and along globals that a net `fabout` drives, from class to class.
+/// Where the clock chain from a class of joined nets ends. It leads from class to class, along buffers and along global networks that a
+/// net `fabout` drives.
 #[derive(Clone, Copy, Debug, PartialEq, Eq)]
 pub enum ClockEnd {
-    /// At the input pin of that place among the input pins.
+    /// At the input pin with that index among the input pins.
     Pin(u32),
-    /// At a class without a driver.
+    /// At a class of joined nets without a driver.
     Undriven,
     /// At any other driver.
     Logic,
 }
 
-/// Finds where the chain from each class ends, along the write order: an end for each class, from the least on.
+/// Finds where the clock chain from each class of joined nets ends: an end for each class, in ascending order. It goes over the classes in
+/// the write order, so the end for a driver's source is known when it comes to the driver.
 ///
 /// # Errors
-/// `AllocError` where memory is out, and for no other cause.
+/// `AllocError` if memory is out, and for no other cause.
 pub fn clock_ends(
     alloc: Global,
     parts: &Parts,
@@ -47,7 +49,7 @@ pub fn clock_ends(
     Ok(ends)
 }
 
-/// As many ends of chains without a driver.
+/// A list of `count` ends, each at a class of joined nets without a driver.
 fn all_still(alloc: Global, count: usize) -> Result<Vec<ClockEnd>, AllocError>
     ensures length { IfOk result (λ ends. length ends.items ≡ count) }
     ensures undriven { IfOk result (λ ends. (class : ℕ) → end_in ends.items class ≡ undriven) }
@@ -55,7 +57,7 @@ fn all_still(alloc: Global, count: usize) -> Result<Vec<ClockEnd>, AllocError>
     vec![in alloc; ClockEnd::Undriven; count]
 }
 
-/// Sets the ends of the chains from all classes with a driver, where those of all others are set.
+/// Sets the ends of the clock chains from all classes of joined nets with a driver. Those from all other classes are set before.
 fn follow(parts: &Parts, drivers: &Drivers, order: &[u32], ends: &mut [ClockEnd])
     ghost fabric: { Fabric }
     requires parts { ArePartsOf fabric parts.now }
@@ -70,7 +72,7 @@ fn follow(parts: &Parts, drivers: &Drivers, order: &[u32], ends: &mut [ClockEnd]
     }
 }
 
-/// The end of the chain from a class, where the end is known from the class that it goes on to.
+/// The end of the clock chain from a class of joined nets, if the end from the class that it goes on to is known.
 fn end_from(links: &Links, drivers: &Drivers, ends: &[ClockEnd], class: u32) -> ClockEnd
     requires class { class < length drivers.now.places }
     requires net { (net : ℕ) → turn_of (map drive_of (option_to_list (driver_in drivers.now class))) ≡ goes_to net → net < length links.now.classes }
@@ -82,7 +84,7 @@ fn end_from(links: &Links, drivers: &Drivers, ends: &[ClockEnd], class: u32) -> 
     }
 }
 
-/// The end of a chain that comes to a driver with that rule.
+/// The end of a clock chain at or after a driver with that rule.
 fn end_along(links: &Links, ends: &[ClockEnd], rule: Rule) -> ClockEnd
     requires { (net : ℕ) → turn_by (rule_of rule) ≡ goes_to net → net < length links.now.classes }
     ensures { end_of result ≡ end_by (λ net. end_in ends.now (class_in links.now net)) (turn_by (rule_of rule)) }
@@ -94,7 +96,7 @@ fn end_along(links: &Links, ends: &[ClockEnd], rule: Rule) -> ClockEnd
     }
 }
 
-/// The end that is known from a class.
+/// The end that is known for a class of joined nets.
 pub(crate) fn end_at(ends: &[ClockEnd], class: u32) -> ClockEnd
     ensures { end_of result ≡ end_in ends.now class }
 {

@@ -1,4 +1,4 @@
-// Classes with two drivers.
+// Classes of joined nets with two drivers.
 ghost use Rattle.std.specs.Prelude.{◌≡◌};
 
 use net_extract::Driver;
@@ -7,7 +7,7 @@ use std::alloc::AllocError;
 /// Why drivers aren't taken.
 #[derive(Clone, Copy, Debug, PartialEq, Eq)]
 pub enum DriverFault {
-    /// The class of a net has two drivers or more. It is the least such class, named by its least net, with its first two drivers.
+    /// A class of joined nets has two drivers or more. It is the least such class, named by its least net, with its first two drivers.
     TwoDrivers {
         net: u32,
         first: Driver,

@@ -17,7 +17,8 @@ use std::alloc::Global;
 /// Finds the drivers of a fabric from its parts.
 ///
 /// # Errors
-/// `TwoDrivers` where a class of nets has two drivers or more.
+/// `TwoDrivers` if a class of joined nets has two drivers or more: it tells the least such class, with its first two drivers. `Memory` if
+/// memory is out.
 pub fn drivers(alloc: Global, parts: &Parts) -> Result<Drivers, DriverFault>
     ghost fabric: { Fabric }
     requires parts { ArePartsOf fabric parts.now }

@@ -1,4 +1,4 @@
-// What a fabric gives outside.
+// The outputs of a fabric.
 ghost use Rattle.std.specs.Prelude.{◌≡◌, ◌++◌, ◌&&◌, ◌==◌, map, filter, find, flat_map, position, IfOk, OnOk};
 ghost use Rattle.net_extract.specs.Pins.{is_tri_state};
 ghost use Rattle.net_extract.specs.Fabric.{Fabric, numbered};
@@ -17,7 +17,7 @@ use std::alloc::{AllocError, Global};
 #[derive(Clone, Copy, Debug, PartialEq, Eq)]
 pub struct Output {
     pub pin: Pin,
-    /// Whether it is the one that tells whether the pin is switched on; else it is the pin's value.
+    /// Whether it is the output enable of the pin; if not, it is the pin's value.
     pub enable: bool,
     pub rule: Rule,
 }
@@ -32,14 +32,14 @@ fn is_output_user(n: u8, user: ClockUser) -> bool
     }
 }
 
-/// Whether a register is that of an output pin.
+/// Whether a register is the register of an output pin.
 fn is_output_register(pin: Pin, register: Register) -> bool
     ensures { result ≡ ((register.x == pin.x) && ((register.y == pin.y) && is_output_user pin.n register.user)) }
 {
     register.x == pin.x && register.y == pin.y && is_output_user(pin.n, register.user)
 }
 
-/// The place of the register of an output pin, where there is one.
+/// The index of the register of an output pin, or `None` if it has none.
 fn output_register(registers: &[Register], pin: Pin) -> Option<usize>
     ensures { result ≡ position (λ register. (register.x == pin.x) && ((register.y == pin.y) && is_output_user pin.n register.user)) registers.now }
 {
@@ -48,7 +48,7 @@ fn output_register(registers: &[Register], pin: Pin) -> Option<usize>
         .position(|register| is_output_register(pin, *register))
 }
 
-/// The value of the register of an output pin, and 0 where there is none.
+/// The value of the register of an output pin; 0 if it has none.
 fn register_rule(registers: &[Register], pin: Pin) -> Result<Rule, AllocError>
     ensures { IfOk result (λ rule. rule_of rule ≡ register_rule (find (is_output_register pin) (numbered registers.now))) }
 {
@@ -61,7 +61,7 @@ fn register_rule(registers: &[Register], pin: Pin) -> Result<Rule, AllocError>
     }
 }
 
-/// What an output pin has: its register's value, or that of `io_n/D_OUT_0` where it has no register.
+/// How an output pin makes its value: it has that of its register, or that of `io_n/D_OUT_0` if it isn't registered.
 pub(crate) fn output_rule(registers: &[Register], pin: Pin) -> Result<Rule, AllocError>
     ensures { IfOk result (λ rule. rule_of rule ≡ output_rule registers.now pin) }
 {
@@ -74,7 +74,7 @@ pub(crate) fn output_rule(registers: &[Register], pin: Pin) -> Result<Rule, Allo
     })
 }
 
-/// Whether a pin is an output that can be switched off.
+/// Whether a pin is a tri-state output.
 fn is_tri_state(pin: Pin) -> bool
     ensures { result ≡ is_tri_state pin }
 {
@@ -84,7 +84,7 @@ fn is_tri_state(pin: Pin) -> bool
     }
 }
 
-/// Appends the output that tells whether a pin is switched on, where it can be switched off.
+/// Appends the output enable of a pin, if it is a tri-state output.
 fn append_enable(outputs: &mut Vec<Output>, pin: Pin) -> Result<(), AllocError>
     ensures { OnOk result (map output_of outputs.new.items ≡ map output_of outputs.old.items ++ enable_outputs pin) }
 {
@@ -140,7 +140,7 @@ fn outputs_among(
 /// Finds the outputs of a fabric from its parts: those of each output pin, in the order of the pins.
 ///
 /// # Errors
-/// `AllocError` where memory is out, and for no other cause.
+/// `AllocError` if memory is out, and for no other cause.
 pub fn outputs(alloc: Global, parts: &Parts) -> Result<Vec<Output>, AllocError>
     ghost fabric: { Fabric }
     requires parts { ArePartsOf fabric parts.now }

@@ -2,7 +2,7 @@
 
 use net_extract::{CarrySet, GlobalNet, Lc, Links, LutInputs, Pin, RamCell, Register};
 
-/// A buffer that is on: the `.buffer` line of that place in the database, and its two nets.
+/// A buffer that is on: its index among the buffers of the database, and its two nets.
 #[derive(Clone, Copy, Debug, PartialEq, Eq)]
 pub struct Buffer {
     pub line: u32,
@@ -10,11 +10,11 @@ pub struct Buffer {
     pub dst: u32,
 }
 
-/// The parts of a fabric. Each list is in the order of tiles (by rows, then by columns), then of indices; globals go by number,
-/// then by net, and buffers by line.
+/// The parts of a fabric. Each list is ordered by tile (by row, then by column), then by index. Nets of global networks are ordered by the
+/// number of the network, then by net, and buffers by line.
 #[derive(Drop)]
 pub struct Parts {
-    /// The classes of nets.
+    /// The links that are on, and the classes of joined nets.
     pub links: Links,
     /// The buffers that are on.
     pub buffers: Vec<Buffer>,
@@ -25,7 +25,7 @@ pub struct Parts {
     pub lut_inputs: LutInputs,
     /// The used cells.
     pub lcs: Vec<Lc>,
-    /// The registers: the flip-flops of the cells, then those of pins.
+    /// The registers: the flip-flops of the cells, then the registers of pins.
     pub registers: Vec<Register>,
     /// The carry inputs that are set.
     pub sets: Vec<CarrySet>,

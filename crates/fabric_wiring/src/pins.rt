@@ -1,4 +1,4 @@
-// What pins and globals drive.
+// What pins and global networks drive.
 ghost use Rattle.std.specs.Prelude.{◌≡◌, ◌∷◌, [], ◌++◌, map, filter, flat_map, IfOk, OnOk};
 ghost use Rattle.net_extract.specs.Fabric.{numbered};
 ghost use Rattle.net_extract.specs.Drivers.{pin_drives, back_drives, global_rule, global_drives};
@@ -10,7 +10,7 @@ use crate::push::push_if;
 use net_extract::{Driver, GlobalFrom, GlobalNet, Pin, Register, place_among, place_of};
 use std::alloc::AllocError;
 
-/// Appends what the input pin of a place drives, which is nothing where it has a register.
+/// Appends what an input pin drives, given its index: nothing if it has a register.
 fn append_pin(drives: &mut Vec<Drive>, place: u32, pin: Pin) -> Result<(), AllocError>
     ensures { OnOk result (map drive_of drives.new.items ≡ map drive_of drives.old.items ++ pin_drives (place, pin)) }
 {
@@ -35,7 +35,7 @@ pub(crate) fn append_pins(drives: &mut Vec<Drive>, inputs: &[Pin]) -> Result<(),
     Ok(())
 }
 
-/// Appends what a pin drives where it can be read.
+/// Appends the readback of an output pin, if it has one.
 fn append_back(drives: &mut Vec<Drive>, registers: &[Register], pin: Pin) -> Result<(), AllocError>
     ensures { OnOk result (map drive_of drives.new.items ≡ map drive_of drives.old.items ++ flat_map (back_drives registers.now) (filter (λ pin. pin.back) (pin ∷ []))) }
 {
@@ -50,7 +50,7 @@ fn append_back(drives: &mut Vec<Drive>, registers: &[Register], pin: Pin) -> Res
     push_if(drives, driver, output_rule(registers, pin)?, pin.din)
 }
 
-/// Appends what output pins drive that can be read.
+/// Appends the readbacks of the output pins that have one.
 pub(crate) fn append_backs(
     drives: &mut Vec<Drive>,
     registers: &[Register],
@@ -64,7 +64,7 @@ pub(crate) fn append_backs(
     Ok(())
 }
 
-/// How a global makes its value.
+/// How a global network makes its value.
 fn global_rule(inputs: &[Pin], from: GlobalFrom) -> Result<Rule, AllocError>
     ensures { IfOk result (λ rule. rule_of rule ≡ global_rule inputs.now from) }
 {
@@ -74,7 +74,7 @@ fn global_rule(inputs: &[Pin], from: GlobalFrom) -> Result<Rule, AllocError>
     }
 }
 
-/// Appends what globals drive.
+/// Appends what global networks drive.
 pub(crate) fn append_globals(
     drives: &mut Vec<Drive>,
     inputs: &[Pin],

@@ -1,4 +1,4 @@
-// The driver of each class.
+// The driver of each class of joined nets.
 ghost use Rattle.std.specs.Prelude.{◌≡◌, ℕ, ◌<◌, ◌≤◌, List, length, slice_get, get_or, option_and_then, option_to_list, All, IfOk, IfErr, OnOk, None, replicate};
 ghost use Rattle.net_extract.specs.Links.{class_in};
 ghost use Rattle.net_extract.specs.Tiles.{first_of};
@@ -12,7 +12,7 @@ use crate::twice::{Twice, lesser};
 use net_extract::{Links, place_of};
 use std::alloc::{AllocError, Global};
 
-/// The driver at a place, where there is the place.
+/// The driver with an index, or `None` if there is no index or no driver with it.
 pub(crate) fn driver_at(drives: &[Drive], place: Option<u32>) -> Option<Drive>
     ensures { result ≡ option_and_then (slice_get drives.now) place }
 {
@@ -22,7 +22,8 @@ pub(crate) fn driver_at(drives: &[Drive], place: Option<u32>) -> Option<Drive>
     }
 }
 
-/// Enters the driver at a place among all as one of a class, behind those that are entered. The class keeps its first driver.
+/// Enters the driver with an index as one of a class of joined nets, after those that are entered before. The class keeps its first
+/// driver.
 fn enter(
     drives: &[Drive],
     i: usize,
@@ -50,7 +51,7 @@ fn enter(
     }
 }
 
-/// Enters all drivers where none are entered, and tells the least class with two.
+/// Enters all drivers, none of which is entered before, and tells the least class of joined nets with two drivers.
 fn enter_all(
     links: &Links,
     drives: &[Drive],
@@ -70,7 +71,7 @@ fn enter_all(
     Ok(twice)
 }
 
-/// The place of the driver of each class, or the least class with two drivers.
+/// The index of the driver of each class of joined nets, or the least class with two drivers.
 pub(crate) fn places(
     alloc: Global,
     links: &Links,

@@ -1,4 +1,4 @@
-// One driver more.
+// One more driver.
 ghost use Rattle.std.specs.Prelude.{◌≡◌, ◌++◌, map, OnOk};
 ghost use Rattle.net_extract.specs.Drivers.{drives_if};
 ghost use Rattle.fabric_wiring.specs.Drives.{drive_of, rule_of};
@@ -7,7 +7,7 @@ use crate::drive::{Drive, Rule};
 use net_extract::Driver;
 use std::alloc::AllocError;
 
-/// Appends a driver of a net, where there is the net.
+/// Appends a driver of a net, if there is the net.
 pub(crate) fn push_if(
     drives: &mut Vec<Drive>,
     driver: Driver,

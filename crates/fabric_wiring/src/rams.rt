@@ -22,7 +22,8 @@ fn first_data_bit(mode: u8) -> u8
     }
 }
 
-/// Whether a port bit, counted from the first that has data, has data too: one of each two, four or eight has in modes 1 to 3.
+/// Whether a port bit has data, counted from the first one that has: in mode 0 all have, and in modes 1, 2 and 3 every second, fourth and
+/// eighth one.
 fn is_data_bit(mode: u8, place: u8) -> bool
     ensures { result ≡ (place % share mode == 0) }
 {
@@ -32,7 +33,7 @@ fn is_data_bit(mode: u8, place: u8) -> bool
     }
 }
 
-/// What a port bit of the read data of the RAM at a place has, which is read in that mode.
+/// How a port bit of the read data of a RAM makes its value, given the RAM's index and read mode.
 fn read_data_rule(ram: u32, mode: u8, bit: u8) -> Rule
     ensures { rule_of result ≡ read_data_rule ram mode bit }
 {
@@ -42,7 +43,7 @@ fn read_data_rule(ram: u32, mode: u8, bit: u8) -> Rule
     }
 }
 
-/// Appends what a RAM drives: that of a place among the used RAMs.
+/// Appends what a RAM drives, given its index among the used RAMs.
 fn append_ram(drives: &mut Vec<Drive>, place: u32, ram: &RamCell) -> Result<(), AllocError>
     ensures { OnOk result (map drive_of drives.new.items ≡ map drive_of drives.old.items ++ ram_drives (place, ram.now)) }
 {

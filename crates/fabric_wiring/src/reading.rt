@@ -1,4 +1,4 @@
-// Which classes have a driver, and which classes each reads.
+// Which classes of joined nets have a driver, and which classes each reads.
 ghost use Rattle.std.specs.Prelude.{◌≡◌, ℕ, ◌<◌, ◌≤◌, true, is_some, length, map, flat_map, option_to_list, [], if◌then◌else◌, IfOk, IfSome};
 ghost use Rattle.net_extract.specs.Fabric.{Fabric};
 ghost use Rattle.net_extract.specs.Drivers.{source_nets, nets_read};
@@ -16,10 +16,11 @@ use crate::{Drive, Drivers, Parts, Rule};
 use net_extract::{Links, Register, Source};
 use std::alloc::{AllocError, Global};
 
-/// Finds what the classes of a fabric read: a mark and a row for each class, from the least on.
+/// Finds what the classes of joined nets of a fabric read. It gives each class, in ascending order, a mark, whether it has a driver, and a
+/// row, the fan-in of its driver.
 ///
 /// # Errors
-/// `AllocError` where memory is out, or where there are more classes than 32 bits count.
+/// `AllocError` if memory is out, or if there are more classes than 32 bits can count.
 pub fn wires(alloc: Global, parts: &Parts, drivers: &Drivers) -> Result<Wires, AllocError>
     ghost fabric: { Fabric }
     requires parts { ArePartsOf fabric parts.now }
@@ -33,14 +34,14 @@ pub fn wires(alloc: Global, parts: &Parts, drivers: &Drivers) -> Result<Wires, A
     Ok(Wires { driven, reads })
 }
 
-/// How many classes there are. For more than 32 bits count there is no room.
+/// How many classes of joined nets there are. It is an error if 32 bits can't count them.
 fn count_of(drivers: &Drivers) -> Result<u32, AllocError>
     ensures { IfOk result (λ count. count ≡ length drivers.now.places) }
 {
     u32::try_from(drivers.len()).map_err(|_| AllocError)
 }
 
-/// Whether each class has a driver.
+/// For each class of joined nets, whether it has a driver.
 fn marks_of(alloc: Global, drivers: &Drivers, count: u32) -> Result<Vec<bool>, AllocError>
     requires { count ≤ length drivers.now.places }
     ensures length { IfOk result (λ marks. length marks.items ≡ count) }
@@ -53,7 +54,7 @@ fn marks_of(alloc: Global, drivers: &Drivers, count: u32) -> Result<Vec<bool>, A
     Ok(marks)
 }
 
-/// The classes that the driver of each class reads.
+/// For each class of joined nets, the classes that its driver reads.
 fn rows_of(
     alloc: Global,
     links: &Links,
@@ -73,7 +74,7 @@ fn rows_of(
     Ok(rows)
 }
 
-/// The classes that a driver reads, and none where there is no driver.
+/// The classes of joined nets that a driver reads, and none if there is no driver.
 fn row_of(alloc: Global, links: &Links, drive: Option<Drive>) -> Result<Vec<u32>, AllocError>
     requires { IfSome drive (λ drive. (net : ℕ) → has (nets_read (rule_of drive.rule)) net ≡ true → net < length links.now.classes) }
     ensures { IfOk result (λ row. row.items ≡ row_in links.now drive) }
@@ -84,7 +85,7 @@ fn row_of(alloc: Global, links: &Links, drive: Option<Drive>) -> Result<Vec<u32>
     }
 }
 
-/// The classes that a driver with that rule reads.
+/// The classes of joined nets that a driver with that rule reads.
 #[tactic(auto, unfolding(net_extract::specs::Drivers::nets_read))]
 fn row_by(alloc: Global, links: &Links, rule: Rule) -> Result<Vec<u32>, AllocError>
     requires { (net : ℕ) → has (nets_read (rule_of rule)) net ≡ true → net < length links.now.classes }
@@ -100,7 +101,7 @@ fn row_by(alloc: Global, links: &Links, rule: Rule) -> Result<Vec<u32>, AllocErr
     }
 }
 
-/// The class of the reset of a register, where the register reads it: where it acts at once.
+/// The class of joined nets of the set or reset of a register, if that is asynchronous; else the register reads none.
 fn classes_of_reset(
     alloc: Global,
     links: &Links,
@@ -116,7 +117,7 @@ fn classes_of_reset(
     }
 }
 
-/// The classes of the nets that inputs of a table are.
+/// The classes of joined nets that the inputs of a table read.
 fn classes_of_sources(alloc: Global, links: &Links, ins: &[Source]) -> Result<Vec<u32>, AllocError>
     requires { (net : ℕ) → has (flat_map source_nets ins.now) net ≡ true → net < length links.now.classes }
     ensures { IfOk result (λ row. row.items ≡ map (class_in links.now) (flat_map source_nets ins.now)) }
@@ -130,7 +131,7 @@ fn classes_of_sources(alloc: Global, links: &Links, ins: &[Source]) -> Result<Ve
     Ok(row)
 }
 
-/// The classes of the nets that are there.
+/// The classes of joined nets of some nets, of which some may be missing.
 fn classes_of(alloc: Global, links: &Links, nets: &[Option<u32>]) -> Result<Vec<u32>, AllocError>
     requires { (net : ℕ) → has (flat_map option_to_list nets.now) net ≡ true → net < length links.now.classes }
     ensures { IfOk result (λ row. row.items ≡ map (class_in links.now) (flat_map option_to_list nets.now)) }

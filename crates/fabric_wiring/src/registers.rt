@@ -51,7 +51,7 @@ fn register_of(inputs: LutInputs, lc: &Lc) -> Register
 /// The registers of cells whose LUTs read these inputs: the flip-flops, in the order of the cells.
 ///
 /// # Errors
-/// `AllocError` where memory is out, and for no other cause.
+/// `AllocError` if memory is out, and for no other cause.
 #[tactic(auto, unfolding(net_extract::specs::Registers::registers_of))]
 pub fn registers_of(
     alloc: Global,
@@ -69,7 +69,7 @@ pub fn registers_of(
     Ok(registers)
 }
 
-/// Appends what a register drives: that of a place among the registers, which is that driver.
+/// Appends what a register drives, given its index among the registers and which driver it is.
 fn append_register(
     drives: &mut Vec<Drive>,
     driver: Driver,
@@ -85,7 +85,7 @@ fn append_register(
     push_if(drives, driver, rule, register.out)
 }
 
-/// Appends what a register drives where it is a flip-flop.
+/// Appends what a register drives if it is the flip-flop of a cell.
 fn append_flip(drives: &mut Vec<Drive>, place: u32, register: &Register) -> Result<(), AllocError>
     ensures { OnOk result (map drive_of drives.new.items ≡ map drive_of drives.old.items ++ flip_drives (place, register.now)) }
 {
@@ -111,7 +111,7 @@ pub(crate) fn append_flips(
     Ok(())
 }
 
-/// Appends what a register drives where it is that of an input pin.
+/// Appends what a register drives if it is the register of an input pin.
 fn append_pin_register(
     drives: &mut Vec<Drive>,
     place: u32,

@@ -1,10 +1,10 @@
-// The least class with two drivers.
+// The least class of joined nets with two drivers.
 ghost use Rattle.std.specs.Prelude.{◌≡◌};
 ghost use Rattle.fabric_wiring.specs.Passed.{lesser};
 
 use net_extract::Driver;
 
-/// A class with two drivers or more, and its first two.
+/// A class of joined nets with two drivers or more, and its first two drivers.
 #[derive(Clone, Copy)]
 pub(crate) struct Twice {
     pub(crate) net: u32,
@@ -12,7 +12,7 @@ pub(crate) struct Twice {
     pub(crate) second: Driver,
 }
 
-/// The one of two classes that is less; the one that was found before, where they are the same.
+/// The lesser of two classes of joined nets; the one that was found before if they are the same.
 pub(crate) fn lesser(before: Option<Twice>, found: Twice) -> Option<Twice>
     ensures { result ≡ lesser before found }
 {

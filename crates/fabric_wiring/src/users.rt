@@ -24,7 +24,7 @@ pub struct Unclocked {
     pub net: u32,
 }
 
-/// A user of a clock at the tile at (x, y), and the net of its clock, where there is one.
+/// A user of a clock at the tile at (x, y), and the net of its clock, if it has one.
 #[derive(Clone, Copy)]
 struct ClockInput {
     x: u8,
@@ -33,8 +33,9 @@ struct ClockInput {
     net: Option<u32>,
 }
 
-/// Finds the first user whose clock comes from another driver than a pin. Users go by tiles, the registers of a tile in
-/// their order, and at a RAM the read port goes first. It goes over the registers and the RAMs once, and takes no memory.
+/// Finds the first user whose clock comes from another driver than a pin. Users are ordered by tile; the registers of a tile are in
+/// their order, and the read port of a RAM comes before its write port. It goes over the registers and the RAMs once, and allocates no
+/// memory.
 pub fn first_unclocked(device: DeviceName, parts: &Parts, ends: &[ClockEnd]) -> Option<Unclocked>
     ghost fabric: { Fabric }
     requires parts { ArePartsOf fabric parts.now }
@@ -62,7 +63,7 @@ fn first_register(
     found
 }
 
-/// What was found, or the first port of RAMs whose clock comes from another driver than a pin, where its tile goes before.
+/// What was found, or the first port of RAMs whose clock comes from another driver than a pin, if its tile comes before.
 fn or_first_port(
     device: DeviceName,
     links: &Links,
@@ -81,7 +82,7 @@ fn or_first_port(
     found
 }
 
-/// What was found, or a register, where it goes before.
+/// What was found, or a register whose clock comes from another driver than a pin, if its tile comes before.
 fn or_register(
     device: DeviceName,
     links: &Links,
@@ -101,7 +102,7 @@ fn or_register(
     or_input(device, links, ends, found, input)
 }
 
-/// What was found, or a port of a RAM, where it goes before.
+/// What was found, or a port of a RAM whose clock comes from another driver than a pin, if its tile comes before.
 fn or_ports(
     device: DeviceName,
     links: &Links,
@@ -129,7 +130,7 @@ fn or_ports(
     or_input(device, links, ends, found, write)
 }
 
-/// What was found, or a user whose clock comes from another driver than a pin, where it goes before.
+/// What was found, or a user whose clock comes from another driver than a pin, if its tile comes before.
 fn or_input(
     device: DeviceName,
     links: &Links,
@@ -146,7 +147,7 @@ fn or_input(
     }
 }
 
-/// A user with its net, where its clock comes from another driver than a pin.
+/// A user and the net of its clock, or `None` if the clock comes from a pin or has no driver.
 fn without_pin(links: &Links, ends: &[ClockEnd], input: ClockInput) -> Option<Unclocked>
     requires { IsNetIn (length links.now.classes) input.net }
     ensures { option_to_list result ≡ unclocked_by links.now ends.now input }
@@ -163,14 +164,15 @@ fn without_pin(links: &Links, ends: &[ClockEnd], input: ClockInput) -> Option<Un
     })
 }
 
-/// Whether the chain from a class ends at another driver than a pin.
+/// Whether the clock chain from a class of joined nets ends at another driver than a pin.
 fn ends_otherwise(ends: &[ClockEnd], class: u32) -> bool
     ensures { result ≡ is_other (end_in ends.now class) }
 {
     matches!(end_at(ends, class), ClockEnd::Logic)
 }
 
-/// The one of two whose tile goes first, which is what was found where both stand at one tile. One off the grid doesn't count.
+/// Of two users the one whose tile comes first. If both are at one tile, it is the one that was found before. A user off the grid doesn't
+/// count.
 fn or_sooner(device: DeviceName, found: Option<Unclocked>, next: Unclocked) -> Option<Unclocked>
     ensures { (before : List Unclocked) → found ≡ first_on device before → result ≡ first_on device (before ++ next ∷ []) }
 {
@@ -181,14 +183,14 @@ fn or_sooner(device: DeviceName, found: Option<Unclocked>, next: Unclocked) -> O
     }
 }
 
-/// Whether the tile is one of the grid.
+/// Whether the tile of a user is on the grid.
 fn on_grid(device: DeviceName, user: Unclocked) -> bool
     ensures { result ≡ is_on_grid device user }
 {
     (user.x as u32) < device.columns() && (user.y as u32) < device.rows()
 }
 
-/// Whether the tile of one goes before that of another that may be missing.
+/// Whether the tile of a user comes before the tile of another. It does if there is no other.
 fn goes_before(one: Unclocked, other: Option<Unclocked>) -> bool
     ensures { result ≡ is_before_any one other }
 {

@@ -41,7 +41,7 @@ module _ (device : DeviceName) (seed : ℕ) (is_done is_next : Bit → Bool) whe
     ];
   }
 
-  -- a bit that is 0 is passed over
+  -- a bit that is 0 is skipped
   pub filled-past : (bit : Bit) (image : Configuration) → IsStep device bit is_done is_next → is_generated device seed bit ≡ false
       → IsFilled device seed is_done image → IsFilled device seed is_next image
   filled-past bit image step zero filled = record {
@@ -55,7 +55,7 @@ module _ (device : DeviceName) (seed : ℕ) (is_done is_next : Bit → Bool) whe
     ];
   }
 
-  -- places without a bit that is 1 are passed over
+  -- places without a bit that is 1 are skipped
   pub filled-same : (image : Configuration) → ((other : Bit) → IsBit (standard_layout device) other → (is_done other ≡ is_next other) ⊎ (is_generated device seed other ≡ false))
       → IsFilled device seed is_done image → IsFilled device seed is_next image
   filled-same image same filled = record {
@@ -151,7 +151,7 @@ word-step device bit t is t_is (OfTile other) is_other = inr ((λ e. cc e), refl
 word-step device bit t is t_is (Extra other) is_other = inr ((λ e. cc e), refl)
 
 module _ (device : DeviceName) (seed : ℕ) (image : Configuration) where
-  -- bits of tiles that are 0 are passed over
+  -- bits of tiles that are 0 are skipped
   pub skip-tiles : (from to : ℕ) → from ≤ to → ((bit : TileBit) → IsTileBit device bit → from ≤ turn bit.x bit.y bit.row bit.col → turn bit.x bit.y bit.row bit.col < to → is_generated device seed (OfTile bit) ≡ false)
       → IsFilled device seed (is_tile_before from) image → IsFilled device seed (is_tile_before to) image
   skip-tiles from to rise zero = filled-same device seed (is_tile_before from) (is_tile_before to) image each
@@ -169,7 +169,7 @@ module _ (device : DeviceName) (seed : ℕ) (image : Configuration) where
       each (OfWord o) is = inl refl
       each (Extra o) is = inl refl
 
-  -- the same for bits of words
+  -- bits of words that are 0 are skipped
   pub skip-words : (from to : ℕ) → from ≤ to → ((bit : WordBit) → IsWordBit device bit → from ≤ word_turn bit.x bit.y bit.word bit.bit → word_turn bit.x bit.y bit.word bit.bit < to → is_generated device seed (OfWord bit) ≡ false)
       → IsFilled device seed (is_word_before from) image → IsFilled device seed (is_word_before to) image
   skip-words from to rise zero = filled-same device seed (is_word_before from) (is_word_before to) image each
@@ -187,7 +187,7 @@ module _ (device : DeviceName) (seed : ℕ) (image : Configuration) where
       each (OfTile o) is = inl refl
       each (Extra o) is = inl refl
 
-  -- behind the last column of a row of a tile
+  -- after the last column of a row of a tile
   pub skip-columns : (x y row width : ℕ) → x < 34 → columns_at device x y ≡ width → row < 16 → IsFilled device seed (is_tile_before (turn x y row width)) image → IsFilled device seed (is_tile_before (turn x y (row + 1) 0)) image
   skip-columns x y row width near wide low =
       let most : width ≤ 54 = width-most device x y width wide in
@@ -206,7 +206,7 @@ module _ (device : DeviceName) (seed : ℕ) (image : Configuration) where
       let there = in-grid device bit is in
       zero bit is (omega (arith, is.row_in, there.0, there.1)) (omega (arith, is.row_in, there.0, there.1)))
 
-  -- behind the last column of the grid
+  -- after the last column of the grid
   pub skip-edge : (x y : ℕ) → x ≡ grid_width device → IsFilled device seed (is_tile_before (turn x y 0 0)) image → IsFilled device seed (is_tile_before (turn 0 (y + 1) 0 0)) image
   skip-edge x y last =
       let most : grid_width device ≤ 34 = grid_width-le device in
@@ -236,7 +236,7 @@ module _ (device : DeviceName) (seed : ℕ) (image : Configuration) where
       let y_is : bit.y ≡ y = omega (arith, is.bit_in, is.word_in, there.0) in
       absurd (other (ap (λ x. kind_of device x y) (sym x_is) ∙ ap (kind_of device bit.x) (sym y_is) ∙ is.lower)))
 
-  -- behind the last column of the grid
+  -- after the last column of the grid
   pub skip-ram-edge : (x y : ℕ) → x ≡ grid_width device → IsFilled device seed (is_word_before (word_turn x y 0 0)) image → IsFilled device seed (is_word_before (word_turn 0 (y + 1) 0 0)) image
   skip-ram-edge x y last =
       let most : grid_width device ≤ 34 = grid_width-le device in

@@ -22,7 +22,7 @@ logic-in L384 x y database is = absurd cc
 logic-in K1 x y database is = grind (arith, nat_tests)
 logic-in K8 x y database is = grind (arith, nat_tests)
 
--- there are so many RAMs
+-- the number of RAMs
 ram-in : (device : DeviceName) (x y : ℕ) → kind_of device x y ≡ Some RamB → ram_number device x y < rams device
 unfolding kind_of
 ram-in L384 x y is = grind (arith, nat_tests)

@@ -87,7 +87,7 @@ total-has (suc n) k f within = elim (cases_eq k n) [
   | inr apart ↦ let before = total-has n k f (omega arith) in omega (arith, before)
 ]
 
--- what a name costs, where a number is another one
+-- what a name costs, if the number is another one
 abbrev pub cost_at : ℕ → ℕ → ℕ
 cost_at a k = if k == a then 84 else 0
 
@@ -396,7 +396,7 @@ module _ (device : DeviceName) (n : ℕ) (few : n < 1000000) where
 
 -- ---- buffers and the head
 
--- a line and a word behind it
+-- a line and a word after it
 word-behind : (line word : List ℕ) (a b : ℕ) → length line ≤ a → length word ≤ b → length (with_word line word) ≤ a + b + 1
 word-behind line word a b one two = omega (arith, one, two, length-append line (32 ∷ word))
 

@@ -5,14 +5,14 @@ use Rattle.place_search.proofs.Places.{gathered_below-more}
 use Rattle.text_lines.specs.Written.{text_of}
 use Rattle.asc_text.proofs.Pieces.{text_of-append, text_of-none, lines-joined}
 
--- what `grind` is told of them
+-- the lemmas that `grind` gets
 pub ruleset joined = (append_assoc, append-nil, text_of-append, text_of-none, map-append, gathered_below-more)
 
 -- names, by other words
 pub names-first : (line : List ℕ → List ℕ) (old after : List ℕ) (written first : List (List ℕ)) → written ≡ first → after ≡ old ++ text_of (map line written) → after ≡ old ++ text_of (map line first)
 names-first line old after written first same one = one ∙ ap (λ names. old ++ text_of (map line names)) same
 
--- names behind others
+-- names after others
 pub names-more : (line : List ℕ → List ℕ) (old middle after : List ℕ) (before written next : List (List ℕ)) → middle ≡ old ++ text_of (map line before) → written ≡ next → after ≡ middle ++ text_of (map line written) → after ≡ old ++ text_of (map line (before ++ next))
 names-more line old middle after before written next one same two =
     lines-joined old middle after (map line before) (map line next) one (names-first line middle after written next same two)

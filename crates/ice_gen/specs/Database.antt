@@ -1,4 +1,5 @@
--- The chip database of the generated design: one concatenation of lines.
+-- The chip database of the generated design, as one list of lines. The form is that of Project IceStorm, 'icebox chip database'; the design
+-- is this project's choice.
 use Rattle.std.specs.Prelude.{ℕ, ◌+◌, ◌-◌, ◌*◌, Bool, true, false, ◌&&◌, List, [], ◌∷◌, ◌++◌, map, codes, decimal, nat_le, nat_lt, ◌==◌, if◌then◌else◌, Option, None, Some}
 use Rattle.place_search.specs.Places.{gathered_below}
 use Rattle.text_lines.specs.Written.{text_of}
@@ -14,7 +15,7 @@ use Rattle.ice_gen.specs.Numbers.{rams, nets, cell_number, ram_number, clock_net
 
 -- ---- before the nets
 
--- the name of the device, the size of its grid, and how many nets there are
+-- the name of the device, the size of its grid, and the number of nets
 abbrev pub device_line : DeviceName → List ℕ
 device_line device = with_word (grid_line (with_word device_keyword (device_word device)) (grid_width device) (grid_height device)) (decimal (nets device))
 
@@ -22,19 +23,20 @@ device_line device = with_word (grid_line (with_word device_keyword (device_word
 abbrev pub bit_word : ℕ → ℕ → List ℕ
 bit_word row col = 66 ∷ decimal row ++ 91 ∷ decimal col ++ 93 ∷ []
 
--- bit k of the type of the first pin
+-- bit k of PIN_TYPE of the first pin (`SB_IO`)
 abbrev pub pin_type_line : ℕ → List ℕ
 pin_type_line k = with_word (codes "IOB_0.PINTYPE_" ++ decimal k) (bit_word k 0)
 
--- the bits of a cell in one of its two rows, each behind a space
+-- the bits of a logic cell in one of its two rows, each after a space
 abbrev pub ten_bits : ℕ → List ℕ
 ten_bits row = gathered_below 10 (λ k. 32 ∷ bit_word row (36 + k))
 
--- the twenty bits of cell i of a tile
+-- the twenty bits of cell i of a logic tile
 abbrev pub cell_line : ℕ → List ℕ
 cell_line i = codes "LC_" ++ decimal i ++ ten_bits (2 * i) ++ ten_bits (2 * i + 1)
 
--- where the bit lies by which a pad drives the global net 0: the last but one of the last row of bank 0, which no tile has
+-- the place of the extra bit by which a pad drives the global net 0: the last column but one of the last row of bank 0, which belongs to no
+-- tile
 abbrev pub pad_drive : DeviceName → Place
 pad_drive device = record { bank = 0; px = cram_width device - 2; py = cram_height device - 1 }
 
@@ -51,22 +53,22 @@ head_lines device =
 
 -- ---- the names of nets
 --
--- Each tile gives names to nets. Those that it gives to one net stand in the order of their bytes.
+-- Each tile gives names to nets. The names that a tile gives to the same net come in the order of their bytes.
 
--- a name, where the test passes
+-- a name, if the test passes
 abbrev pub named : Bool → List ℕ → List (List ℕ)
 named true name = name ∷ []
 named false name = []
 
--- the name of one of some nets in a row, by its place among them
+-- the name of a net, if it is one of `count` nets in sequence; the name ends in its number among them
 abbrev pub numbered : ℕ → ℕ → ℕ → List ℕ → List (List ℕ)
 numbered net first count word = named (nat_le first net && nat_lt net (first + count)) (word ++ decimal (net - first))
 
--- a wire of cell i of a tile
+-- the name of a wire of cell i of a tile
 abbrev pub cell_wire : ℕ → List ℕ → List ℕ
 cell_wire i wire = codes "lutff_" ++ decimal i ++ wire
 
--- The names by cell i of a tile, which is cell j of the device. Its in_1 is the output of the cell two before it.
+-- The names that cell i of a tile gives, which is cell j of the device. Its input in_1 is the output of cell j - 2.
 unfoldable pub cell_names : DeviceName → ℕ → ℕ → ℕ → List (List ℕ)
 cell_names device net j i =
     named (net == in_0_net device j) (cell_wire i (codes "/in_0"))
@@ -74,14 +76,14 @@ cell_names device net j i =
     ++ named (nat_lt j (rams device) && (net == in_3_net device j)) (cell_wire i (codes "/in_3"))
     ++ named (net == out_net j) (cell_wire i (codes "/out"))
 
--- the names by a logic tile
+-- the names that a logic tile gives
 unfoldable pub logic_names : DeviceName → ℕ → ℕ → ℕ → List (List ℕ)
 logic_names device net x y =
     named (net == clock_net) (codes "glb_netwk_0")
     ++ gathered_below 8 (λ i. cell_names device net (cell_number device x y i) i)
     ++ named (net == clock_net) (codes "lutff_global/clk")
 
--- the names by the lower tile of RAM r
+-- the names that the lower tile of RAM r gives
 unfoldable pub ram_names : DeviceName → ℕ → ℕ → List (List ℕ)
 ram_names device net r =
     numbered net (address_net r 0) 8 (codes "ram/RADDR_")
@@ -93,7 +95,7 @@ ram_names device net r =
     ++ numbered net (write_net r 0) 16 (codes "ram/WDATA_")
     ++ named (net == write_enable_net device) (codes "ram/WE")
 
--- the names by an io tile: the first pins of three tiles of the left edge are an input and two outputs
+-- the names that an io tile gives: the first pins of three tiles at the left edge are an input and two outputs
 unfoldable pub pin_names : DeviceName → ℕ → ℕ → ℕ → List (List ℕ)
 pin_names device net x y =
     named ((x == 0) && (y == 2) && (net == input_net)) (codes "io_0/D_IN_0")
@@ -107,15 +109,15 @@ names_by_kind device net x y (Some Logic) = logic_names device net x y
 names_by_kind device net x y (Some RamB) = ram_names device net (ram_number device x y)
 names_by_kind device net x y (Some RamT) = []
 
--- the names that the tile at a place gives to a net
+-- the names that the tile at (x, y) gives to a net
 abbrev pub names_at : DeviceName → ℕ → ℕ → ℕ → List (List ℕ)
 names_at device net x y = names_by_kind device net x y (kind_of device x y)
 
--- a name, behind the place of its tile
+-- a name, after the place of its tile
 abbrev pub name_line : ℕ → ℕ → List ℕ → List ℕ
 name_line x y name = with_word (with_word (decimal x) (decimal y)) name
 
--- the names of a net by the tiles of a row of the grid
+-- the names that the tiles of a row of the grid give to a net
 abbrev pub names_in_row : DeviceName → ℕ → ℕ → List (List ℕ)
 names_in_row device net y = gathered_below (grid_width device) (λ x. map (name_line x y) (names_at device net x y))
 
@@ -129,15 +131,15 @@ net_lines device net = with_word (codes ".net") (decimal net) ∷ gathered_below
 abbrev pub buffer_line : ℕ → ℕ → ℕ → List ℕ
 buffer_line x y net = with_word (grid_line (codes ".buffer") x y) (decimal net)
 
--- The nets that can lead into in_0 of cell j: the output of the cell before it, or the input where there is none; and that of
--- the third cell before it, or the clock where there is none.
+-- The two nets that can drive in_0 of cell j. Near: the output of cell j - 1, or the input pin for cell 0. Far: the output of cell j - 3,
+-- or the clock for the first three cells.
 abbrev pub near_net : ℕ → ℕ
 near_net j = 1 + j
 
 abbrev pub far_net : ℕ → ℕ
 far_net j = if nat_lt j 3 then clock_net else j - 1
 
--- the buffer into in_0 of cell j, which is cell i of its tile
+-- the statement of the buffer into in_0 of cell j, which is cell i of its tile
 abbrev pub in_0_statement : DeviceName → ℕ → ℕ → ℕ → ℕ → List ℕ
 in_0_statement device x y j i = with_word (with_word (buffer_line x y (in_0_net device j)) (bit_word (2 * i) 0)) (bit_word (2 * i + 1) 0)
 
@@ -147,22 +149,22 @@ in_0_lines device x y j i =
     ∷ with_word (codes "10") (decimal (near_net j))
     ∷ with_word (codes "01") (decimal (far_net j)) ∷ []
 
--- the buffer into in_3 of cell r, from the first output of RAM r
+-- the buffer into in_3 of cell r, driven by the first output of RAM r
 unfoldable pub in_3_lines : DeviceName → ℕ → ℕ → ℕ → ℕ → List (List ℕ)
 in_3_lines device x y r i =
     with_word (buffer_line x y (in_3_net device r)) (bit_word (2 * i) 1)
     ∷ with_word (codes "1") (decimal (read_net device r 0)) ∷ []
 
--- the same where there is a RAM of that number
+-- the buffer into in_3 of cell j, if there is a RAM with that number
 abbrev pub in_3_lines_below : DeviceName → ℕ → ℕ → ℕ → ℕ → List (List ℕ)
 in_3_lines_below device x y j i = if nat_lt j (rams device) then in_3_lines device x y j i else []
 
--- what each cell of the tile at a place gives, by the cell's number and its place in the tile
+-- what each cell of the tile at (x, y) gives, by the number of the cell in the device and in the tile
 abbrev pub by_cells : DeviceName → (ℕ → ℕ → List (List ℕ)) → ℕ → ℕ → Option TileKind → List (List ℕ)
 by_cells device lines x y (Some Logic) = gathered_below 8 (λ i. lines (cell_number device x y i) i)
 by_cells device lines x y kind = []
 
--- what each cell gives, in order
+-- what all cells give, in order
 abbrev pub by_all_cells : DeviceName → (ℕ → ℕ → ℕ → ℕ → List (List ℕ)) → List (List ℕ)
 by_all_cells device lines =
     gathered_below (grid_height device) (λ y. gathered_below (grid_width device) (λ x.
@@ -177,6 +179,6 @@ database_lines device =
     ++ by_all_cells device (in_0_lines device)
     ++ by_all_cells device (in_3_lines_below device)
 
--- the text
+-- the whole text
 unfoldable pub generated_database : DeviceName → List ℕ
 generated_database device = text_of (database_lines device)

@@ -1,5 +1,5 @@
--- The image of the generated design, which a seed fixes: what each bit is. Draws are counted from 0: two for each cell, and
--- then one for each word of each RAM.
+-- The image of the generated design: what each bit is; a seed fixes it. Draws are counted from 0: two for each logic cell, then one for
+-- each word of each RAM.
 use Rattle.std.specs.Prelude.{ℕ, ◌+◌, ◌-◌, ◌*◌, ◌/◌, ◌%◌, Bool, false, not, ◌&&◌, ◌||◌, slice_index, nat_le, nat_lt, ◌==◌, if◌then◌else◌, Option, None, Some}
 use Rattle.place_search.specs.Places.{any_below}
 use Rattle.plane_map.specs.Layout.{standard_layout, kind_of}
@@ -16,16 +16,16 @@ use Rattle.ice_gen.specs.Database.{pad_drive}
 
 -- ---- cells
 
--- Entry k of a LUT is bit k of a draw, and entry 0 is always 1, so that each cell is used.
+-- Entry k of a LUT is bit k of a draw. Entry 0 is always 1, so every cell is used.
 abbrev pub is_entry : ℕ → ℕ → Bool
 is_entry lut k = (k == 0) || has_bit lut k
 
--- one of the twenty bits of a cell: an entry of its LUT, or bit 9, its flip-flop enable
+-- one of the twenty bits of a logic cell: an entry of its LUT, or bit 9, its flip-flop enable
 unfoldable pub is_cell_bit : ℕ → ℕ → ℕ → Bool
 is_cell_bit lut choice place = any_below 16 (λ k. (slice_index entry_bits k == place) && is_entry lut k) || ((place == 9) && has_bit choice 1)
 
--- A bit of one of the two rows of cell j: in columns 36 to 45 those of the cell; in column 0 those that choose which net
--- leads into in_0; in column 1 the bit by which RAM j leads into in_3.
+-- A bit of one of the two rows of cell j. Columns 36 to 45 have the bits of the cell, column 0 the bits that choose which net drives in_0,
+-- and column 1 the bit by which RAM j drives in_3.
 unfoldable pub is_row_bit : DeviceName → ℕ → ℕ → ℕ → ℕ → ℕ → Bool
 is_row_bit device j lut choice row col =
     if nat_le 36 col && nat_lt col 46 then is_cell_bit lut choice (10 * row + (col - 36))
@@ -39,13 +39,13 @@ lut_draw seed j = draw seed (2 * j)
 abbrev pub choice_draw : ℕ → ℕ → ℕ
 choice_draw seed j = draw seed (2 * j + 1)
 
--- a bit of cell j, by which of its two rows it is in
+-- a bit of cell j, in one of its two rows
 abbrev pub is_bit_of_cell : DeviceName → ℕ → ℕ → ℕ → ℕ → Bool
 is_bit_of_cell device seed j row col = is_row_bit device j (lut_draw seed j) (choice_draw seed j) row col
 
 -- ---- pins
 
--- The type of the first pin of a tile of the left edge: inputs have 000001 and outputs 011001.
+-- PIN_TYPE of the first pin of a tile at the left edge (`SB_IO`): 000001 for inputs, 011001 for outputs.
 abbrev pub pin_type : ℕ → ℕ
 pin_type y =
     if (y == 1) || (y == 2) then 0b000001
@@ -68,12 +68,12 @@ is_tile_bit device seed kind x y row col = false
 abbrev pub word_draw : DeviceName → ℕ → ℕ → ℕ → ℕ
 word_draw device seed r word = draw seed (2 * cells device + 256 * r + word)
 
--- whether a bit is 1
+-- whether a bit of the image is 1
 abbrev pub is_generated : DeviceName → ℕ → Bit → Bool
 is_generated device seed (OfTile bit) = is_tile_bit device seed (kind_of device bit.x bit.y) bit.x bit.y bit.row bit.col
 is_generated device seed (OfWord bit) = has_bit (word_draw device seed (ram_number device bit.x bit.y) bit.word) bit.bit
 is_generated device seed (Extra at) = is_same_place at (pad_drive device)
 
--- the image: no comment, the usual settings, and those bits
+-- the image: no comment, the usual settings, and these bits
 unfoldable pub generated_image : DeviceName → ℕ → Configuration
 generated_image device seed = image_from (standard_layout device) None usual_settings (is_generated device seed)

@@ -1,16 +1,16 @@
--- How many cells, RAMs and nets the design has, and the numbers of its cells and RAMs. Tiles are numbered by row of the grid
--- from the bottom up, in a row from left to right, and each logic tile has eight cells.
+-- How many logic cells, RAMs and nets the design has, and the numbers of its cells and RAMs. Tiles are numbered by row of the grid from the
+-- bottom up, within a row from left to right, and each logic tile has eight cells.
 use Rattle.std.specs.Prelude.{ℕ, ◌+◌, ◌-◌, ◌*◌, ◌/◌, nat_lt, ◌==◌, if◌then◌else◌}
 use Rattle.plane_map.specs.Layout.{grid_width, grid_height, ram_column, last_x}
 use Rattle.plane_map.specs.declared.device.DeviceName.{DeviceName}
 
 -- ---- how many there are
 
--- how many of the columns of tiles are logic: all but the edges and the two columns of RAM
+-- how many columns of tiles are logic: all but the two edges and the two RAM columns
 abbrev pub logic_columns : DeviceName → ℕ
 logic_columns device = grid_width device - 4
 
--- how many of the rows of tiles are between the edges
+-- how many rows of tiles are between the top and the bottom edge
 abbrev pub inner_rows : DeviceName → ℕ
 inner_rows device = grid_height device - 2
 
@@ -28,20 +28,20 @@ nets device = 2 + 2 * cells device + 17 * rams device
 
 -- ---- numbers by place
 
--- how many columns of logic lie to the left of an inner column
+-- how many logic columns are to the left of an inner column
 abbrev pub logic_to_left : DeviceName → ℕ → ℕ
 logic_to_left device x =
     x - 1 - (if nat_lt (ram_column device) x then 1 else 0) - (if nat_lt (last_x device - ram_column device) x then 1 else 0)
 
--- the number of the logic tile at a place
+-- the number of the logic tile at (x, y)
 abbrev pub logic_number : DeviceName → ℕ → ℕ → ℕ
 logic_number device x y = logic_columns device * (y - 1) + logic_to_left device x
 
--- the number of cell i of the logic tile at a place
+-- the number of cell i of the logic tile at (x, y)
 abbrev pub cell_number : DeviceName → ℕ → ℕ → ℕ → ℕ
 cell_number device x y i = 8 * logic_number device x y + i
 
--- the number of the RAM whose lower tile is at a place, an odd row
+-- the number of the RAM whose lower tile is at (x, y), in an odd row
 abbrev pub ram_number : DeviceName → ℕ → ℕ → ℕ
 ram_number device x y = y - 1 + (if x == ram_column device then 0 else 1)
 
@@ -51,7 +51,7 @@ ram_number device x y = y - 1 + (if x == ram_column device then 0 else 1)
 abbrev pub clock_net : ℕ
 clock_net = 0
 
--- the input
+-- the input pin
 abbrev pub input_net : ℕ
 input_net = 1
 
@@ -67,23 +67,23 @@ in_0_net device j = 2 + cells device + j
 abbrev pub address_net : ℕ → ℕ → ℕ
 address_net r a = 2 + 8 * r + a
 
--- bit b of what is written into RAM r
+-- bit b of the write data of RAM r
 abbrev pub write_net : ℕ → ℕ → ℕ
 write_net r b = 2 + 16 * r + b
 
--- bit b of what is read from RAM r
+-- bit b of the read data of RAM r
 abbrev pub read_net : DeviceName → ℕ → ℕ → ℕ
 read_net device r b = 2 + 2 * cells device + 16 * r + b
 
--- the input in_3 of cell r, into which RAM r leads
+-- the input in_3 of cell r, which RAM r drives
 abbrev pub in_3_net : DeviceName → ℕ → ℕ
 in_3_net device r = 2 + 2 * cells device + 16 * rams device + r
 
--- the output of the last cell, which is also read enable of each RAM and the first output pin
+-- the output of the last cell, which is also the read enable of each RAM and the first output pin
 abbrev pub read_enable_net : DeviceName → ℕ
 read_enable_net device = cells device + 1
 
--- the output of the cell before the last, which is also write enable of each RAM
+-- the output of the last cell but one, which is also the write enable of each RAM
 abbrev pub write_enable_net : DeviceName → ℕ
 write_enable_net device = cells device
 

@@ -1,4 +1,4 @@
-// Bits that are set one after the other.
+// Bits of the image that are set one after the other.
 ghost use Rattle.std.specs.Prelude.{◌≡◌, ℕ, ◌+◌};
 ghost use Rattle.plane_map.specs.Layout.{IsTileBit, IsWordBit};
 ghost use Rattle.ice_image.specs.Bits.{OfTile, OfWord};
@@ -9,7 +9,7 @@ ghost use Rattle.ice_gen.specs.Inside.{IsFilled, is_tile_before, is_word_before,
 use ice_image::AnyImage;
 use plane_map::{TileBit, WordBit};
 
-/// Sets the next bit of a tile, where it is 1.
+/// Sets the next bit of a tile, if it is 1.
 pub(crate) fn fill_tile_bit(image: &mut AnyImage, at: TileBit, bit: bool)
     requires { IsTileBit (device_of image.old) at }
     ensures device { device_of image.new ≡ device_of image.old }
@@ -21,7 +21,7 @@ pub(crate) fn fill_tile_bit(image: &mut AnyImage, at: TileBit, bit: bool)
     }
 }
 
-/// Sets the next bit of a word, where it is 1.
+/// Sets the next bit of a word, if it is 1.
 pub(crate) fn fill_word_bit(image: &mut AnyImage, at: WordBit, bit: bool)
     requires { IsWordBit (device_of image.old) at }
     ensures device { device_of image.new ≡ device_of image.old }

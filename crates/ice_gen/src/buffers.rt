@@ -13,12 +13,12 @@ use crate::numbers::{cell_number, in_0_net, in_3_net, rams, read_net};
 use plane_map::{DeviceName, TileKind, kind_on};
 use std::alloc::AllocError;
 
-/// Which buffers.
+/// The cell input that buffers drive.
 #[derive(Clone, Copy, Debug, PartialEq, Eq)]
 pub(crate) enum Input {
-    /// Those into in_0 of each cell.
+    /// Input in_0, of each cell.
     In0,
-    /// Those into in_3 of each cell that has the number of a RAM.
+    /// Input in_3, of each cell whose number is also the number of a RAM.
     In3,
 }
 
@@ -37,7 +37,7 @@ pub(crate) fn append_buffers(
     Ok(())
 }
 
-/// Appends the buffers of a row of the grid.
+/// Appends the buffers of one row of the grid.
 #[tactic(auto, using(crate::proofs::Texts::joined), unfolding(place_search::specs::Places::gathered_below))]
 fn append_grid_row(
     text: &mut Vec<u8>,
@@ -54,7 +54,7 @@ fn append_grid_row(
     Ok(())
 }
 
-/// Appends the buffers at a place of the grid, where a logic tile is.
+/// Appends the buffers at (x, y), if a logic tile is there.
 #[tactic(auto, using(crate::proofs::Texts::joined))]
 fn append_place(
     text: &mut Vec<u8>,
@@ -154,7 +154,7 @@ fn append_in_0_statement(
     end_line(text)
 }
 
-/// The farther of the two nets that can lead into in_0 of cell `j`.
+/// The farther of the two nets that can drive in_0 of cell `j`.
 fn far_net(j: u32) -> u32
     ensures { result ≡ far_net_of j }
 {

@@ -13,10 +13,10 @@ use crate::numbers::{cell_number, rams};
 use ice_image::AnyImage;
 use plane_map::{DeviceName, TileBit, TileKind};
 
-/// Where the entries of a cell's LUT stand among its twenty bits, entry 0 first.
+/// The places of the LUT entries among the twenty bits of a logic cell, entry 0 first. Source: Project IceStorm, 'LOGIC Tile'.
 const ENTRY_BITS: [u8; 16] = [4, 14, 15, 5, 6, 16, 17, 7, 3, 13, 12, 2, 1, 11, 10, 0];
 
-/// Sets the bits of the cells of a logic tile.
+/// Sets the bits of the cells of a logic tile that are 1.
 pub(crate) fn fill_cells(image: &mut AnyImage, draws: &mut Draws, x: u8, y: u8)
     requires logic { kind_of (device_of image.old) x y ≡ Some TileKind.Logic }
     requires count { draws.old.count ≡ 2 * cell_number_of (device_of image.old) x y 0 }
@@ -31,7 +31,7 @@ pub(crate) fn fill_cells(image: &mut AnyImage, draws: &mut Draws, x: u8, y: u8)
     }
 }
 
-/// Sets the bits of cell `i` of a logic tile.
+/// Sets the bits of cell `i` of a logic tile that are 1.
 fn fill_cell(image: &mut AnyImage, draws: &mut Draws, x: u8, y: u8, i: u8)
     requires logic { kind_of (device_of image.old) x y ≡ Some TileKind.Logic }
     requires cell { i < 8 }
@@ -48,7 +48,7 @@ fn fill_cell(image: &mut AnyImage, draws: &mut Draws, x: u8, y: u8, i: u8)
     fill_row(image, lut, choice, x, y, 2 * i + 1);
 }
 
-/// Sets the bits of one of the two rows of a cell.
+/// Sets the bits of one of the two rows of a cell that are 1.
 fn fill_row(image: &mut AnyImage, lut: u16, choice: u16, x: u8, y: u8, row: u8)
     requires logic { kind_of (device_of image.old) x y ≡ Some TileKind.Logic }
     requires row { row < 16 }
@@ -93,7 +93,7 @@ fn is_cell_bit(lut: u16, choice: u16, place: u8) -> bool
     place == 9 && choice >> 1 & 1 == 1
 }
 
-/// Whether entry `k` of a LUT stands at a place among the twenty bits, and is 1.
+/// Whether entry `k` of a LUT is at that place among the twenty bits, and is 1.
 #[tactic(auto, unfolding(net_extract::specs::Cells::entry_bits))]
 fn is_entry_at(lut: u16, place: u8, k: usize) -> bool
     requires { k < 16 }

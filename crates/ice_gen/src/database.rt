@@ -9,11 +9,23 @@ use crate::names::append_nets;
 use plane_map::DeviceName;
 use std::alloc::{AllocError, Global};
 
-/// The chip database of a device's generated design.
+/// The chip database of the generated design for a device. The device must have chip databases (`has_database`).
+///
+/// # Errors
+/// `AllocError` if memory is out, and for no other cause.
+///
+/// # Example
+/// ```ignore
+/// use ice_gen::{chipdb, image};
+/// use plane_map::DeviceName;
+///
+/// let text = chipdb(alloc, DeviceName::K1)?; // bytes for `chipdb_reader::read`
+/// let made = image(alloc, DeviceName::K1, 7)?; // an `AnyImage`, by the seed 7
+/// ```
 pub fn chipdb(alloc: Global, device: DeviceName) -> Result<Vec<u8>, AllocError>
     requires { has_database device ≡ true }
     ensures text { IfOk result (λ text. text.items ≡ generated_database device) }
-    // So it is short enough to be read.
+    // short enough for `chipdb_reader::read`
     ensures limit { IfOk result (λ text. length text.items ≤ 2 ^ 28) }
 {
     let text = write(alloc, device)?;
@@ -34,7 +46,7 @@ fn write(alloc: Global, device: DeviceName) -> Result<Vec<u8>, AllocError>
     Ok(text)
 }
 
-/// Room enough for the text.
+/// The room that is reserved for the text, which is enough.
 fn usual_len(device: DeviceName) -> usize
     ensures { result ≤ 2 ^ 20 }
 {

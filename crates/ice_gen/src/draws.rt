@@ -13,7 +13,7 @@ pub(crate) struct Draws {
 }
 
 impl Draws {
-    /// No draw yet.
+    /// The generator before its first draw.
     #[tactic(auto, unfolding(crate::specs::Draws::state_after))]
     pub(crate) fn new(seed: u64) -> Draws
         ensures seed { result.seed ≡ seed }

@@ -5,7 +5,7 @@ ghost use Rattle.ice_gen.specs.Events.{event_of, generated_events};
 use crate::draws::Draws;
 use std::alloc::{AllocError, Global};
 
-/// A value that one of the two input pins of the generated design gets.
+/// A new value of one of the two input pins of the generated design.
 #[derive(Clone, Copy, Debug, PartialEq, Eq)]
 pub struct PinEvent {
     /// Whether it is the second pin, `io_0_2_0`, or the first, `io_0_1_0`.
@@ -13,7 +13,10 @@ pub struct PinEvent {
     pub bit: bool,
 }
 
-/// So many events, which the seed fixes.
+/// `count` events for the generated design. The seed fixes them.
+///
+/// # Errors
+/// `AllocError` if memory is out, and for no other cause.
 #[tactic(auto, using(crate::proofs::Texts::joined), unfolding(place_search::specs::Places::gathered_below, crate::specs::Events::generated_events))]
 pub fn events(alloc: Global, seed: u64, count: usize) -> Result<Vec<PinEvent>, AllocError>
     ensures { IfOk result (λ events. events.items ≡ generated_events seed count) }
@@ -26,7 +29,7 @@ pub fn events(alloc: Global, seed: u64, count: usize) -> Result<Vec<PinEvent>, A
     Ok(events)
 }
 
-/// What a draw says.
+/// The event of a draw.
 fn event_of(draw: u16) -> PinEvent
     ensures { result ≡ event_of draw }
 {

@@ -14,7 +14,19 @@ use ice_image::AnyImage;
 use plane_map::DeviceName;
 use std::alloc::{AllocError, Global};
 
-/// The image of a device's generated design, which the seed fixes.
+/// The image of the generated design for a device; the seed fixes it. The device must have chip databases (`has_database`).
+///
+/// # Errors
+/// `AllocError` if memory is out, and for no other cause.
+///
+/// # Example
+/// ```ignore
+/// use ice_gen::image;
+/// use plane_map::DeviceName;
+///
+/// let made = image(alloc, DeviceName::K1, 7)?; // an `AnyImage`
+/// let row = made.tile_row(1, 1, 0); // row 0 of the tile at (1, 1)
+/// ```
 pub fn image(alloc: Global, device: DeviceName, seed: u64) -> Result<AnyImage, AllocError>
     requires { has_database device ≡ true }
     ensures { IfOk result (λ image. configuration_of image ≡ generated_image device seed) }
@@ -27,7 +39,7 @@ pub fn image(alloc: Global, device: DeviceName, seed: u64) -> Result<AnyImage, A
     Ok(image)
 }
 
-/// Sets the bit by which a pad drives the global net 0, which is no tile's.
+/// Sets the extra bit by which a pad drives the global net 0.
 fn set_pad_drive(image: &mut AnyImage)
     ensures { (seed : ℕ) → IsFilled (device_of image.old) seed (is_word_before (word_turn 0 (grid_height (device_of image.old)) 0 0)) (configuration_of image.old)
         → configuration_of image.new ≡ generated_image (device_of image.old) seed }

@@ -40,7 +40,7 @@ fn append_device(text: &mut Vec<u8>, device: DeviceName) -> Result<(), AllocErro
     end_line(text)
 }
 
-/// Appends the bits of the type of the first pin.
+/// Appends the bits of PIN_TYPE of the first pin.
 #[tactic(auto, using(crate::proofs::Texts::joined), unfolding(place_search::specs::Places::gathered_below))]
 fn append_pin_types(text: &mut Vec<u8>) -> Result<(), AllocError>
     ensures { OnOk result (text.new.items ≡ text.old.items ++ text_of (gathered_below 6 (λ k. pin_type_line k ∷ []))) }
@@ -51,7 +51,7 @@ fn append_pin_types(text: &mut Vec<u8>) -> Result<(), AllocError>
     Ok(())
 }
 
-/// Appends a bit of the type of the first pin.
+/// Appends one bit of PIN_TYPE of the first pin.
 #[tactic(auto, unfolding(text_lines::specs::Written::text_of))]
 fn append_pin_type(text: &mut Vec<u8>, k: u32) -> Result<(), AllocError>
     ensures { OnOk result (text.new.items ≡ text.old.items ++ text_of (pin_type_line k ∷ [])) }
@@ -62,7 +62,7 @@ fn append_pin_type(text: &mut Vec<u8>, k: u32) -> Result<(), AllocError>
     end_line(text)
 }
 
-/// Appends the cells of a tile.
+/// Appends the eight logic cells of a tile.
 #[tactic(auto, using(crate::proofs::Texts::joined), unfolding(place_search::specs::Places::gathered_below))]
 fn append_cells(text: &mut Vec<u8>) -> Result<(), AllocError>
     ensures { OnOk result (text.new.items ≡ text.old.items ++ text_of (gathered_below 8 (λ i. cell_line i ∷ []))) }
@@ -73,7 +73,7 @@ fn append_cells(text: &mut Vec<u8>) -> Result<(), AllocError>
     Ok(())
 }
 
-/// Appends a cell and its twenty bits.
+/// Appends a logic cell and its twenty bits.
 #[tactic(auto, unfolding(text_lines::specs::Written::text_of))]
 fn append_cell(text: &mut Vec<u8>, i: u32) -> Result<(), AllocError>
     requires { i < 8 }
@@ -97,7 +97,7 @@ fn append_ten_bits(text: &mut Vec<u8>, row: u32) -> Result<(), AllocError>
     Ok(())
 }
 
-/// Where the bit lies by which a pad drives the global net 0.
+/// The place of the extra bit by which a pad drives the global net 0.
 pub(crate) fn pad_drive(device: DeviceName) -> Place
     ensures { result ≡ pad_drive_of device }
 {
@@ -108,7 +108,7 @@ pub(crate) fn pad_drive(device: DeviceName) -> Place
     }
 }
 
-/// Appends the bit by which a pad drives the global net 0.
+/// Appends the extra bit by which a pad drives the global net 0.
 #[tactic(auto, unfolding(text_lines::specs::Written::text_of))]
 fn append_pad_drive(text: &mut Vec<u8>, device: DeviceName) -> Result<(), AllocError>
     ensures { OnOk result (text.new.items ≡ text.old.items ++ text_of (pad_drive_line device ∷ [])) }

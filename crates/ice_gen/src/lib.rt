@@ -1,7 +1,7 @@
-//! A design that a number makes: a chip database, an image and events for it.
+//! A generated design: a chip database, an image and events for it, all fixed by a seed.
 //!
-//! The same device and the same seed always give the same. The names and the buffers of [`chipdb`] fit the bits of [`image`]:
-//! each logic cell is used, and leads into the next ones.
+//! Equal devices and equal seeds always give equal results. The names and the buffers of [`chipdb`] fit the bits of [`image`]: each logic
+//! cell is used, and drives later ones.
 #![tactic(auto)]
 
 mod bits;

@@ -53,7 +53,7 @@ fn append_statement(text: &mut Vec<u8>, net: u32) -> Result<(), AllocError>
     end_line(text)
 }
 
-/// Appends the names of a net by the tiles of a row of the grid.
+/// Appends the names that the tiles of a row of the grid give to a net.
 fn append_row(text: &mut Vec<u8>, device: DeviceName, net: u32, y: u32) -> Result<(), AllocError>
     requires database { has_database device ≡ true }
     requires row { y < grid_height device }
@@ -67,7 +67,7 @@ fn append_row(text: &mut Vec<u8>, device: DeviceName, net: u32, y: u32) -> Resul
     }
 }
 
-/// Appends the names of a net by the tiles of a row of the grid, each of which is asked.
+/// Appends the names that the tiles of a row of the grid give to a net, asking each tile.
 #[tactic(auto, using(crate::proofs::Texts::joined), unfolding(place_search::specs::Places::gathered_below))]
 fn append_tiles(text: &mut Vec<u8>, device: DeviceName, net: u32, y: u32) -> Result<(), AllocError>
     requires row { y < grid_height device }
@@ -80,7 +80,7 @@ fn append_tiles(text: &mut Vec<u8>, device: DeviceName, net: u32, y: u32) -> Res
     Ok(())
 }
 
-/// Whether a tile of a row of the grid may give a net a name, by the net's number.
+/// Whether a tile of a row of the grid may give a name to a net, judged by the net's number.
 fn may_be_named(device: DeviceName, net: u32, y: u32) -> bool
     requires row { y < grid_height device }
     requires net { net < 2 ^ 20 }
@@ -89,7 +89,7 @@ fn may_be_named(device: DeviceName, net: u32, y: u32) -> bool
     is_shared(device, net) || is_of_row(device, net, y)
 }
 
-/// Whether a net is named by other tiles than those of the two cells that it joins.
+/// Whether a net may get a name from a tile other than those of the two cells that it connects.
 fn is_shared(device: DeviceName, net: u32) -> bool
     ensures { result ≡ shared_of device net }
 {
@@ -110,7 +110,7 @@ fn is_of_row(device: DeviceName, net: u32, y: u32) -> bool
     is_among(net, first, count + 2) || is_among(net, in_0_net(device, first), count)
 }
 
-/// Whether a net is one of `count` nets in a row.
+/// Whether a net is one of `count` nets in sequence.
 fn is_among(net: u32, first: u32, count: u32) -> bool
     requires { first + count < 2 ^ 32 }
     ensures { result ≡ among_of net first count }
@@ -118,7 +118,7 @@ fn is_among(net: u32, first: u32, count: u32) -> bool
     first <= net && net < first + count
 }
 
-/// Appends the names that the tile at a place gives to a net.
+/// Appends the names that the tile at (x, y) gives to a net.
 #[tactic(auto, using(crate::proofs::Texts::joined))]
 fn append_names(
     text: &mut Vec<u8>,
@@ -141,7 +141,7 @@ fn append_names(
     }
 }
 
-/// Appends the names by an io tile.
+/// Appends the names that an io tile gives.
 #[tactic(auto, using(crate::proofs::Texts::joined), unfolding(crate::specs::Database::pin_names))]
 fn append_pin_names(
     text: &mut Vec<u8>,
@@ -169,7 +169,7 @@ fn append_pin_names(
     )
 }
 
-/// Appends the names by a logic tile.
+/// Appends the names that a logic tile gives.
 #[tactic(auto, using(crate::proofs::Texts::joined), unfolding(crate::specs::Database::logic_names, place_search::specs::Places::gathered_below))]
 fn append_logic_names(
     text: &mut Vec<u8>,
@@ -187,7 +187,7 @@ fn append_logic_names(
     append_named(text, x, y, net == 0, b"lutff_global/clk")
 }
 
-/// Appends the names by the cells of a tile.
+/// Appends the names that the cells of a tile give.
 fn append_names_of_cells(
     text: &mut Vec<u8>,
     device: DeviceName,
@@ -206,7 +206,7 @@ fn append_names_of_cells(
     }
 }
 
-/// Whether a cell of a tile may give a net a name, by the net's number.
+/// Whether a cell of a tile may give a name to a net, judged by the net's number.
 fn is_of_tile(device: DeviceName, net: u32, x: u32, y: u32) -> bool
     requires column { x < grid_width device }
     requires row { y < grid_height device }
@@ -218,7 +218,7 @@ fn is_of_tile(device: DeviceName, net: u32, x: u32, y: u32) -> bool
         || is_among(net, in_3_net(device, first), 8)
 }
 
-/// Appends the names by the cells of a tile, each of which is asked.
+/// Appends the names that the cells of a tile give, asking each cell.
 #[tactic(auto, using(crate::proofs::Texts::joined), unfolding(place_search::specs::Places::gathered_below))]
 fn append_each_cell(
     text: &mut Vec<u8>,
@@ -237,7 +237,7 @@ fn append_each_cell(
     Ok(())
 }
 
-/// Appends the names by a cell of a tile.
+/// Appends the names that a cell of a tile gives.
 #[tactic(auto, using(crate::proofs::Texts::joined), unfolding(crate::specs::Database::cell_names))]
 fn append_cell_names(
     text: &mut Vec<u8>,
@@ -259,7 +259,7 @@ fn append_cell_names(
     append_wire(text, x, y, net == out_net(j), i, b"/out")
 }
 
-/// Whether a net is in_1 of cell `j`, which is the output of the cell two before it.
+/// Whether a net is in_1 of cell `j`, that is the output of cell `j - 2`.
 fn is_in_1(net: u32, j: u32) -> bool
     requires { j < 2 ^ 16 }
     ensures { result ≡ (nat_le 2 j && (net == out_net_of (j - 2))) }
@@ -267,7 +267,7 @@ fn is_in_1(net: u32, j: u32) -> bool
     j >= 2 && net == out_net(j - 2)
 }
 
-/// Whether a net is in_3 of cell `j`, into which the RAM of that number leads.
+/// Whether a net is in_3 of cell `j`, which the RAM with that number drives.
 fn is_in_3(device: DeviceName, net: u32, j: u32) -> bool
     requires { j < 2 ^ 16 }
     ensures { result ≡ (nat_lt j (rams_of device) && (net == in_3_net_of device j)) }
@@ -275,7 +275,7 @@ fn is_in_3(device: DeviceName, net: u32, j: u32) -> bool
     j < rams(device) && net == in_3_net(device, j)
 }
 
-/// Appends the names by the lower tile of a RAM.
+/// Appends the names that the lower tile of a RAM gives.
 #[tactic(auto, using(crate::proofs::Texts::joined), unfolding(crate::specs::Database::ram_names))]
 fn append_ram_names(
     text: &mut Vec<u8>,
@@ -298,7 +298,7 @@ fn append_ram_names(
     append_named(text, x, y, net == write_enable_net(device), b"ram/WE")
 }
 
-/// Appends a name, where the test passed.
+/// Appends a name, if the test passed.
 #[tactic(auto, unfolding(text_lines::specs::Written::text_of))]
 fn append_named(
     text: &mut Vec<u8>,
@@ -317,7 +317,7 @@ fn append_named(
     end_line(text)
 }
 
-/// Appends the name of a wire of cell `i`, where the test passed.
+/// Appends the name of a wire of cell `i`, if the test passed.
 #[tactic(auto, unfolding(text_lines::specs::Written::text_of))]
 fn append_wire(
     text: &mut Vec<u8>,
@@ -339,7 +339,7 @@ fn append_wire(
     end_line(text)
 }
 
-/// Appends the name of one of `count` nets in a row, where the net is one of them.
+/// Appends the name of a net, if it is one of `count` nets in sequence.
 #[tactic(auto, unfolding(text_lines::specs::Written::text_of))]
 fn append_numbered(
     text: &mut Vec<u8>,

@@ -1,4 +1,4 @@
-// How many cells, RAMs and nets there are, and their numbers.
+// How many logic cells, RAMs and nets there are, and their numbers.
 ghost use Rattle.std.specs.Prelude.{◌≡◌, ◌<◌, ◌≤◌, ◌+◌, ◌^◌};
 ghost use Rattle.plane_map.specs.Layout.{grid_width, grid_height, ram_column as ram_column_of};
 ghost use Rattle.ice_gen.specs.Numbers.{cells as cells_of, rams as rams_of, nets as nets_of, address_net as address_net_of, in_0_net as in_0_net_of, in_3_net as in_3_net_of, logic_to_left as logic_to_left_of, cell_number as cell_number_of, middle_net as middle_net_of, out_net as out_net_of, ram_number as ram_number_of, read_enable_net as read_enable_net_of, read_net as read_net_of, write_enable_net as write_enable_net_of, write_net as write_net_of};
@@ -29,7 +29,7 @@ pub(crate) fn nets(device: DeviceName) -> u32
     2 + 2 * cells(device) + 17 * rams(device)
 }
 
-/// The left of the two columns of RAM.
+/// The left one of the two RAM columns.
 fn ram_column(device: DeviceName) -> u32
     ensures { result ≡ ram_column_of device }
 {
@@ -40,7 +40,7 @@ fn ram_column(device: DeviceName) -> u32
     }
 }
 
-/// How many columns of logic lie to the left of an inner column.
+/// How many logic columns are to the left of an inner column.
 fn logic_to_left(device: DeviceName, x: u32) -> u32
     requires { x < grid_width device }
     ensures { result ≡ logic_to_left_of device x }
@@ -56,7 +56,7 @@ fn logic_to_left(device: DeviceName, x: u32) -> u32
     columns
 }
 
-/// The number of cell `i` of the logic tile at a place.
+/// The number of cell `i` of the logic tile at (x, y).
 pub(crate) fn cell_number(device: DeviceName, x: u32, y: u32, i: u32) -> u32
     requires column { x < grid_width device }
     requires row { y < grid_height device }
@@ -68,7 +68,7 @@ pub(crate) fn cell_number(device: DeviceName, x: u32, y: u32, i: u32) -> u32
     8 * (row + logic_to_left(device, x)) + i
 }
 
-/// The number of the RAM whose lower tile is at a place.
+/// The number of the RAM whose lower tile is at (x, y).
 pub(crate) fn ram_number(device: DeviceName, x: u32, y: u32) -> u32
     requires { y < grid_height device }
     ensures number { result ≡ ram_number_of device x y }
@@ -106,7 +106,7 @@ pub(crate) fn address_net(r: u32) -> u32
     2 + 8 * r
 }
 
-/// Bit 0 of what is written into RAM `r`.
+/// Bit 0 of the write data of RAM `r`.
 pub(crate) fn write_net(r: u32) -> u32
     requires { r < 2 ^ 16 }
     ensures net { result ≡ write_net_of r 0 }
@@ -115,7 +115,7 @@ pub(crate) fn write_net(r: u32) -> u32
     2 + 16 * r
 }
 
-/// Bit 0 of what is read from RAM `r`.
+/// Bit 0 of the read data of RAM `r`.
 pub(crate) fn read_net(device: DeviceName, r: u32) -> u32
     requires { r < 2 ^ 16 }
     ensures net { result ≡ read_net_of device r 0 }
@@ -133,14 +133,14 @@ pub(crate) fn in_3_net(device: DeviceName, r: u32) -> u32
     2 + 2 * cells(device) + 16 * rams(device) + r
 }
 
-/// Read enable of each RAM, and the first output pin.
+/// The read enable of each RAM, which is also the first output pin.
 pub(crate) fn read_enable_net(device: DeviceName) -> u32
     ensures { result ≡ read_enable_net_of device }
 {
     cells(device) + 1
 }
 
-/// Write enable of each RAM.
+/// The write enable of each RAM.
 pub(crate) fn write_enable_net(device: DeviceName) -> u32
     ensures { result ≡ write_enable_net_of device }
 {

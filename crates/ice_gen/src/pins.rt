@@ -9,7 +9,7 @@ use crate::bits::fill_tile_bit;
 use ice_image::AnyImage;
 use plane_map::{TileBit, TileKind};
 
-/// Sets the bits of an io tile.
+/// Sets the bits of an io tile that are 1.
 pub(crate) fn fill_pins(image: &mut AnyImage, x: u8, y: u8)
     requires io { kind_of (device_of image.old) x y ≡ Some TileKind.Io }
     ensures device { device_of image.new ≡ device_of image.old }
@@ -20,7 +20,7 @@ pub(crate) fn fill_pins(image: &mut AnyImage, x: u8, y: u8)
     }
 }
 
-/// Sets the bits of a row of an io tile.
+/// Sets the bits of a row of an io tile that are 1.
 fn fill_row(image: &mut AnyImage, x: u8, y: u8, row: u8)
     requires io { kind_of (device_of image.old) x y ≡ Some TileKind.Io }
     requires row { row < 16 }
@@ -45,7 +45,7 @@ fn is_pin_bit(x: u8, y: u8, row: u8, col: u8) -> bool
     x == 0 && col == 0 && pin_type(y) >> row & 1 == 1
 }
 
-/// The type of the first pin of a tile of the left edge.
+/// PIN_TYPE of the first pin of a tile at the left edge.
 fn pin_type(y: u8) -> u16
     ensures { result ≡ pin_type_of y }
 {

@@ -11,7 +11,7 @@ use crate::draws::Draws;
 use ice_image::AnyImage;
 use plane_map::{TileKind, WordBit, kind_on};
 
-/// Sets the bits of all words that are 1, RAM by RAM.
+/// Sets the bits of the words of all RAMs that are 1, RAM by RAM.
 pub(crate) fn fill_rams(image: &mut AnyImage, draws: &mut Draws)
     requires database { has_database (device_of image.old) ≡ true }
     requires count { draws.old.count ≡ 2 * cells (device_of image.old) }
@@ -24,7 +24,7 @@ pub(crate) fn fill_rams(image: &mut AnyImage, draws: &mut Draws)
     }
 }
 
-/// Sets the bits of the RAMs of a row of the grid.
+/// Sets the bits of the RAMs in a row of the grid that are 1.
 fn fill_grid_row(image: &mut AnyImage, draws: &mut Draws, y: u8)
     requires database { has_database (device_of image.old) ≡ true }
     requires row { y < grid_height (device_of image.old) }
@@ -40,7 +40,7 @@ fn fill_grid_row(image: &mut AnyImage, draws: &mut Draws, y: u8)
     }
 }
 
-/// Sets the bits of the RAM at a place of the grid, where one is.
+/// Sets the bits of the RAM at (x, y) that are 1, if a RAM is there.
 fn fill_place(image: &mut AnyImage, draws: &mut Draws, x: u8, y: u8)
     requires database { has_database (device_of image.old) ≡ true }
     requires column { x < grid_width (device_of image.old) }
@@ -61,7 +61,7 @@ fn fill_place(image: &mut AnyImage, draws: &mut Draws, x: u8, y: u8)
     }
 }
 
-/// Sets the bits of the words of a RAM, a draw each.
+/// Sets the bits of the words of a RAM that are 1, a draw for each word.
 fn fill_ram(image: &mut AnyImage, draws: &mut Draws, x: u8, y: u8)
     requires lower { kind_of (device_of image.old) x y ≡ Some TileKind.RamB }
     requires count { draws.old.count ≡ 2 * cells (device_of image.old) + 256 * ram_number (device_of image.old) x y }
@@ -76,7 +76,7 @@ fn fill_ram(image: &mut AnyImage, draws: &mut Draws, x: u8, y: u8)
     }
 }
 
-/// Sets the bits of a word.
+/// Sets the bits of a word that are 1.
 fn fill_word(image: &mut AnyImage, value: u16, x: u8, y: u8, word: u8)
     requires lower { kind_of (device_of image.old) x y ≡ Some TileKind.RamB }
     ensures device { device_of image.new ≡ device_of image.old }

@@ -12,7 +12,7 @@ use crate::pins::fill_pins;
 use ice_image::AnyImage;
 use plane_map::{TileKind, kind_on};
 
-/// Sets the bits of all tiles that are 1, row of the grid by row of the grid.
+/// Sets the bits of all tiles that are 1, row by row of the grid.
 pub(crate) fn fill_tiles(image: &mut AnyImage, draws: &mut Draws)
     requires database { has_database (device_of image.old) ≡ true }
     requires first { draws.old.count ≡ 0 }
@@ -27,7 +27,7 @@ pub(crate) fn fill_tiles(image: &mut AnyImage, draws: &mut Draws)
     }
 }
 
-/// Sets the bits of the tiles of a row of the grid.
+/// Sets the bits of the tiles in a row of the grid that are 1.
 fn fill_grid_row(image: &mut AnyImage, draws: &mut Draws, y: u8)
     requires database { has_database (device_of image.old) ≡ true }
     requires row { y < grid_height (device_of image.old) }
@@ -43,7 +43,7 @@ fn fill_grid_row(image: &mut AnyImage, draws: &mut Draws, y: u8)
     }
 }
 
-/// Sets the bits of the tile at a place.
+/// Sets the bits of the tile at (x, y) that are 1.
 fn fill_tile(image: &mut AnyImage, draws: &mut Draws, x: u8, y: u8)
     requires database { has_database (device_of image.old) ≡ true }
     requires column { x < grid_width (device_of image.old) }

@@ -122,7 +122,7 @@ module _ (layout : Layout) (cram : List Rows) where
     );
   }
 
-  -- the next column, where the place is a set extra bit
+  -- the next column, if the place is that of a set extra bit
   extras-pushed : (bank px py : ℕ) (places : List Place) → HasExtras layout cram (place bank px py) places → IsSetExtra layout cram (place bank px py) → HasExtras layout cram (place bank (px + 1) py) (places ++ place bank px py ∷ [])
   extras-pushed bank px py places so_far here = record {
     ordered = all_pairs_push IsBefore places (place bank px py) so_far.ordered (λ k d inside. ((so_far.exact (get_or places k d)).0 (Contains-get_or places k d inside)).0);
@@ -138,7 +138,7 @@ module _ (layout : Layout) (cram : List Rows) where
     );
   }
 
-  -- the next column, where the place is none
+  -- the next column, if it isn't
   extras-passed : (bank px py : ℕ) (places : List Place) → HasExtras layout cram (place bank px py) places → ¬ IsSetExtra layout cram (place bank px py) → HasExtras layout cram (place bank (px + 1) py) places
   extras-passed bank px py places so_far none = record {
     ordered = so_far.ordered;

@@ -10,7 +10,7 @@ use Rattle.place_search.specs.Places.{gathered_below}
 -- ---- order
 
 module _ {A : Type 0} (R : A → A → Type 0) where
-  -- two lists in order, the second behind the first
+  -- two lists in order, the second after the first
   ordered-append : (xs ys : List A) → AllPairs R xs → AllPairs R ys → ((a b : A) → Contains xs a → Contains ys b → R a b) → AllPairs R (xs ++ ys)
   ordered-append xs ys first second across i j d before inside =
       elim (cases_lt j (length xs)) [
@@ -27,7 +27,7 @@ module _ {A : Type 0} (R : A → A → Type 0) where
             ])
       ]
 
-  -- places that give lists in order, each behind those of the earlier places
+  -- places that give lists in order, each after those of the earlier places
   pub ordered-gathered : (n : ℕ) (given : ℕ → List A) → ((k : ℕ) → k < n → AllPairs R (given k)) → ((j k : ℕ) (a b : A) → j < k → k < n → Contains (given j) a → Contains (given k) b → R a b) → AllPairs R (gathered_below n given)
   unfolding gathered_below
   ordered-gathered zero given each across = λ i j d before inside. absurd (omega (arith, inside))

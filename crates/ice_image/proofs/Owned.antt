@@ -38,7 +38,7 @@ among places count at =
       | inr none ↦ inr (λ h. both_ways (any_below count here) none (any_below-at count h.0 here h.1 (ap (λ (p : Place). is_same_place p at) h.2 ∙ is_same_place-self at)))
     ]
 
--- so it is passed exactly where the places are one
+-- so it is passed exactly if the places are equal
 pub is_same_place-Decides : (a b : Place) → Decides (is_same_place a b) (a ≡ b)
 is_same_place-Decides a b = (is_same_place-same a b, λ e. ap (is_same_place a) (sym e) ∙ is_same_place-self a)
 
@@ -58,7 +58,7 @@ is_owned-tile_place layout x y row col row_in col_in =
 pub is_owned-bit : (layout : Layout) (bit : TileBit) → IsTileBit layout.device bit → is_owned layout (place_of layout bit) ≡ true
 is_owned-bit layout bit is = is_owned-tile_place layout bit.x bit.y bit.row bit.col is.row_in is.col_in
 
--- where a bit of some tile lies at a place, here is one
+-- if a bit of some tile lies at a place, here is one
 pub is_owned-bit_at : (layout : Layout) (at : Place) → is_owned layout at ≡ true → (bit : TileBit) × IsTileBit layout.device bit × (place_of layout bit ≡ at)
 unfolding is_owned
 is_owned-bit_at layout at is =

@@ -46,7 +46,7 @@ module _ (image : Configuration) where
   abbrev is_set_extra : Place → Bool
   is_set_extra at = place_bit image.cram at && not (is_owned image.layout at)
 
-  -- a place where its bit is so
+  -- a place if its bit is a set extra bit
   abbrev extra_at : Place → List Place
   extra_at at = if is_set_extra at then at ∷ [] else []
 

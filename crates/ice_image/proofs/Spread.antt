@@ -177,7 +177,7 @@ module _ (row : ℕ → Place) (run : ℕ → Place) (length count : ℕ) (colum
 
 -- ---- rows that gain bits
 
--- where the bits of a row are some of a run, and the run gains them there, the row does
+-- if the bits of a row are some of a run, and the run gains them there, the row does
 module _ (run : ℕ → Place) (length : ℕ) (row : ℕ → Place) (count : ℕ) (columns : ℕ → ℕ) (ones spread : ℕ) (before after : List Rows)
     (inside : (k : ℕ) → k < count → columns k < length) (places : (k : ℕ) → k < count → row k ≡ run (columns k)) (apart : (k j : ℕ) → k < count → j < count → row k ≡ row j → k ≡ j)
     (is : IsSpread columns count length ones spread) (written : IsWritten run (gained_bit run before spread) length before after) where
@@ -200,7 +200,7 @@ module _ (run : ℕ → Place) (length : ℕ) (row : ℕ → Place) (count : ℕ
 
 -- ---- rows that are written
 
--- where a run keeps its bits but at the columns of a row, and has those of a number there, the row has that number's
+-- if a run keeps its bits except at the columns of a row, and has the bits of a number there, the row has the bits of that number
 module _ (run : ℕ → Place) (length : ℕ) (row : ℕ → Place) (count : ℕ) (columns : ℕ → ℕ) (word all spread kept : ℕ) (before after : List Rows)
     (inside : (k : ℕ) → k < count → columns k < length) (places : (k : ℕ) → k < count → row k ≡ run (columns k)) (apart : (k j : ℕ) → k < count → j < count → row k ≡ row j → k ≡ j)
     (few : length ≤ 64) (few_columns : count ≤ 64) (small : all < 2 ^ 64) (kept_is : kept ≡ word_of (row_from length (λ k. place_bit before (run k))))

@@ -1,5 +1,6 @@
--- The bits of an image: those of its tiles, those of the words of its RAMs, and its extra bits, which are no tile's. An image is
--- known by them, its layout, its comment and its settings.
+-- The bits of an image: the bits of its tiles, the bits of the words of its RAMs, and its extra bits, which belong to no tile. An image
+-- is given by them, its layout, its comment and its settings. Extra bits are the statement `.extra_bit` of Project IceStorm,
+-- 'iCE40 ASCII format'.
 use Rattle.std.specs.Prelude.{◌≡◌, ℕ, ◌/◌, ◌%◌, ◌^◌, ◌==◌, Bool, true, false, not, ◌&&◌, ◌||◌, List, [], ◌∷◌, map, if◌then◌else◌, Option, Some}
 use Rattle.place_search.specs.Places.{any_below, gathered_below}
 use Rattle.bit_plane.specs.BitList.{word_of}
@@ -17,7 +18,7 @@ use Rattle.ice_image.specs.Contents.{tile_place, word_bit_place}
 use Rattle.ice_image.specs.Owned.{is_same_place, is_owned, is_extra}
 use Rattle.ice_image.specs.declared.settings.Settings.{Settings}
 
--- a bit of a tile, a bit of a word of a RAM, or a bit of the configuration planes that is no tile's
+-- a bit of a tile, a bit of a word of a RAM, or a bit of the configuration planes that belongs to no tile
 pub data Bit : Type 0 where
   OfTile : (bit : TileBit) → Bit
   OfWord : (bit : WordBit) → Bit
@@ -59,7 +60,7 @@ word_bit_of image x y word bit = bit_of image (OfWord (record { x = x; y = y; wo
 abbrev pub ram_word_of : Configuration → ℕ → ℕ → ℕ → ℕ
 ram_word_of image x y word = word_of (row_from 16 (word_bit_of image x y word))
 
--- the place of an extra bit, where it is set
+-- the place of an extra bit, if it is set
 abbrev pub extra_if_set : Configuration → Place → List Place
 extra_if_set image at = if bit_of image (Extra at) && not (is_owned image.layout at) then at ∷ [] else []
 
@@ -69,7 +70,7 @@ set_extras image =
     gathered_below 4 (λ bank. gathered_below (cram_height image.layout.device) (λ py. gathered_below (cram_width image.layout.device) (λ px.
     extra_if_set image (record { bank = bank; px = px; py = py }))))
 
--- an image with the same layout, comment and settings, and with all bits as before except those of that kind
+-- an image with the same layout, comment and settings, in which only bits of that kind may have changed
 pub record OnlyBits (IsChanged : Bit → Type 0) (before after : Configuration) : Type 0 where
   pub layout : after.layout ≡ before.layout
   pub comment : after.comment ≡ before.comment
@@ -102,7 +103,7 @@ pub record IsTileSet (x y : ℕ) (tile : Rows) (before after : Configuration) : 
   pub set : tile_of after x y ≡ tile
   pub others : OnlyBits (IsOfTile x y) before after
 
--- the layout, the comment and the settings are as before, and the bits are 1 that were 1 before and those that the test tells
+-- the layout, the comment and the settings are as before, and a bit is 1 exactly if it was 1 before or the test passes
 pub record Gains (is_set : Bit → Bool) (before after : Configuration) : Type 0 where
   pub layout : after.layout ≡ before.layout
   pub comment : after.comment ≡ before.comment
@@ -126,7 +127,7 @@ word_ones x y word ones bit = false
 
 -- ---- the image that has given bits
 
--- a bit of the configuration planes: that of its tile, or that of the extra bit
+-- a bit of the configuration planes: the bit of the tile that has the place, or else the extra bit
 abbrev pub cram_bit_from : Layout → (Bit → Bool) → Place → Bool
 cram_bit_from layout bits at =
     if is_owned layout at then
@@ -142,7 +143,7 @@ is_lower_kind kind = false
 abbrev pub is_lower : DeviceName → ℕ → ℕ → Bool
 is_lower device x y = is_lower_kind (kind_of device x y)
 
--- a bit of the RAM planes: that of its word
+-- a bit of the RAM planes: the bit of the word that has the place
 abbrev pub bram_bit_from : Layout → (Bit → Bool) → Place → Bool
 bram_bit_from layout bits at =
     any_below (grid_width layout.device) (λ x. any_below (grid_height layout.device) (λ y. any_below 256 (λ word. any_below 16 (λ bit.

@@ -6,8 +6,8 @@ pub record IsPrintable (byte : ℕ) : Type 0 where
   pub from_space : 0x20 ≤ byte
   pub to_tilde : byte ≤ 0x7E
 
--- A line that a text can hold as a line of its comment: it isn't empty, and it doesn't begin with a dot (0x2E), which
--- begins a statement.
+-- A line that a text can hold as a line of its comment: it isn't empty, has printable ASCII alone, and doesn't begin with a dot (0x2E),
+-- which begins a statement.
 pub record IsCommentLine (line : List ℕ) : Type 0 where
   pub some_byte : 0 < length line
   pub printable : All IsPrintable line

@@ -1,4 +1,5 @@
--- An image as data.
+-- An image as data. The four banks with their configuration and RAM planes are those of Project IceStorm, 'Bitstream File Format
+-- Documentation'.
 use Rattle.std.specs.Prelude.{◌≡◌, ℕ, ◌<◌, Bool, true, false, List, [], length, get_or, set, replicate, Option, None}
 use Rattle.bit_plane.specs.Rows.{Rows, IsGrid, bit_at, with_bit, blank}
 use Rattle.plane_map.specs.Layout.{Layout, IsLayout, cram_width, cram_height, bram_width, bram_height}
@@ -7,8 +8,8 @@ use Rattle.plane_map.specs.declared.tile.Place.{Place}
 use Rattle.ice_image.specs.declared.settings.Settings.{Settings}
 use Rattle.ice_image.specs.declared.settings.Range.TheVariants.{Low}
 
--- A device's configuration: the device's layout, the lines of a comment where there is one, the settings, and the
--- configuration and the RAM planes of banks 0 to 3.
+-- A device's configuration: the device's layout, the lines of a comment if there is one, the settings, and the configuration
+-- planes and RAM planes of banks 0 to 3.
 pub record Configuration : Type 0 where
   pub layout : Layout
   pub comment : Option (List (List ℕ))
@@ -34,7 +35,7 @@ with_bank planes bank rows = set planes bank rows
 abbrev pub with_place_bit : List Rows → Place → Bool → List Rows
 with_place_bit planes at bit = with_bank planes at.bank (with_bit (bank_rows planes at.bank) at.px at.py bit)
 
--- all bits are as before, except those at places of that kind
+-- only bits at places of that kind may have changed
 abbrev pub SameBut : (Place → Type 0) → List Rows → List Rows → Type 0
 SameBut IsChanged before after = (at : Place) → ¬ IsChanged at → place_bit after at ≡ place_bit before at
 
@@ -45,7 +46,7 @@ pub record AreBanks (width height : ℕ) (planes : List Rows) : Type 0 where
   pub four : length planes ≡ 4
   pub grids : (bank : ℕ) → bank < 4 → IsGrid width height (bank_rows planes bank)
 
--- the layout gives no two bits one place, and the planes have the device's sizes
+-- the layout puts no two bits at one place, and the planes have the device's sizes
 pub record IsWhole (image : Configuration) : Type 0 where
   pub layout : IsLayout image.layout
   pub cram : AreBanks (cram_width image.layout.device) (cram_height image.layout.device) image.cram
@@ -70,9 +71,9 @@ pub record IsImageOf (name : DeviceName) (cram_columns cram_rows bram_columns br
   pub cram : AreBanks cram_columns cram_rows image.cram
   pub bram : AreBanks bram_columns bram_rows image.bram
 
--- ---- the first one
+-- ---- the blank image
 
--- the settings that hold where nothing sets them
+-- the settings that hold if nothing sets them
 abbrev pub usual_settings : Settings
 usual_settings = record { range = Low; warm_boot = true; no_sleep = false }
 

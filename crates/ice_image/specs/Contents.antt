@@ -1,4 +1,5 @@
--- What the planes of a device say of its tiles and of the words of its RAMs, under a layout.
+-- What the planes of a device hold for its tiles and for the words of its RAMs, under a layout. Project IceStorm documents the tiles and
+-- the 256 words of 16 bits of a RAM ('LOGIC Tile', 'IO Tile', 'RAM Tile').
 use Rattle.std.specs.Prelude.{◌≡◌, ℕ, ◌<◌, List}
 use Rattle.bit_plane.specs.BitList.{word_of}
 use Rattle.bit_plane.specs.Rows.{Rows, row_from, rows_from}

@@ -5,7 +5,7 @@ use Rattle.plane_map.specs.Layout.{Layout, grid_width, grid_height, columns_at, 
 use Rattle.plane_map.specs.declared.tile.Place.{Place}
 use Rattle.ice_image.specs.Contents.{tile_place}
 
--- whether two places are the same
+-- whether two places are equal
 abbrev pub is_same_place : Place → Place → Bool
 is_same_place a b = (a.bank == b.bank) && (a.px == b.px) && (a.py == b.py)
 

@@ -1,4 +1,4 @@
--- What holds along the way: bits that are written one after the other, and set extra bits that are found place after
+-- What holds in the middle of a loop: bits that are written one after the other, and set extra bits that are found place by
 -- place. Only contracts within this crate cite this.
 use Rattle.std.specs.Prelude.{◌≡◌, ℕ, ◌+◌, ◌<◌, ◌⊎◌, ◌↔◌, Bool, true, false, not, ◌&&◌, ◌||◌, if◌then◌else◌, List, [], ◌∷◌, ◌++◌, get_or, Contains, AllPairs}
 use Rattle.place_search.specs.Places.{gathered_below}
@@ -16,7 +16,7 @@ use Rattle.ice_image.specs.Owned.{is_owned}
 abbrev pub bit_of_word : ℕ → ℕ → ℕ → Bool
 bit_of_word count word k = get_or (word_bits count word) k false
 
--- the bit at a place, or 1 where that bit of a number is
+-- the bit at a place, or 1 if that bit of a number is 1
 abbrev pub gained_bit : (ℕ → Place) → List Rows → ℕ → ℕ → Bool
 gained_bit places planes ones k = place_bit planes (places k) || number_bit ones k
 
@@ -50,12 +50,12 @@ pub record HasExtras (layout : Layout) (cram : List Rows) (limit : Place) (place
   pub ordered : AllPairs IsBefore places
   pub exact : (at : Place) → Contains places at ↔ (IsBefore at limit × IsSetExtra layout cram at)
 
--- a place is appended where it is a set extra bit
+-- a place is appended if it is that of a set extra bit
 abbrev pub IsExtraAppended : Layout → List Rows → Place → List Place → List Place → Type 0
 IsExtraAppended layout cram at before after =
     (IsSetExtra layout cram at × (after ≡ before ++ at ∷ [])) ⊎ ((¬ IsSetExtra layout cram at) × (after ≡ before))
 
--- whether a bit is set and no tile's
+-- whether a bit is set and belongs to no tile
 abbrev pub is_set_extra : Layout → List Rows → Place → Bool
 is_set_extra layout cram at = place_bit cram at && not (is_owned layout at)
 
@@ -69,7 +69,7 @@ free_places bank px py free count = gathered_below count (λ k. if number_bit fr
 abbrev pub AreMarks : Layout → List Rows → Type 0
 AreMarks layout owned = (at : Place) → place_bit owned at ≡ true → is_owned layout at ≡ true
 
--- what was set is so still
+-- what was set is still set
 abbrev pub AreKept : List Rows → List Rows → Type 0
 AreKept before after = (at : Place) → place_bit before at ≡ true → place_bit after at ≡ true
 

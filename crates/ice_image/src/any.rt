@@ -22,7 +22,7 @@ use plane_map::{
 };
 use std::alloc::{AllocError, Global};
 
-/// What an expression gives of the image, whichever device that is for.
+/// The value of an expression over the image, whichever device the image is for.
 macro_rules! with_image {
     ($any:expr, |$image:ident| $given:expr) => {
         match $any {
@@ -33,7 +33,7 @@ macro_rules! with_image {
     };
 }
 
-/// An image of one of the devices.
+/// An image for one of the devices.
 #[derive(Drop)]
 pub enum AnyImage {
     L384(Image<Lp384>),
@@ -42,14 +42,21 @@ pub enum AnyImage {
 }
 
 impl AnyImage {
-    /// No comment, the low range, warm boot, sleep, and all bits 0, under the standard layout.
+    /// A blank image of a device under its standard layout: no comment, the low oscillator range, warm boot on, the flash put to sleep, and
+    /// all bits 0.
+    ///
+    /// # Errors
+    /// `AllocError` if memory is out, and for no other cause.
     pub fn zeroed(alloc: Global, device: DeviceName) -> Result<AnyImage, AllocError>
         ensures { IfOk result (λ image. configuration_of image ≡ blank_image (standard_layout device)) }
     {
         AnyImage::zeroed_with(alloc, Layout::standard(device))
     }
 
-    /// The same under a layout; the image is for the layout's device.
+    /// A blank image under a given layout, for the layout's device.
+    ///
+    /// # Errors
+    /// `AllocError` if memory is out, and for no other cause.
     pub fn zeroed_with(alloc: Global, layout: Layout) -> Result<AnyImage, AllocError>
         ensures { IfOk result (λ image. configuration_of image ≡ blank_image layout) }
     {
@@ -91,7 +98,7 @@ impl AnyImage {
         with_image!(self, |image| image.set_settings(settings))
     }
 
-    /// The comment, where there is one.
+    /// The comment, or `None` if there is none.
     pub fn comment(&self) -> Option<&Comment>
         ensures { option_copied result ≡ (configuration_of self.now).comment }
     {
@@ -131,8 +138,8 @@ impl AnyImage {
         with_image!(self, |image| image.tile_row(x, y, row))
     }
 
-    /// Sets the bits of a row of a tile at which `ones` has a 1. Column c is the bit of value 2^c; bits past the tile's
-    /// columns are passed over, and where there is no tile nothing changes.
+    /// Sets the bits of a row of a tile at which `ones` has a 1. Column c is the bit of value 2^c; bits after the tile's
+    /// columns are ignored, and nothing changes if there is no tile.
     pub fn set_ones(&mut self, x: u8, y: u8, row: u8, ones: u64)
         requires { row < 16 }
         ensures device { device_of self.new ≡ device_of self.old }
@@ -141,14 +148,15 @@ impl AnyImage {
         with_image!(self, |image| image.set_ones(x, y, row, ones))
     }
 
-    /// Where the rows of the tile at (x, y) lie; none where there is no tile.
+    /// Where the rows of the tile at (x, y) lie, or `None` if there is no tile.
     pub fn tile_runs(&self, x: u8, y: u8) -> Option<TileRuns>
         ensures { MatchOption result (columns_at (device_of self.now) x y ≡ 0) (AreRunsOf (configuration_of self.now).layout x y) }
     {
         with_image!(self, |image| image.tile_runs(x, y))
     }
 
-    /// The same as `set_ones`, for a tile whose `tile_runs` were asked for before.
+    /// Sets the bits of a row of a tile at which `ones` has a 1, as `set_ones` does, by the answer of `tile_runs` for that tile. Calls for
+    /// several rows of one tile look it up only once this way.
     pub fn set_ones_in(&mut self, runs: TileRuns, row: u8, ones: u64)
         requires row { row < 16 }
         requires runs { AreRunsOf (configuration_of self.old).layout runs.x runs.y runs }
@@ -192,7 +200,7 @@ impl AnyImage {
         with_image!(self, |image| image.tile(x, y))
     }
 
-    /// Sets all bits of the tile at (x, y), which has C columns, to those of another tile.
+    /// Sets all bits of the tile at (x, y), which has C columns, to the bits of `tile`.
     pub fn put_tile<const C: usize>(&mut self, x: u8, y: u8, tile: &Tile<C>)
         requires { columns_at (device_of self.old) x y ≡ C }
         ensures device { device_of self.new ≡ device_of self.old }
@@ -245,7 +253,7 @@ impl AnyImage {
         with_image!(self, |image| image.set_word_bit(at, bit))
     }
 
-    /// The place of the configuration planes with these numbers, where it belongs to no tile.
+    /// The place of the configuration planes with these numbers, or `None` if there is no such place or it belongs to a tile.
     pub fn extra_place(&self, bank: u32, px: u32, py: u32) -> Option<Place>
         ensures { MatchOption result (is_extra (configuration_of self.now).layout (record { bank = bank; px = px; py = py }) ≡ false)
             (λ at. (is_extra (configuration_of self.now).layout at ≡ true) × (at ≡ record { bank = bank; px = px; py = py })) }
@@ -287,6 +295,9 @@ impl AnyImage {
     }
 
     /// The set bits of the configuration planes that belong to no tile, by bank, then by row, then by column.
+    ///
+    /// # Errors
+    /// `AllocError` if memory is out, and for no other cause.
     pub fn extra_bits(&self, alloc: Global) -> Result<Vec<Place>, AllocError>
         ensures exact { IfOk result (λ places. AreSetExtras (configuration_of self.now).layout (configuration_of self.now).cram places.items) }
         ensures bits { IfOk result (λ places. places.items ≡ set_extras (configuration_of self.now)) }

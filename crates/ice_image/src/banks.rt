@@ -30,7 +30,7 @@ impl<P: Bits> Model for Banks<P> {
 }
 
 impl<P: Bits> Banks<P> {
-    /// All bits 0.
+    /// Four planes whose bits are all 0.
     pub(crate) fn zeroed(alloc: Global) -> Result<Banks<P>, AllocError>
         ensures planes { IfOk result (λ banks. banks ≡ replicate 4 (blank P.WIDTH P.HEIGHT)) }
         ensures whole { IfOk result (λ banks. AreBanks P.WIDTH P.HEIGHT banks) }
@@ -70,7 +70,7 @@ impl<P: Bits> Banks<P> {
         }
     }
 
-    /// `count` bits of row y of a bank's plane, from column x on. The first is the bit of value 1.
+    /// `count` bits of row y of a bank's plane, from column x on, as a number. Column x is its lowest bit.
     pub(crate) fn row_bits(&self, bank: usize, x: usize, y: usize, count: usize) -> u64
         requires bank { bank < 4 }
         requires count { count ≤ 64 }
@@ -87,8 +87,7 @@ impl<P: Bits> Banks<P> {
         }
     }
 
-    /// Sets `count` bits of row y of a bank's plane, from column x on, to the low bits of `bits`. The first gets the bit of
-    /// value 1.
+    /// Sets `count` bits of row y of a bank's plane, from column x on, to the low bits of `bits`. Column x gets the lowest bit.
     pub(crate) fn set_row_bits(&mut self, bank: usize, x: usize, y: usize, count: usize, bits: u64)
         requires bank { bank < 4 }
         requires count { count ≤ 64 }
@@ -107,8 +106,7 @@ impl<P: Bits> Banks<P> {
         }
     }
 
-    /// Sets to 1 each of `count` bits of row y of a bank's plane, from column x on, for which `bits` has a 1; the others stay. The
-    /// first is the bit of value 1.
+    /// ORs the low `count` bits of `bits` into row y of a bank's plane, from column x on. Column x gets the lowest bit.
     pub(crate) fn gain_row_bits(&mut self, bank: usize, x: usize, y: usize, count: usize, bits: u64)
         requires bank { bank < 4 }
         requires count { count ≤ 64 }

@@ -1,4 +1,4 @@
-// The columns of a tile's rows among the bits of their runs.
+// Which bits of a run are the columns of a tile's row.
 ghost use Rattle.std.specs.Prelude.{◌≡◌, ℕ, ◌^◌, ◌<◌, slice_index};
 ghost use Rattle.bit_plane.specs.BitList.{word_of};
 ghost use Rattle.bit_plane.specs.Rows.{row_from};
@@ -9,8 +9,8 @@ ghost use Rattle.ice_image.specs.Written.{IsSpread};
 
 use plane_map::{Layout, TileRuns};
 
-/// The bits of a row of a tile as they stand in their run. Column c is the bit of value 2^c in `row_bits`. Bits of the run that
-/// are no column's are 0, and bits past the run may be anything.
+/// The bits of a row of a tile in the order of their run. Column c is the bit of value 2^c in `row_bits`. Bits of the run that
+/// are no column are 0, and bits after the run may be anything.
 #[inline(always)]
 pub(crate) fn spread(layout: &Layout, runs: TileRuns, row_bits: u64) -> u64
     requires { AreRunsOf layout.now runs.x runs.y runs }
@@ -22,8 +22,7 @@ pub(crate) fn spread(layout: &Layout, runs: TileRuns, row_bits: u64) -> u64
     }
 }
 
-/// The number that has bit c of another at the place that the list gives for c, for each of the eighteen columns of an io
-/// tile.
+/// The number that has bit c of `row_bits` at bit `columns[c]`, for each of the eighteen columns of an io tile.
 fn spread_over(columns: &[u8; 18], row_bits: u64) -> u64
     requires { (col : ℕ) → col < 18 → slice_index columns.now col < 64 }
     ensures { IsSpread (slice_index columns.now) 18 64 row_bits result }
@@ -47,8 +46,7 @@ pub(crate) fn gathered(layout: &Layout, runs: TileRuns, run_bits: u64) -> u64
     }
 }
 
-/// The number whose bit c is the bit of another at the place that the list gives for c, for each of the eighteen columns of
-/// an io tile.
+/// The number whose bit c is bit `columns[c]` of `run_bits`, for each of the eighteen columns of an io tile.
 fn gathered_from(columns: &[u8; 18], run_bits: u64) -> u64
     requires { (col : ℕ) → col < 18 → slice_index columns.now col < 64 }
     ensures { result ≡ word_of (row_from 18 (λ col. number_bit run_bits (slice_index columns.now col))) }

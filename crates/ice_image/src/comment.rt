@@ -24,7 +24,7 @@ impl Model for Comment {
 }
 
 impl Comment {
-    /// No lines.
+    /// A comment without lines.
     pub fn new(alloc: Global) -> Comment
         ensures { result ≡ [] }
     {
@@ -35,6 +35,9 @@ impl Comment {
     }
 
     /// Appends a line.
+    ///
+    /// # Errors
+    /// `AllocError` if memory is out, and for no other cause.
     pub fn push(&mut self, line: &[u8]) -> Result<(), AllocError>
         requires { IsCommentLine line.now }
         ensures pushed { IfOk result (λ _. self.new ≡ self.old ++ line.now ∷ []) }

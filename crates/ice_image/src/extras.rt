@@ -80,7 +80,7 @@ fn append_row<P: Bits>(
     Ok(())
 }
 
-/// A number, or 64 where it is greater.
+/// The lesser of a number and 64.
 fn at_most_64(count: usize) -> usize
     requires { 0 < count }
     ensures some { 0 < result }
@@ -113,14 +113,14 @@ fn free_bits<P: Bits>(
     set & !owned.row_bits(bank as usize, px, marks_of(py), count)
 }
 
-/// The row in which the places of a row that belong to tiles are set.
+/// The row of the marked planes that says which places of a row belong to tiles.
 fn marks_of(py: u16) -> usize
     ensures { result ≡ (if nat_lt py 16 then 0 else 16) }
 {
     if py < 16 { 0 } else { 16 }
 }
 
-/// Appends the places of the bits of a word that are set, which stand in a row from a column on.
+/// Appends the places of the set bits of a word, whose bits lie in a row from a column on.
 fn append_free(
     bank: u8,
     px: u16,
@@ -147,7 +147,7 @@ fn append_free(
     Ok(())
 }
 
-/// Appends a place, where that is asked.
+/// Appends a place if `is_asked`.
 fn push_where(is_asked: bool, at: Place, places: &mut Vec<Place>) -> Result<(), AllocError>
     ensures { IfOk result (λ _. places.new.items ≡ places.old.items ++ (if is_asked then at ∷ [] else [])) }
 {
@@ -157,8 +157,8 @@ fn push_where(is_asked: bool, at: Place, places: &mut Vec<Place>) -> Result<(), 
     Ok(())
 }
 
-/// Planes in which places are set that belong to tiles: of each bank all that do so in row 0, which lies in an end row of tiles,
-/// and in row 16, which lies in another.
+/// Planes in which places that belong to tiles are set: in each bank all such places of row 0, which lies in an end row of tiles, and all
+/// of row 16, which lies in an inner row of tiles.
 fn owned_places<P: Bits>(layout: &Layout, alloc: Global) -> Result<Banks<P>, AllocError>
     requires layout { IsLayout layout.now }
     requires size { IsCramSize layout.now.device P.WIDTH P.HEIGHT }
@@ -169,7 +169,7 @@ fn owned_places<P: Bits>(layout: &Layout, alloc: Global) -> Result<Banks<P>, All
     Ok(owned)
 }
 
-/// Sets them where no place is set.
+/// Sets these places in blank planes.
 fn mark_banks<P: Bits>(layout: &Layout, owned: &mut Banks<P>)
     requires layout { IsLayout layout.now }
     requires size { IsCramSize layout.now.device P.WIDTH P.HEIGHT }
@@ -214,7 +214,7 @@ fn mark_tile<P: Bits>(layout: &Layout, owned: &mut Banks<P>, x: u8, at: TileRow)
     write_row(layout, owned, x, at.y, at.row, u64::MAX);
 }
 
-/// The place of the configuration planes with these numbers, where it belongs to no tile.
+/// The place of the configuration planes with these numbers, or `None` if there is no such place or it belongs to a tile.
 pub(crate) fn extra_place(layout: &Layout, bank: u32, px: u32, py: u32) -> Option<Place>
     ensures { MatchOption result (is_extra layout.now (record { bank = bank; px = px; py = py }) ≡ false)
         (λ at. (is_extra layout.now at ≡ true) × (at ≡ record { bank = bank; px = px; py = py })) }

@@ -47,19 +47,25 @@ impl<D: Device> Model for Image<D> {
 }
 
 impl<D: Device> Image<D> {
-    /// No comment, the low range, warm boot, sleep, and all bits 0, under the standard layout.
+    /// A blank image under the standard layout: no comment, the low oscillator range, warm boot on, the flash put to sleep, and all bits 0.
+    ///
+    /// # Errors
+    /// `AllocError` if memory is out, and for no other cause.
     pub fn zeroed(alloc: Global) -> Result<Image<D>, AllocError>
         ensures { IfOk result (λ image. image ≡ blank_image (standard_layout D.NAME)) }
     {
         Image::zeroed_with(alloc, Layout::standard(D::device_name()))
     }
 
-    /// The same under a layout of the device.
+    /// A blank image under a given layout of the device.
+    ///
+    /// # Errors
+    /// `AllocError` if memory is out, and for no other cause.
     pub fn zeroed_with(alloc: Global, layout: Layout) -> Result<Image<D>, AllocError>
         requires { layout.device ≡ D.NAME }
         ensures { IfOk result (λ image. image ≡ blank_image layout) }
     {
-        // Tells the proof that no two bits have one place under it.
+        // Tells the proof that no two bits lie at one place under the layout.
         let _device = layout.device();
         Ok(Image {
             layout,
@@ -105,7 +111,7 @@ impl<D: Device> Image<D> {
         self.settings = settings;
     }
 
-    /// The comment, where there is one.
+    /// The comment, or `None` if there is none.
     pub fn comment(&self) -> Option<&Comment>
         ensures { option_copied result ≡ self.now.comment }
     {
@@ -147,8 +153,8 @@ impl<D: Device> Image<D> {
         row_word(&self.layout, &self.cram, x, y, row)
     }
 
-    /// Sets the bits of a row of a tile at which `ones` has a 1. Column c is the bit of value 2^c; bits past the tile's
-    /// columns are passed over, and where there is no tile nothing changes.
+    /// Sets the bits of a row of a tile at which `ones` has a 1. Column c is the bit of value 2^c; bits after the tile's
+    /// columns are ignored, and nothing changes if there is no tile.
     pub fn set_ones(&mut self, x: u8, y: u8, row: u8, ones: u64)
         requires { row < 16 }
         ensures { Gains (row_ones x y row ones) self.old self.new }
@@ -156,14 +162,15 @@ impl<D: Device> Image<D> {
         set_ones(&self.layout, &mut self.cram, x, y, row, ones);
     }
 
-    /// Where the rows of the tile at (x, y) lie; none where there is no tile.
+    /// Where the rows of the tile at (x, y) lie, or `None` if there is no tile.
     pub fn tile_runs(&self, x: u8, y: u8) -> Option<TileRuns>
         ensures { MatchOption result (columns_at self.now.layout.device x y ≡ 0) (AreRunsOf self.now.layout x y) }
     {
         self.layout.tile_runs(x, y)
     }
 
-    /// The same as `set_ones`, for a tile whose `tile_runs` were asked for before.
+    /// Sets the bits of a row of a tile at which `ones` has a 1, as `set_ones` does, by the answer of `tile_runs` for that tile. Calls for
+    /// several rows of one tile look it up only once this way.
     pub fn set_ones_in(&mut self, runs: TileRuns, row: u8, ones: u64)
         requires row { row < 16 }
         requires runs { AreRunsOf self.old.layout runs.x runs.y runs }
@@ -238,7 +245,7 @@ impl<D: Device> Image<D> {
         read_tile(&self.layout, &self.cram, x, y)
     }
 
-    /// Sets all bits of the tile at (x, y), which has C columns, to those of another tile.
+    /// Sets all bits of the tile at (x, y), which has C columns, to the bits of `tile`.
     pub fn put_tile<const C: usize>(&mut self, x: u8, y: u8, tile: &Tile<C>)
         requires { columns_at self.old.layout.device x y ≡ C }
         ensures tile { tile_rows self.old.layout self.new.cram x y ≡ tile.now }
@@ -310,6 +317,9 @@ impl<D: Device> Image<D> {
     }
 
     /// The set bits of the configuration planes that belong to no tile, by bank, then by row, then by column.
+    ///
+    /// # Errors
+    /// `AllocError` if memory is out, and for no other cause.
     pub fn extra_bits(&self, alloc: Global) -> Result<Vec<Place>, AllocError>
         ensures exact { IfOk result (λ places. AreSetExtras self.now.layout self.now.cram places.items) }
         ensures bits { IfOk result (λ places. places.items ≡ set_extras self.now) }
@@ -317,7 +327,7 @@ impl<D: Device> Image<D> {
         extras_of(&self.layout, &self.cram, alloc)
     }
 
-    /// The place of the configuration planes with these numbers, where it belongs to no tile.
+    /// The place of the configuration planes with these numbers, or `None` if there is no such place or it belongs to a tile.
     pub fn extra_place(&self, bank: u32, px: u32, py: u32) -> Option<Place>
         ensures { MatchOption result (is_extra self.now.layout (record { bank = bank; px = px; py = py }) ≡ false)
             (λ at. (is_extra self.now.layout at ≡ true) × (at ≡ record { bank = bank; px = px; py = py })) }
@@ -360,7 +370,7 @@ impl<D: Device> Image<D> {
         }
     }
 
-    /// The same for a configuration plane.
+    /// Sets rows of a bank's configuration plane to the bits of bytes, as `set_rows` does.
     fn set_cram_rows(&mut self, bank: usize, first: usize, count: usize, bytes: &[u8])
         requires bank { bank < 4 }
         requires rows { first + count ≤ cram_height self.old.layout.device }
@@ -373,7 +383,7 @@ impl<D: Device> Image<D> {
         plane.put_bytes(first, count, bytes);
     }
 
-    /// The same for a RAM plane.
+    /// Sets rows of a bank's RAM plane to the bits of bytes, as `set_rows` does.
     fn set_bram_rows(&mut self, bank: usize, first: usize, count: usize, bytes: &[u8])
         requires bank { bank < 4 }
         requires rows { first + count ≤ bram_height self.old.layout.device }

@@ -1,4 +1,4 @@
-//! Images: what a bitstream configures, by the bits of its tiles and the words of its RAMs.
+//! Images: what a bitstream configures, with access to the bits of its tiles and the words of its RAMs.
 #![tactic(auto)]
 
 mod any;

@@ -4,12 +4,12 @@ ghost use Rattle.ice_image.specs.Planes.{plane_width, plane_height};
 
 use plane_map::DeviceName;
 
-/// The two kinds of planes; a device has four of each, one a bank.
+/// The two kinds of planes. A device has four of each, one for each bank.
 #[derive(Clone, Copy, Debug, PartialEq, Eq)]
 pub enum PlaneKind {
-    /// The configuration planes.
+    /// The configuration planes (CRAM).
     Cram,
-    /// The RAM planes.
+    /// The RAM planes (BRAM), with the contents of block RAM.
     Bram,
 }
 

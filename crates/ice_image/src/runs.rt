@@ -1,4 +1,4 @@
-// Bits that lie side by side in one row of a plane.
+// Runs: bits that lie side by side in one row of a plane.
 ghost use Rattle.std.specs.Prelude.{◌≡◌, ℕ, ◌-◌, ◌<◌, ◌≤◌, ◌^◌, if◌then◌else◌};
 ghost use Rattle.bit_plane.specs.BitList.{word_of};
 ghost use Rattle.bit_plane.specs.Rows.{row_from};
@@ -20,7 +20,7 @@ pub(crate) fn run_word<P: Bits>(planes: &Banks<P>, run: Run, count: usize) -> u6
     turned(run.backwards, bits, count)
 }
 
-/// Sets the bits of a run to those of a word. Bit k of the run gets the bit of value 2^k.
+/// Sets the bits of a run to the bits of a word. Bit k of the run gets the bit of value 2^k.
 pub(crate) fn write_run<P: Bits>(planes: &mut Banks<P>, run: Run, count: usize, word: u64)
     requires { IsRunIn P.WIDTH P.HEIGHT count run }
     ensures written { IsWritten (run_place run count) (bit_of_word count word) count planes.old planes.new }
@@ -50,7 +50,7 @@ pub(crate) fn set_run_ones<P: Bits>(planes: &mut Banks<P>, run: Run, count: usiz
     );
 }
 
-/// The low `count` bits of a word, the last first where that is asked.
+/// The low `count` bits of a word, in reverse order if `backwards`.
 fn turned(backwards: bool, word: u64, count: usize) -> u64
     requires some { 0 < count }
     requires few { count ≤ 64 }

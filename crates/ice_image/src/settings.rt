@@ -1,23 +1,23 @@
 // The settings of an image.
 
-/// The range of the oscillator that clocks the configuration.
+/// The frequency range of the internal oscillator that clocks the configuration.
 #[derive(Clone, Copy, Debug, PartialEq, Eq)]
 pub enum Range {
-    /// Number 0 in a bitstream.
+    /// Value 0 of the command that sets the range in a bitstream.
     Low,
-    /// Number 1 in a bitstream.
+    /// Value 1 of the command.
     Medium,
-    /// Number 2 in a bitstream.
+    /// Value 2 of the command.
     High,
 }
 
 /// What an image sets besides its bits.
 #[derive(Clone, Copy, Debug, PartialEq, Eq)]
 pub struct Settings {
-    /// How fast the oscillator runs.
+    /// The frequency range of the oscillator.
     pub range: Range,
-    /// Whether the device may load another image later.
+    /// Whether warm boot is on: the design may load another image later.
     pub warm_boot: bool,
-    /// Whether the flash stays awake after the configuration.
+    /// Whether the SPI flash stays awake after the configuration, and isn't put to sleep.
     pub no_sleep: bool,
 }

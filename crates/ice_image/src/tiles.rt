@@ -44,7 +44,7 @@ pub(crate) fn row_word<P: Bits>(layout: &Layout, cram: &Banks<P>, x: u8, y: u8, 
     }
 }
 
-/// A row of a tile as a word, by where its rows lie. Column c is the bit of value 2^c.
+/// A row of a tile as a word, by the runs of its rows. Column c is the bit of value 2^c.
 fn row_in<P: Bits>(layout: &Layout, cram: &Banks<P>, runs: TileRuns, row: u8) -> u64
     requires row { row < 16 }
     requires runs { AreRunsOf layout.now runs.x runs.y runs }
@@ -55,7 +55,7 @@ fn row_in<P: Bits>(layout: &Layout, cram: &Banks<P>, runs: TileRuns, row: u8) ->
     gathered(layout, runs, run_word(cram, run, usize::from(runs.length)))
 }
 
-/// Sets all bits of the tile at (x, y) to those of another tile.
+/// Sets all bits of the tile at (x, y) to the bits of `tile`.
 pub(crate) fn write_tile<P: Bits, const C: usize>(
     layout: &Layout,
     cram: &mut Banks<P>,
@@ -98,7 +98,7 @@ pub(crate) fn set_ones<P: Bits>(
     }
 }
 
-/// Sets the bits of a row of a tile at which `ones` has a 1, by where its rows lie. Column c is the bit of value 2^c.
+/// Sets the bits of a row of a tile at which `ones` has a 1, by the runs of its rows. Column c is the bit of value 2^c.
 pub(crate) fn set_ones_in<P: Bits>(
     layout: &Layout,
     cram: &mut Banks<P>,
@@ -144,7 +144,7 @@ pub(crate) fn write_row<P: Bits>(
     }
 }
 
-/// Sets a row of a tile to the bits of a word, by where its rows lie. Column c gets the bit of value 2^c.
+/// Sets a row of a tile to the bits of a word, by the runs of its rows. Column c gets the bit of value 2^c.
 fn write_row_in<P: Bits>(layout: &Layout, cram: &mut Banks<P>, runs: TileRuns, row: u8, word: u64)
     requires layout { IsLayout layout.now }
     requires row { row < 16 }
@@ -156,7 +156,7 @@ fn write_row_in<P: Bits>(layout: &Layout, cram: &mut Banks<P>, runs: TileRuns, r
 {
     let run = layout.run_of_row(runs, row);
     let length = usize::from(runs.length);
-    // Bits of the run that are no column's stay as they are.
+    // Bits of the run that are no column stay as they are.
     let others = run_word(cram, run, length) & !spread(layout, runs, u64::MAX);
     write_run(cram, run, length, others | spread(layout, runs, word));
 }

@@ -8,7 +8,7 @@ use Rattle.asc_text.specs.Meaning.{AscMeans}
 use Rattle.bin_stream.specs.CanonicalBytes.{canonical_bytes}
 use Rattle.bin_stream.specs.Spelling.{Spells, bin_read_of}
 
--- the image whose flash stays awake after the configuration, where that is asked
+-- the image, with the flash staying awake after the configuration if that is asked
 abbrev pub awake_where : Bool → Configuration → Configuration
 awake_where true image = record image { settings = record image.settings { no_sleep = true } }
 awake_where false image = image
@@ -38,7 +38,7 @@ PacksAlike layouts text no_sleep bytes =
     (image : Configuration) (symbols others : List Symbol) (other packed : List ℕ) →
     AscMeans layouts text image symbols → AscMeans layouts other image others → IsPacked layouts other no_sleep packed → packed ≡ bytes
 
--- What is packed is unpacked to a text of the same image.
+-- What is packed is unpacked to a text that means the same image.
 abbrev pub UnpacksBack : Layouts → List ℕ → Bool → List ℕ → Type 0
 UnpacksBack layouts text no_sleep bytes =
     (image : Configuration) (symbols : List Symbol) (unpacked : List ℕ) →

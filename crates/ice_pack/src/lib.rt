@@ -1,4 +1,4 @@
-//! Texts as the bitstreams that a device loads, and bitstreams as texts.
+//! Packing and unpacking: from texts (`.asc`) to the bitstreams (`.bin`) that a device loads, and back.
 #![tactic(auto)]
 
 mod packing;

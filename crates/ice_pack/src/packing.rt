@@ -1,4 +1,4 @@
-// A text as a bitstream.
+// Packing a text into a bitstream.
 ghost use Rattle.std.specs.Prelude.{◌≡◌, ℕ, List, None, IfOk, IfErr, OnOk};
 ghost use Rattle.layout_file.specs.declared.layouts.Layouts.{Layouts};
 ghost use Rattle.layout_file.specs.Layouts.{standard_layouts, AreLayouts};
@@ -13,8 +13,20 @@ use ice_image::{AnyImage, Settings};
 use layout_file::Layouts;
 use std::alloc::Global;
 
-/// The canonical bytes of what a text configures under the standard layouts. The flash stays awake where `no_sleep` is true,
-/// whatever the text says.
+/// The canonical bytes of what a text configures under the standard layouts. The flash stays awake after the configuration if
+/// `no_sleep` is true, whatever the text says.
+///
+/// # Errors
+/// `AscFault::At` for the first faulty line, with its tile or RAM and its cause; `AscFault::Memory` if memory is out.
+///
+/// # Example
+/// ```ignore
+/// match pack(alloc, b".device 384\n", false) {
+///     Ok(bytes) => Ok(bytes),
+///     Err(AscFault::At { line, .. }) => Err(line),
+///     Err(AscFault::Memory(_)) => Err(0),
+/// }
+/// ```
 pub fn pack(alloc: Global, asc: &[u8], no_sleep: bool) -> Result<Vec<u8>, AscFault>
     ensures packed { IfOk result (λ bytes. IsPacked standard_layouts asc.now no_sleep bytes.items) }
     ensures alike { IfOk result (λ bytes. PacksAlike standard_layouts asc.now no_sleep bytes.items) }
@@ -25,7 +37,10 @@ pub fn pack(alloc: Global, asc: &[u8], no_sleep: bool) -> Result<Vec<u8>, AscFau
     pack_with(alloc, asc, no_sleep, Layouts::standard())
 }
 
-/// The same under other layouts.
+/// The canonical bytes of what a text configures under the layouts, with `no_sleep` as in [`pack`].
+///
+/// # Errors
+/// As [`pack`].
 pub fn pack_with(
     alloc: Global,
     asc: &[u8],
@@ -45,7 +60,10 @@ pub fn pack_with(
     pack_fed(alloc, reader, no_sleep)
 }
 
-/// The same for the text that was fed to a reader, which may have come in pieces.
+/// The canonical bytes of what the text configures that was fed to a reader, in one or more pieces, with `no_sleep` as in [`pack`].
+///
+/// # Errors
+/// As [`pack`].
 pub fn pack_fed(alloc: Global, reader: AscReader, no_sleep: bool) -> Result<Vec<u8>, AscFault>
     ensures packed { IfOk result (λ bytes. (layouts : Layouts) (text : List ℕ) → StandsFor layouts text reader → IsPacked layouts text no_sleep bytes.items) }
     ensures alike { IfOk result (λ bytes. (layouts : Layouts) (text : List ℕ) → StandsFor layouts text reader → PacksAlike layouts text no_sleep bytes.items) }
@@ -58,7 +76,7 @@ pub fn pack_fed(alloc: Global, reader: AscReader, no_sleep: bool) -> Result<Vec<
     Ok(encode(alloc, &image)?)
 }
 
-/// Lets the flash stay awake after the configuration, where that is asked.
+/// Lets the flash stay awake after the configuration, if `no_sleep`.
 fn keep_awake(image: &mut AnyImage, no_sleep: bool)
     ensures { configuration_of image.new ≡ awake_where no_sleep (configuration_of image.old) }
 {

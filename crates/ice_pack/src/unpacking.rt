@@ -1,4 +1,4 @@
-// A bitstream as a text.
+// Unpacking a bitstream into a text.
 ghost use Rattle.std.specs.Prelude.{◌≡◌, ℕ, List, IfOk, IfErr};
 ghost use Rattle.layout_file.specs.declared.layouts.Layouts.{Layouts};
 ghost use Rattle.layout_file.specs.Layouts.{standard_layouts, AreLayouts};
@@ -13,6 +13,18 @@ use layout_file::Layouts;
 use std::alloc::Global;
 
 /// The canonical text of what a bitstream spells under the standard layouts.
+///
+/// # Errors
+/// `BinFault::At` for the first fault, with its offset and its cause; `BinFault::Memory` if memory is out.
+///
+/// # Example
+/// ```ignore
+/// match unpack(alloc, &bytes) {
+///     Ok(text) => Ok(text),
+///     Err(BinFault::At { offset, .. }) => Err(offset),
+///     Err(BinFault::Memory(_)) => Err(0),
+/// }
+/// ```
 pub fn unpack(alloc: Global, bin: &[u8]) -> Result<Vec<u8>, BinFault>
     // The input spells one image or has one fault, and not both.
     ensures decided { IsDecided standard_layouts bin.now }
@@ -24,7 +36,10 @@ pub fn unpack(alloc: Global, bin: &[u8]) -> Result<Vec<u8>, BinFault>
     unpack_with(alloc, bin, Layouts::standard())
 }
 
-/// The same under other layouts.
+/// The canonical text of what a bitstream spells under the layouts.
+///
+/// # Errors
+/// As [`unpack`].
 pub fn unpack_with(alloc: Global, bin: &[u8], layouts: Layouts) -> Result<Vec<u8>, BinFault>
     requires { AreLayouts layouts }
     ensures decided { IsDecided layouts bin.now }
@@ -37,7 +52,11 @@ pub fn unpack_with(alloc: Global, bin: &[u8], layouts: Layouts) -> Result<Vec<u8
     Ok(write(alloc, &image)?)
 }
 
-/// The same for the bitstream that was fed to a decoder, which may have come in pieces. The text is made while it is written.
+/// The canonical text of what the bitstream spells that was fed to a decoder, in one or more pieces. The text is made while it is
+/// written.
+///
+/// # Errors
+/// As [`unpack`].
 pub fn unpack_fed(alloc: Global, decoder: Decoder) -> Result<CanonicalText, BinFault>
     ensures decided { (layouts : Layouts) (bytes : List ℕ) → StandsFor layouts bytes decoder → IsDecided layouts bytes }
     ensures unpacked { IfOk result (λ text. (layouts : Layouts) (bytes : List ℕ) → StandsFor layouts bytes decoder → IsUnpacked layouts bytes (canonical_in text)) }

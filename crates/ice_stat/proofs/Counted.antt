@@ -1,4 +1,4 @@
--- Counts that are those of a database and an image, one by one.
+-- The counts are the counts of a database and an image, one by one.
 use Rattle.std.proofs.Common.{◌≡◌, ℕ, length, count_by, refl}
 use Rattle.ice_image.specs.Configuration.{Configuration}
 use Rattle.ice_image.specs.Bits.{set_extras}

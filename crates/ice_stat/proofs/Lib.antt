@@ -1,8 +1,8 @@
--- counts that are those of a database and an image, one by one
+-- the counts are the counts of a database and an image, one by one
 pub mod Counted
 -- bits that are 1: of a byte, and of a plane
 pub mod Ones
 -- links that are on
 pub mod Links
--- the refusals of links, pins and RAMs are those of the counts
+-- the faults of links, pins and RAMs are the faults of counting
 pub mod Refused

@@ -8,7 +8,7 @@ use Rattle.net_extract.specs.Fabric.{numbered, numbered_from}
 use Rattle.net_extract.specs.Links.{places_on}
 use Rattle.net_extract.specs.On.{is_link_on}
 
--- as many items with their places pass a test as items
+-- pairing items with their indexes doesn't change how many pass a test
 count_by-numbered : {A : Type 0} (test : A → Bool) (place : ℕ) (items : List A) → count_by (λ (item : ℕ × A). test item.1) (numbered_from place items) ≡ count_by test items
 unfolding numbered_from
 count_by-numbered test place [] = refl
@@ -17,7 +17,7 @@ count_by-numbered {A} test place (item ∷ items) =
     ∙ ap (λ n. cond (test item) 1 0 + n) (count_by-numbered test (suc place) items)
     ∙ sym (sum_by-cons (λ x. cond (test x) 1 0) item items)
 
--- as many places are kept as links are on
+-- one index is kept for each link that is on
 pub length-places_on : (image : Configuration) (links : List Link) → length (places_on image links) ≡ count_by (is_link_on image) links
 unfolding places_on
 length-places_on image links =

@@ -1,4 +1,4 @@
--- The refusals of links, pins and RAMs are those of the counts, where nothing before them is wrong.
+-- The faults of links, pins and RAMs are the faults of counting, if nothing before them is wrong.
 use Rattle.std.proofs.Common.{◌≡◌, [], refl, ◌∙◌}
 use Rattle.std.specs.Prelude.{◌↔◌, Some, None}
 use Rattle.plane_map.proofs.Devices.{same-device, other-device}
@@ -51,6 +51,6 @@ module _ (db : Database) (image : Configuration) where
       rams-cause (rams.Cascade x y) is = rams-refuse _ is
       rams-cause (rams.Memory failed) is = tt
 
-      -- nothing is wrong where the devices, the pins and the RAMs are taken
+      -- nothing is wrong if the devices agree and no pin and no RAM is refused
       pub all-taken : rams_fault db image ≡ None → stat_fault db image ≡ None
       all-taken rams-taken = behind-device same ∙ rw (pins-taken, rams-taken) refl

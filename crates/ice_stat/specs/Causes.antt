@@ -1,4 +1,4 @@
--- The refusals of links, pins and RAMs, as those of the counts.
+-- The faults of links, pins and RAMs, as faults of counting.
 use Rattle.net_extract.specs.declared.fault.LinkFault.{LinkFault}
 use Rattle.net_extract.specs.declared.fault.LinkFault.TheVariants as links
 use Rattle.fabric_parts.specs.declared.io.fault.PinFault.{PinFault}

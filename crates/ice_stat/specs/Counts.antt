@@ -18,7 +18,7 @@ use Rattle.ice_stat.specs.declared.counts.Counts.{Counts}
 
 -- ---- what is counted
 
--- how many of some bits are 1
+-- how many of the bits are 1
 abbrev pub ones_in : List Bool → ℕ
 ones_in bits = count_by (λ bit. bit) bits
 
@@ -26,12 +26,12 @@ ones_in bits = count_by (λ bit. bit) bits
 abbrev pub cram_bits : Configuration → List Bool
 cram_bits image = flat_map flat image.cram
 
--- the numbers of the globals that drive some of these nets
+-- the numbers of the global nets that drive at least one of these nets
 abbrev pub globals_among : List GlobalNet → List ℕ
 globals_among nets = gathered_below 8 (λ g. item_if (list_any (λ global. global.g == g) nets) g)
 
--- The counts of a database and an image. Cells and RAMs are those that are used, and pins those that are ports; a flip-flop or a carry is
--- that of a used cell; links are those that are on; bits are those of the configuration planes that are 1, extra bits among them.
+-- The counts of a database and an image. Logic cells and RAMs count if they are used, and pins if they are ports. Flip-flops and carries
+-- are counted among the used cells. Links count if they are on, and bits of the configuration planes, extra bits included, if they are 1.
 unfoldable pub counts_of : Database → Configuration → Counts
 counts_of db image = record {
   luts = length (cells_of db image);
@@ -52,7 +52,7 @@ counts_of db image = record {
 abbrev pub count_line : List ℕ → ℕ → List ℕ
 count_line word number = with_word word (decimal number)
 
--- of cells and RAMs
+-- the lines for logic cells and RAMs
 abbrev pub cell_lines : Counts → List (List ℕ)
 cell_lines counts =
     count_line (codes "luts") counts.luts
@@ -61,7 +61,7 @@ cell_lines counts =
     ∷ count_line (codes "rams") counts.rams
     ∷ []
 
--- of pins, nets and bits
+-- the lines for pins, nets and bits
 abbrev pub net_lines : Counts → List (List ℕ)
 net_lines counts =
     count_line (codes "pins") counts.pins
@@ -72,6 +72,6 @@ net_lines counts =
     ∷ count_line (codes "extra") counts.extra
     ∷ []
 
--- all ten
+-- all ten lines
 unfoldable pub stat_text : Counts → List ℕ
 stat_text counts = text_of (cell_lines counts ++ net_lines counts)

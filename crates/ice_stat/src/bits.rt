@@ -21,7 +21,7 @@ pub(crate) fn set_bits(alloc: Global, image: &AnyImage) -> Result<usize, AllocEr
     Ok(ones_of_banks(image, &mut bytes))
 }
 
-/// The same with room for the bytes of a bank's plane.
+/// How many bits of an image's configuration planes are 1. `bytes` has room for one bank's plane.
 fn ones_of_banks(image: &AnyImage, bytes: &mut [u8]) -> usize
     requires whole { IsWhole (configuration_of image.now) }
     requires bytes { 8 * length bytes.old ≡ cram_height (device_of image.now) * cram_width (device_of image.now) }
@@ -34,7 +34,7 @@ fn ones_of_banks(image: &AnyImage, bytes: &mut [u8]) -> usize
     count
 }
 
-/// How many bits of a bank's configuration plane are 1, with room for its bytes.
+/// How many bits of one bank's configuration plane are 1. `bytes` has room for it.
 fn ones_of_bank(image: &AnyImage, bank: usize, bytes: &mut [u8]) -> usize
     requires bank { bank < 4 }
     requires bytes { 8 * length bytes.old ≡ cram_height (device_of image.now) * cram_width (device_of image.now) }
@@ -47,7 +47,7 @@ fn ones_of_bank(image: &AnyImage, bank: usize, bytes: &mut [u8]) -> usize
     ones_of_bytes(bytes)
 }
 
-/// How many bits of bytes are 1.
+/// How many bits of these bytes are 1.
 fn ones_of_bytes(bytes: &[u8]) -> usize
     requires { length bytes.now < 2 ^ 28 }
     ensures ones { result ≡ ones_in (bits_of bytes.now) }

@@ -1,4 +1,4 @@
-// Counts what an image uses.
+// Counts what an image uses of its device.
 ghost use Rattle.std.specs.Prelude.{◌≡◌, IfOk, IfErr, OnOk, None};
 ghost use Rattle.ice_image.specs.Either.{configuration_of};
 ghost use Rattle.chipdb_reader.specs.Kept.{database_in};
@@ -16,10 +16,24 @@ use ice_image::AnyImage;
 use net_extract::links;
 use std::alloc::Global;
 
-/// Counts what an image uses by a database: the text of ten lines, each a word, a space and a number.
+/// Counts what an image uses of its device, by the names of a chip database. The answer is a text of ten lines, each a word, a space and a
+/// number.
 ///
 /// # Errors
-/// The first cause why the two aren't counted, in the order of [`StatFault`].
+/// `Device` if the database is for another device; else `Pins` with the first pin that is refused (a PLL or a pin type that isn't
+/// supported); else `Rams` with the first RAM that is refused (a cascaded one). `Memory` if memory is out; it may come in place of any
+/// other answer.
+///
+/// # Example
+/// ```ignore
+/// use ice_stat::stat;
+///
+/// let text = stat(alloc, &db, &image)?; // `db` is a `ChipDb`, and `image` an `AnyImage`
+/// // luts 1
+/// // flops 0
+/// // carries 0
+/// // ...
+/// ```
 pub fn stat(alloc: Global, db: &ChipDb, image: &AnyImage) -> Result<Vec<u8>, StatFault>
     ensures text { IfOk result (λ text. text.items ≡ stat_text (counts_of (database_in db.now) (configuration_of image.now))) }
     ensures taken { OnOk result (stat_fault (database_in db.now) (configuration_of image.now) ≡ None) }
@@ -29,7 +43,7 @@ pub fn stat(alloc: Global, db: &ChipDb, image: &AnyImage) -> Result<Vec<u8>, Sta
     Ok(text_of(alloc, &counts)?)
 }
 
-/// The counts.
+/// Counts what an image uses, and checks it first.
 fn counts(alloc: Global, db: &ChipDb, image: &AnyImage) -> Result<Counts, StatFault>
     ensures counts { IfOk result (λ counts. counts ≡ counts_of (database_in db.now) (configuration_of image.now)) }
     ensures taken { OnOk result (stat_fault (database_in db.now) (configuration_of image.now) ≡ None) }

@@ -9,17 +9,17 @@ use std::alloc::{AllocError, Global};
 /// What is counted of a database and an image.
 #[derive(Clone, Copy, Debug, PartialEq, Eq)]
 pub(crate) struct Counts {
-    /// The used cells.
+    /// The used logic cells.
     pub(crate) luts: usize,
-    /// Those with a flip-flop.
+    /// The used cells whose flip-flop is used.
     pub(crate) flops: usize,
-    /// Those that carry.
+    /// The used cells whose carry is used.
     pub(crate) carries: usize,
     /// The used RAMs.
     pub(crate) rams: usize,
     /// The pins that are ports.
     pub(crate) pins: usize,
-    /// The globals that drive a net.
+    /// The global nets that drive a net.
     pub(crate) globals: usize,
     /// The buffers that are on.
     pub(crate) buffers: usize,
@@ -43,7 +43,7 @@ fn append_line(text: &mut Vec<u8>, word: &[u8], number: usize) -> Result<(), All
     Ok(())
 }
 
-/// Appends the lines of cells and RAMs.
+/// Appends the lines for logic cells and RAMs.
 fn append_cells(text: &mut Vec<u8>, counts: &Counts) -> Result<(), AllocError>
     ensures { OnOk result (text.new.items ≡ text.old.items ++ text_of (cell_lines counts.now)) }
 {
@@ -53,7 +53,7 @@ fn append_cells(text: &mut Vec<u8>, counts: &Counts) -> Result<(), AllocError>
     append_line(text, b"rams", counts.rams)
 }
 
-/// Appends the lines of pins, nets and bits.
+/// Appends the lines for pins, nets and bits.
 fn append_nets(text: &mut Vec<u8>, counts: &Counts) -> Result<(), AllocError>
     ensures { OnOk result (text.new.items ≡ text.old.items ++ text_of (net_lines counts.now)) }
 {

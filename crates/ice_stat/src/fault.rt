@@ -1,18 +1,18 @@
-// Why nothing is counted.
+// Why a database and an image are not counted.
 ghost use Rattle.std.specs.Prelude.{◌≡◌};
 
 use fabric_parts::{PinFault, RamFault};
 use net_extract::LinkFault;
 use std::alloc::AllocError;
 
-/// Why nothing is counted of a database and an image: the first cause that holds, in the order below.
+/// Why a database and an image are not counted. If there are several causes, the first in this list is reported.
 #[derive(Clone, Copy, Debug, PartialEq, Eq)]
 pub enum StatFault {
-    /// They are for different devices.
+    /// The database is for another device than the image.
     Device,
-    /// The pins aren't taken, for this cause, which isn't that memory ran out.
+    /// A pin is refused. Out of memory is never reported here.
     Pins(PinFault),
-    /// The RAMs aren't taken, for this cause, which isn't that memory ran out.
+    /// A RAM is refused. Out of memory is never reported here.
     Rams(RamFault),
     /// Out of memory. It may come in place of any other answer.
     Memory(AllocError),

@@ -1,11 +1,11 @@
-// Globals that drive a net.
+// Global nets that drive a net.
 ghost use Rattle.std.specs.Prelude.{◌≡◌, ◌==◌, length};
 ghost use Rattle.std.specs.List.{list_any};
 ghost use Rattle.ice_stat.specs.Counts.{globals_among};
 
 use net_extract::GlobalNet;
 
-/// How many globals drive some of these nets.
+/// How many global nets drive at least one of these nets.
 pub(crate) fn globals(nets: &[GlobalNet]) -> usize
     ensures { result ≡ length (globals_among nets.now) }
 {
@@ -18,7 +18,7 @@ pub(crate) fn globals(nets: &[GlobalNet]) -> usize
     count
 }
 
-/// Whether a global drives one of these nets.
+/// Whether global net `g` drives one of these nets.
 fn drives(nets: &[GlobalNet], g: u8) -> bool
     ensures { result ≡ list_any (λ global. global.g == g) nets.now }
 {

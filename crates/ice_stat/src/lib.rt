@@ -1,6 +1,6 @@
 //! What an image uses of its device, counted by the names of a chip database.
 //!
-//! `specs/Counts.antt` says what the ten counts are and how they are written, `specs/Faults.antt` for which cause nothing is counted.
+//! `specs/Counts.antt` defines the ten counts and their text, and `specs/Faults.antt` why a database and an image are not counted.
 #![tactic(auto)]
 
 mod bits;

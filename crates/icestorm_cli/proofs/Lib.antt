@@ -1,2 +1,2 @@
--- What a run of vlogrun appends where its text spells the module of a design
+-- What a run of vlogrun appends if its text spells the module of a design
 mod Runs

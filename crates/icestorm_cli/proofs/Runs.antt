@@ -1,4 +1,4 @@
--- What a run of `vlogrun` appends where its text spells the module of a design.
+-- What a run of `vlogrun` appends if its text spells the module of a design.
 use Rattle.std.proofs.Common.{◌≡◌, ◌∙◌, ℕ, Bool, true, false, List, [], codes, refl, sym, ap, subst}
 use Rattle.std.specs.Prelude.{Option, Some, None, flat_map, get_or, if◌then◌else◌}
 use Rattle.clap.specs.Words.{Text, first_of, matches_of}
@@ -38,19 +38,19 @@ use Rattle.icestorm_cli.specs.Runs.{IsModuleOf, PromisesRun, RunsFabric, ports_w
 done-same : (one other : List ℕ) → Done one ≡ Done other → one ≡ other
 done-same one other same = cc
 
--- what is written where the events have no fault
+-- what is written if the events have no fault
 over-done : (registers : Bool) (m : Parts) (events lines : List ℕ) (fault : Option EventFault) → run_over (Lines registers) m events fault ≡ Done lines
     → lines ≡ run_text m (events_of m.ports events) registers
 over-done registers m events lines None is = sym (done-same _ _ is)
 over-done registers m events lines (Some fault) is = absurd cc
 
--- what is written of a text that spells a module
+-- what is written for a text that spells a module
 spelled-done : (registers : Bool) (m : Parts) (text events lines : List ℕ) → IsSpelling text m → run_of (Lines registers) (outcome_of text) events ≡ Done lines
     → lines ≡ run_text m (events_of m.ports events) registers
 spelled-done registers m text events lines spells done =
     over-done registers m events lines (event_fault m.ports events) (sym (ap (λ outcome. run_of (Lines registers) outcome events) (outcome-spelled text m spells)) ∙ done)
 
--- the lines of the module of a design
+-- the lines for the module of a design
 own-shown : (db : Database) (image : Configuration) (m : Parts) → IsModuleOf None db image m → (registers : Bool) (events : List ℕ) (entries : List Entry)
     → IsRun (fabric_of db image) (fabric_events (ports_with None (fabric_of db image).pins) events) entries → run_text m (events_of m.ports events) registers ≡ fabric_text registers entries
 unfolding module_of fabric_with
@@ -62,7 +62,7 @@ own-shown db image m is registers events entries run =
     (design-is-module inputs db image design.fit design.few design.taken is.design.order design.kept.order is.name (fabric_events (flat_map pin_ports fabric.pins) events) entries run) in
     subst (λ (one : Parts). run_text one (events_of one.ports events) registers ≡ fabric_text registers entries) (sym is.is) shown
 
--- those of the module with the names of a pin file
+-- the lines for the module with the names of a pin file
 named-shown : (named : List PinName) (db : Database) (image : Configuration) (m : Parts) → IsModuleOf (Some named) db image m → (registers : Bool) (events : List ℕ) (entries : List Entry)
     → IsRun (fabric_of db image) (fabric_events (ports_with (Some named) (fabric_of db image).pins) events) entries → run_text m (events_of m.ports events) registers ≡ fabric_text registers entries
 named-shown named db image m is registers events entries run =

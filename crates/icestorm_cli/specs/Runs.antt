@@ -1,4 +1,4 @@
--- What a run of `vlogrun` promises of a module that is that of a design: it is the run of the design's fabric.
+-- What a run of `vlogrun` promises for the module of a design: it is the run of the design's fabric.
 use Rattle.std.specs.Prelude.{◌≡◌, ℕ, Bool, false, List, [], codes, flat_map, get_or, Option, None, Some}
 use Rattle.clap.specs.Words.{matches_of}
 use Rattle.ice_image.specs.Configuration.{Configuration}
@@ -22,7 +22,7 @@ use Rattle.tool_parts.specs.Commands.{has_flag}
 use Rattle.module_tools.specs.Vlogrun.{vlogrun_command, vlogrun_outcome}
 use Rattle.design_parts.specs.Lines.{fabric_events, fabric_text}
 
--- the ports of a design's module, where they have the names of a pin file or their own
+-- the ports of a design's module, which have the names of a pin file, or their own
 abbrev pub ports_with : Option (List PinName) → List Pin → List Port
 ports_with None pins = flat_map pin_ports pins
 ports_with (Some named) pins = named_ports named pins
@@ -32,12 +32,12 @@ abbrev pub module_with : Option (List PinName) → Fabric → List ℕ → List 
 module_with None fabric order name = module_of fabric order name
 module_with (Some named) fabric order name = named_module named fabric order name
 
--- names are those of a pin file without a fault, for these pins
+-- these are the names of a pin file without a fault, for these pins
 abbrev pub AreTaken : Option (List PinName) → List Pin → Type 0
 AreTaken None pins = Unit {0}
 AreTaken (Some named) pins = AreAccepted pins named
 
--- A module is that of a design of a database and an image, under a name, where its ports have the names of a pin file or their own.
+-- This is the module of the design of a database and an image, under some name. Its ports have the names of a pin file, or their own.
 pub record IsModuleOf (names : Option (List PinName)) (db : Database) (image : Configuration) (m : Parts) : Type 0 where
   pub design : Kept
   pub name : List ℕ
@@ -46,8 +46,8 @@ pub record IsModuleOf (names : Option (List PinName)) (db : Database) (image : C
   pub are_taken : AreTaken names (fabric_of db image).pins
   pub is : m ≡ module_with names (fabric_with design.parts.lut_inputs db image) design.order name
 
--- where the first of two texts spells the module of a design, bytes are the lines of the run of the design's fabric over the events of
--- the second
+-- if the first of two texts spells the module of a design, the bytes are the lines of the run of the design's fabric over the events of the
+-- second
 abbrev pub RunsFabric : Bool → List (List ℕ) → List ℕ → Type 0
 RunsFabric registers texts bytes =
     (names : Option (List PinName)) (db : Database) (image : Configuration) (m : Parts) → IsModuleOf names db image m → IsSpelling (get_or texts 0 []) m
@@ -63,8 +63,9 @@ abbrev pub tells_waves : List (List ℕ) → Bool
 tells_waves args = has_flag (codes "vcd") (matches_of vlogrun_command args)
 
 -- If a run of `vlogrun` with these arguments has status 0, and isn't asked for help or for waves, then there are texts of its files and of
--- standard input for which the bytes that it appended are the lines of the run of a design's fabric, if the first text spells that design's
--- module. What files and input tell of their contents are these texts; of real ones nothing is told, and each is within its limit.
+-- standard input such that the bytes that it appended are the lines of the run of a design's fabric, if the first text spells that design's
+-- module. Each text is within its limit. Where files and input tell their contents, as those in memory do, the texts are these contents;
+-- real files tell nothing of them.
 abbrev pub PromisesRun : {F I O E : Type 0} → Outside F I O E → List (List ℕ) → ℕ → Scene F I O E → Scene F I O E → Type 0
 PromisesRun by args status old new =
     status ≡ 0 → asks_for_help args ≡ false → tells_waves args ≡ false → AppendsFor by (RunsFabric (shows_registers args)) (vlogrun_outcome args) old new

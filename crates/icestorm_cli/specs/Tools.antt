@@ -1,4 +1,4 @@
--- The tools, each by the first word of the command line, and what arguments ask for that name no tool.
+-- The tools, each by the first word of the command line, and the program's own answers if the arguments name no tool.
 use Rattle.std.specs.Prelude.{◌≡◌, ℕ, bytes_eq, codes, if◌then◌else◌, List, [], ◌∷◌, Option, None, Some}
 use Rattle.tool_run.specs.Tasks.{Answer, Done, Task, at_once, usage_error}
 use Rattle.bitstream_tools.specs.Bram.{icebram_outcome}
@@ -16,7 +16,7 @@ use Rattle.icestorm_cli.specs.declared.tool.Tool.{Tool}
 use Rattle.icestorm_cli.specs.declared.tool.Tool.TheVariants.{Icepack, Iceunpack, Icemulti, Icesplit, Icebram, IceboxExplain, IceboxStat, IceboxVlog, Vlogrun, Vlogsweep, Selfrun}
 use Rattle.icestorm_cli.specs.declared.tool.TheConstants.{HELP, VERSION}
 
--- the tool that a word names
+-- the tool that a word names, if it names one
 unfoldable pub tool_named : List ℕ → Option Tool
 tool_named word =
     if bytes_eq word (codes "icepack") then Some Icepack
@@ -32,7 +32,7 @@ tool_named word =
     else if bytes_eq word (codes "selfrun") then Some Selfrun
     else None
 
--- the tool that the arguments name
+-- the tool that the arguments name by their first word, if they name one
 abbrev pub tool_of : List (List ℕ) → Option Tool
 tool_of [] = None
 tool_of (word ∷ args) = tool_named word
@@ -47,7 +47,7 @@ own_outcome word =
     else if bytes_eq word (codes "--version") then at_once program_name None (Done VERSION.now)
     else usage_error program_name (codes "TOOL ...")
 
--- what arguments ask for that name no tool
+-- what arguments that name no tool ask for
 unfoldable pub other_outcome : List (List ℕ) → Task
 other_outcome [] = usage_error program_name (codes "TOOL ...")
 other_outcome (word ∷ []) = own_outcome word
@@ -55,7 +55,7 @@ other_outcome (word ∷ next ∷ args) = usage_error program_name (codes "TOOL .
 
 -- ---- what arguments ask for
 
--- the task of arguments by the tool that they name. `selfrun` has its answer by a relation, and each other by a function.
+-- the task of arguments, by the tool that they name. For `selfrun` the answer is given by a relation, for the others by a function.
 abbrev pub IsOutcomeOf : Option Tool → List (List ℕ) → Task → Type 0
 IsOutcomeOf (Some Icepack) args task = task ≡ icepack_outcome args
 IsOutcomeOf (Some Iceunpack) args task = task ≡ iceunpack_outcome args
@@ -70,6 +70,6 @@ IsOutcomeOf (Some Vlogsweep) args task = task ≡ vlogsweep_outcome args
 IsOutcomeOf (Some Selfrun) args task = (answer : Answer) × IsSelfrunAnswer args answer × (task ≡ selfrun_outcome args answer)
 IsOutcomeOf None args task = task ≡ other_outcome args
 
--- a task is what arguments ask for
+-- this is the task that the arguments ask for
 abbrev pub IsOutcome : List (List ℕ) → Task → Type 0
 IsOutcome args task = IsOutcomeOf (tool_of args) args task

@@ -18,7 +18,7 @@ use module_tools::{run_vlogrun, run_vlogsweep};
 use std::alloc::Global;
 use tool_run::{AtOnce, Host};
 
-// What the program answers to one word that names no tool.
+// The program's own answer to a single word that names no tool.
 fn answer_to(word: &str) -> AtOnce
     ensures { at_once program_name None (at_once_answer result) ≡ own_outcome word.now }
 {
@@ -29,7 +29,7 @@ fn answer_to(word: &str) -> AtOnce
     }
 }
 
-// What the program answers to arguments that name no tool.
+// The program's own answer to arguments that name no tool.
 #[tactic(auto, unfolding(crate::specs::Tools::other_outcome))]
 fn own_answer(args: &[String]) -> AtOnce
     ensures { at_once program_name None (at_once_answer result) ≡ other_outcome (map string_bytes args.now) }
@@ -40,11 +40,10 @@ fn own_answer(args: &[String]) -> AtOnce
     }
 }
 
-/// Does what the arguments ask for, the first of which is the tool, and answers the status: 0 where all was done, 1 where the
-/// tool refuses what it was given, 2 where the command line isn't taken, 3 where reading failed, 4 where writing failed, 5
-/// where memory ran out, and 6 where an input has more bytes than its limit. The first that refuses decides, in this order:
-/// the arguments, what is loaded, a layout file first and then in the order of the arguments with standard input last, the tool, the
-/// target.
+/// Does what the arguments ask for, the first of which is the tool, and answers the exit status: 0 if all was done, 1 if the tool
+/// refuses what it was given, 2 if the command line isn't taken, 3 if reading failed, 4 if writing failed, 5 if memory is out, and 6
+/// if an input has more bytes than its limit. The first of these decides, in this order: the arguments; what is loaded, that is, a layout
+/// file, then the others in the order of the arguments, standard input last; the tool; the target.
 pub fn run<H: Host>(alloc: Global, args: &[String], host: &mut H) -> u8
     ensures does { (task : Task) → IsOutcome (map string_bytes args.now) task
         → Does H.outside task result (H.scene host.old) (H.scene host.new) }

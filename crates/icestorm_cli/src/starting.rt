@@ -10,13 +10,13 @@ use std::env::Args;
 use std::io::{self, ErrorKind};
 use tool_run::Host;
 
-/// The exit status where there is no memory for the arguments.
+/// The exit status if memory is out for the arguments.
 const OUT_OF_MEMORY: u8 = 5;
 
-/// The exit status where an argument isn't UTF-8.
+/// The exit status if an argument isn't UTF-8.
 const USAGE_ERROR: u8 = 2;
 
-/// The exit status where the arguments can't be had, by the kind of error: out of memory, or an argument that isn't UTF-8.
+/// The exit status if the environment gives no arguments, by the kind of its error: out of memory, or an argument that isn't UTF-8.
 fn status_without_args(kind: ErrorKind) -> u8
     ensures memory { kind ≡ ErrorKind.OutOfMemory → result ≡ 5 }
     ensures other { kind ≢ ErrorKind.OutOfMemory → result ≡ 2 }
@@ -27,7 +27,7 @@ fn status_without_args(kind: ErrorKind) -> u8
     }
 }
 
-/// The arguments in a list, all of them in their order, or want of memory where room for them is refused.
+/// All arguments in a list, in their order, or `AllocError` if memory is out.
 fn listed(alloc: Global, args: Args) -> Result<Vec<String>, AllocError>
     ensures { IfOk result (λ list. list.items ≡ into_iter_items args) }
 {
@@ -58,9 +58,9 @@ fn start_args<H: Host>(alloc: Global, args: Args, host: &mut H) -> u8
     }
 }
 
-/// Runs the program with what the environment gives as its arguments, the first of which is the program's own name, and answers the exit
-/// status. What the others ask for is done. If there is no memory for them, or if the environment gives an error in place of arguments, nothing
-/// is touched: the status is 5 for out of memory, and 2 for an argument that isn't UTF-8.
+/// Runs the program with the arguments that the environment gives, the first of which is the program's own name, and answers the exit
+/// status. It does what the other arguments ask for. If memory is out for them, or if the environment gives an error in place of
+/// arguments, nothing is touched: the status is 5 for out of memory, and 2 for an argument that isn't UTF-8.
 pub fn start<H: Host>(alloc: Global, args: io::Result<Args>, host: &mut H) -> u8
     ensures given { IfOk args (λ args. Starts H.outside (map string_bytes (into_iter_items args)) result (H.scene host.old) (H.scene host.new)) }
     ensures memory { IfErr args (λ error. error_kind error ≡ ErrorKind.OutOfMemory → result ≡ 5) }

@@ -13,7 +13,7 @@ use tool_run::FilesAndStreams;
 /// The name and the bytes of a file.
 type Named<'a> = (&'a str, &'a [u8]);
 
-/// How many bytes a read gives at most, and a write takes.
+/// How many bytes a read gives at most, and a write takes at most.
 #[derive(Clone, Copy, Debug, PartialEq, Eq)]
 enum Part {
     Large,
@@ -43,16 +43,16 @@ struct Setup<'a> {
     files: &'a [Named<'a>],
     /// How many bytes the file `out` takes.
     room: usize,
-    /// How many bytes go at once.
+    /// How many bytes a read gives at most, and a write takes at most.
     part: Part,
     input: &'a [u8],
-    /// The call of files that fails, from 1, and none where it is 0: reads and stores are counted together.
+    /// The call of files that fails, counted from 1, or 0 if none fails. Reads and stores are counted together.
     failing_call: u64,
-    /// The read of the input that fails.
+    /// The read of the input that fails, counted from 1, or 0.
     failing_read: u64,
-    /// The write of standard output that fails.
+    /// The write of standard output that fails, counted from 1, or 0.
     failing_write: u64,
-    /// The write of standard error that fails. Each has at most 7 bytes.
+    /// The write of standard error that fails, counted from 1, or 0. Each write has at most 7 bytes.
     failing_line: u64,
 }
 
@@ -68,7 +68,7 @@ const PLAIN: Setup<'static> = Setup {
     failing_line: 0,
 };
 
-/// What a run leaves: its status, what it wrote, and the bytes of the file `out`.
+/// How a run ended: its status, what it wrote, and the bytes of the file `out`.
 #[derive(Drop)]
 struct Ended {
     status: u8,
@@ -78,18 +78,18 @@ struct Ended {
 }
 
 impl Ended {
-    /// Whether a run ended with that status and that line on standard error.
+    /// Whether the run ended with this status and this line on standard error.
     fn says(&self, status: u8, line: &str) -> bool {
         self.status == status && self.errors.as_slice() == line.as_bytes()
     }
 
-    /// Whether it ended so, and wrote nothing to standard output.
+    /// Whether the run ended with this status and this line on standard error, and wrote nothing to standard output.
     fn refuses(&self, status: u8, line: &str) -> bool {
         self.says(status, line) && self.output.is_empty()
     }
 }
 
-/// Files and streams of a run.
+/// The files and streams of a run.
 #[derive(Drop)]
 struct Stage {
     host: FilesAndStreams<MemFiles, MemSource, MemSink, MemSink>,
@@ -110,13 +110,13 @@ impl Stage {
         Ok(Stage { host })
     }
 
-    /// The status of these words.
+    /// Runs the program with these words, and answers the status.
     fn run(&mut self, alloc: Global, words: &[&str]) -> Result<u8, AllocError> {
         let line = line_of(alloc, words)?;
         Ok(run(alloc, &line, &mut self.host))
     }
 
-    /// What is left where that is the status.
+    /// How the run ended, which had this status.
     fn left(&self, alloc: Global, status: u8) -> Result<Ended, AllocError> {
         Ok(Ended {
             status,
@@ -132,7 +132,7 @@ impl Stage {
     }
 }
 
-/// A file of that name with these bytes.
+/// A file of this name with these bytes.
 fn file_of(alloc: Global, name: &str, bytes: &[u8]) -> Result<NamedFile, AllocError> {
     Ok(NamedFile {
         name: String::from_str(alloc, name)?,
@@ -150,14 +150,14 @@ fn files_of(alloc: Global, setup: Setup<'_>) -> Result<MemFiles, AllocError> {
     MemFiles::new(alloc, files, "out", setup.room, setup.part.most(), failing)
 }
 
-/// A sink with that room, which takes so many bytes at a time, and of which that write fails.
+/// A sink for at most `room` bytes, which takes at most `most` bytes in one write. The write with the number `failing` fails.
 fn sink(alloc: Global, room: usize, most: usize, failing: u64) -> Result<MemSink, AllocError>
     requires { 1 ≤ most }
 {
     MemSink::new(alloc, room, most, [failing].to_vec(alloc)?)
 }
 
-/// A command line.
+/// The command line of these words.
 fn line_of(alloc: Global, words: &[&str]) -> Result<Vec<String>, AllocError> {
     let mut line = Vec::new(alloc);
     for word in words {
@@ -166,14 +166,14 @@ fn line_of(alloc: Global, words: &[&str]) -> Result<Vec<String>, AllocError> {
     Ok(line)
 }
 
-/// What a run of these words leaves.
+/// How a run of these words ends.
 fn outcome(alloc: Global, setup: Setup<'_>, words: &[&str]) -> Result<Ended, AllocError> {
     let mut stage = Stage::new(alloc, setup)?;
     let status = stage.run(alloc, words)?;
     stage.left(alloc, status)
 }
 
-/// The bytes that a tool writes to standard output for an input, or nothing where it is refused.
+/// The bytes that a tool writes to standard output for an input, or nothing if it refuses that.
 fn made(alloc: Global, words: &[&str], input: &[u8]) -> Result<Vec<u8>, AllocError> {
     let Ended { output, .. } = outcome(alloc, Setup { input, ..PLAIN }, words)?;
     Ok(output)

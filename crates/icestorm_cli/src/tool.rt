@@ -13,11 +13,11 @@ pub enum Tool {
     Icemulti,
     /// A boot file to its images.
     Icesplit,
-    /// Other contents of RAMs in a text.
+    /// A text to one with other contents of its RAMs.
     Icebram,
-    /// Bits explained.
+    /// What the set bits of an image mean.
     IceboxExplain,
-    /// What an image uses, counted.
+    /// Counts of what an image uses.
     IceboxStat,
     /// The module of an image.
     IceboxVlog,
@@ -25,7 +25,7 @@ pub enum Tool {
     Vlogrun,
     /// Runs of a module over several lists of events.
     Vlogsweep,
-    /// A design that a number makes, taken through the others.
+    /// A design that is made from a number, taken through the others.
     Selfrun,
 }
 
@@ -62,7 +62,7 @@ Exit status: 0 done; 1 the input is refused; 2 the command line isn't taken;
 its limit. With each but 0 one line on standard error tells why.
 ";
 
-/// The tool that the arguments name.
+/// The tool that the arguments name by their first word, if they name one.
 pub fn tool_of(args: &[String]) -> Option<Tool>
     ensures { result ≡ tool_of (map string_bytes args.now) }
 {
@@ -72,7 +72,7 @@ pub fn tool_of(args: &[String]) -> Option<Tool>
     }
 }
 
-// The tool that a word names.
+// The tool that a word names, if it names one.
 #[tactic(auto, unfolding(crate::specs::Tools::tool_named))]
 fn tool_named(word: &str) -> Option<Tool>
     ensures { result ≡ tool_named word.now }

@@ -58,7 +58,7 @@ same-answer request one other first second =
 
 -- ---- what the parts give
 
--- what is told where there is a design
+-- what is told if there is a design
 pub counted-answer : (request : Request) (db : Database) (answer : Answer) → design_fault luts.All db (image_for request) ≡ None
     → ((events : List Event) → ExactlyOne (IsRun (fabric_of db (image_for request)) events))
     → ((entries : List Entry) → IsRun (fabric_of db (image_for request)) (run_events request db) entries → IsCounted request db answer)

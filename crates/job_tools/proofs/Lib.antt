@@ -6,7 +6,7 @@ mod SameCounts
 mod PinEvents
 -- an image is explained by a database for its device, and a design has such a database
 mod Devices
--- the run of a design's module is that of its fabric
+-- the run of a design's module is the run of its fabric
 mod Ran
 -- what is counted while a module runs
 mod Runs

@@ -11,7 +11,7 @@ use Rattle.net_extract.specs.Steps.{Event}
 use Rattle.fabric_module.specs.Matching.{module_event}
 use Rattle.job_tools.specs.Counted.{event_at, event_for, events_for, is_pin_of}
 
--- one event more
+-- one more event
 pub events-more : (inputs : List Pin) (made : List PinEvent) (i : ℕ) (d : PinEvent) → i < length made
     → map module_event (events_for inputs (take (i + 1) made)) ≡ map module_event (events_for inputs (take i made)) ++ map module_event (event_for inputs (get_or made i d))
 unfolding events_for

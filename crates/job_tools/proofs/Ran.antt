@@ -1,4 +1,4 @@
--- The run of a design's module is that of its fabric.
+-- The run of a design's module is the run of its fabric.
 use Rattle.std.proofs.Common.{◌≡◌, ℕ, ◌<◌, Bool, false, List, length, map, sym, ap, ◌∙◌, subst}
 use Rattle.std.specs.Prelude.{All, filter, flat_map, not}
 use Rattle.std.proofs.lemmas.List.{length-map}

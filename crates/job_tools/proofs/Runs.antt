@@ -22,7 +22,7 @@ ones-append [] more = omega arith
 ones-append (true ∷ bits) more = omega (arith, ones-append bits more)
 ones-append (false ∷ bits) more = ones-append bits more
 
--- ---- one event more
+-- ---- one more event
 
 pub bits-more : (m : Parts) (entry : ModuleEntry) (events : List ModuleEvent) (i : ℕ) (d : ModuleEvent) → i < length events
     → module_bits (run_from m entry (take (i + 1) events)) ≡ module_bits (run_from m entry (take i events)) ++ values_of (followed m (last_entry m entry (take i events)) (get_or events i d)).outputs
@@ -34,7 +34,7 @@ bits-more m entry events i d within =
 
 -- ---- the fabric's run
 
--- the outputs of a module that matches a fabric are those of the fabric
+-- a module that matches a fabric has the outputs of the fabric
 pub bits-alike : (fabric : Fabric) (entries : List Entry) (others : List ModuleEntry) → AllZip (Matches fabric) entries others → module_bits others ≡ output_bits entries
 bits-alike fabric [] [] all = refl
 bits-alike fabric [] (other ∷ others) all = absurd all

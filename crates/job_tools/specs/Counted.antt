@@ -1,4 +1,4 @@
--- What is counted of a generated design and of its run.
+-- The counts of a generated design and of its run, and their text.
 use Rattle.std.specs.Prelude.{ℕ, ◌+◌, Bool, ◌&&◌, ◌==◌, List, [], ◌∷◌, ◌++◌, length, filter, flat_map, position, codes, decimal, if◌then◌else◌, Option, None, Some}
 use Rattle.text_lines.specs.Lines.{lines_of}
 use Rattle.text_lines.specs.Written.{text_of}
@@ -23,15 +23,15 @@ use Rattle.job_tools.specs.declared.counts.Counts.{Counts}
 
 -- ---- events
 
--- the row of the tile, on the left edge, whose first pin gets a bit
+-- the row of the tile, on the left edge, whose first pin gets the bit
 abbrev pub pin_row : PinEvent → ℕ
 pin_row event = if event.second then 2 else 1
 
--- whether a pin is the one that gets a bit: `io_0_2_0`, or `io_0_1_0`
+-- whether a pin is the one that gets the bit: `io_0_2_0`, or `io_0_1_0`
 abbrev pub is_pin_of : PinEvent → Pin → Bool
 is_pin_of event pin = (pin.x == 0) && ((pin.y == pin_row event) && (pin.n == 0))
 
--- the event of a pin that has a place among the input pins
+-- the event of a pin by its index among the input pins; none if it isn't one of them
 abbrev pub event_at : Bool → Option ℕ → List Event
 event_at bit None = []
 event_at bit (Some place) = record { pin = place; bit = bit } ∷ []
@@ -39,7 +39,7 @@ event_at bit (Some place) = record { pin = place; bit = bit } ∷ []
 abbrev pub event_for : List Pin → PinEvent → List Event
 event_for inputs event = event_at event.bit (position (is_pin_of event) inputs)
 
--- the events whose pin is among the input pins
+-- the events whose pin is among the input pins; the others are left out
 unfoldable pub events_for : List Pin → List PinEvent → List Event
 events_for inputs events = flat_map (event_for inputs) events
 
@@ -53,7 +53,7 @@ ones_in bits = length (filter (λ bit. bit) bits)
 abbrev pub output_bits : List Entry → List Bool
 output_bits entries = flat_map (λ entry. entry.outputs) entries
 
--- what is counted of a database, an image whose LUTs read these inputs, events and the entries of their run
+-- the counts of a database, an image whose LUTs read these inputs, events and the entries of their run
 unfoldable pub counts_with : LutInputs → Database → Configuration → List Event → List Entry → Counts
 counts_with inputs db image events entries = record {
   bin = length (canonical_bytes image);
@@ -66,7 +66,7 @@ counts_with inputs db image events entries = record {
   ones = ones_in (output_bits entries);
 }
 
--- the same where LUTs read all of their inputs
+-- the counts if LUTs read all of their inputs
 abbrev pub counts_of : Database → Configuration → List Event → List Entry → Counts
 counts_of db image events entries = counts_with read.All db image events entries
 
@@ -76,7 +76,7 @@ counts_of db image events entries = counts_with read.All db image events entries
 abbrev pub number_line : List ℕ → ℕ → List ℕ
 number_line word number = with_word word (decimal number)
 
--- of the design
+-- the lines of the design
 abbrev pub design_lines : DeviceName → Counts → List (List ℕ)
 design_lines device counts =
     with_word (codes "device") (device_word device)
@@ -87,7 +87,7 @@ design_lines device counts =
     ∷ number_line (codes "wires") counts.wires
     ∷ []
 
--- of its run, which has a line at the start and one after each event
+-- the lines of its run, which has a line at the start and one after each event
 abbrev pub run_lines : Counts → List (List ℕ)
 run_lines counts =
     number_line (codes "events") counts.events
@@ -96,6 +96,6 @@ run_lines counts =
     ∷ number_line (codes "ones") counts.ones
     ∷ []
 
--- all ten
+-- all ten lines
 unfoldable pub counts_text : DeviceName → Counts → List ℕ
 counts_text device counts = text_of (design_lines device counts ++ run_lines counts)

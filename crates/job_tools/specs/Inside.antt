@@ -20,16 +20,16 @@ use Rattle.job_tools.specs.Counted.{events_for, ones_in, output_bits}
 abbrev pub module_bits : List ModuleEntry → List Bool
 module_bits entries = flat_map (λ entry. values_of entry.outputs) entries
 
--- the events of a fabric by those that were made
+-- the events of a fabric, from those that were made
 abbrev pub fabric_events : Database → Configuration → List PinEvent → List Event
 fabric_events db image made = events_for (inputs_of (fabric_of db image)) made
 
--- what is counted of a run is that of the run of the fabric
+-- what was counted of a run are the counts of the run of the fabric
 pub record HasRun (db : Database) (image : Configuration) (made : List PinEvent) (ran : Ran) : Type 0 where
   pub events : ran.events ≡ length (fabric_events db image made)
   pub ones : (entries : List Entry) → IsRun (fabric_of db image) (fabric_events db image made) entries → ran.ones ≡ ones_in (output_bits entries)
 
--- the same for each database and image that a design is of
+-- what was counted of a run, for each database and image that the design is of
 abbrev pub IsRunOf : Kept → List PinEvent → Ran → Type 0
 IsRunOf design made ran = (db : Database) (image : Configuration) → IsDesignOf db image design → HasRun db image made ran
 

@@ -1,4 +1,4 @@
--- `selfrun`: a design that a number makes, from its text and its image to its run.
+-- `selfrun`: makes a design from a number, and takes it from its database and its image to its run.
 use Rattle.std.specs.Prelude.{◌≡◌, ℕ, ◌^◌, ◌&&◌, List, [], ◌∷◌, length, codes, nat_lt, nat_le, if◌then◌else◌, Option, None, Some, Result, Ok, Err}
 use Rattle.std.specs.List.{list_all}
 use Rattle.std.specs.Char.{is_ascii_digit}
@@ -29,7 +29,7 @@ use Rattle.job_tools.specs.Counted.{counts_of, counts_text, events_for}
 abbrev pub image_for : Request → Configuration
 image_for request = generated_image request.device request.seed
 
--- the events of the generated design, by a database for it
+-- the events of the generated design that a run has, by the database of the device
 abbrev pub run_events : Request → Database → List Event
 run_events request db = events_for (inputs_of (fabric_of db (image_for request))) (generated_events request.seed request.events)
 
@@ -39,17 +39,17 @@ pub record IsCounted (request : Request) (db : Database) (answer : Answer) : Typ
   pub run : IsRun (fabric_of db (image_for request)) (run_events request db) entries
   pub answer_is : answer ≡ Done (counts_text request.device (counts_of db (image_for request) (run_events request db) entries))
 
--- a fault of the design is told
+-- the counts, or the message for the fault of the design
 abbrev pub IsAnswerWith : Request → Database → Option Fault → Answer → Type 0
 IsAnswerWith request db None answer = IsCounted request db answer
 IsAnswerWith request db (Some fault) answer = answer ≡ Refused (design_fault_text fault)
 
--- a fault of the text goes first
+-- a fault of the database goes before one of the design
 abbrev pub IsAnswerBy : Request → Result Database (List ℕ) → Answer → Type 0
 IsAnswerBy request (Err text) answer = answer ≡ Refused text
 IsAnswerBy request (Ok db) answer = IsAnswerWith request db (design_fault read.All db (image_for request)) answer
 
--- whether an answer is that of a request
+-- whether this is the answer to a request
 abbrev pub IsAnswer : Request → Answer → Type 0
 IsAnswer request answer = IsAnswerBy request (database_read (generated_database request.device)) answer
 
@@ -79,11 +79,11 @@ abbrev pub within_limit : Option ℕ → Option ℕ
 within_limit None = None
 within_limit (Some count) = if nat_le count events_limit then Some count else None
 
--- how many events: a decimal number up to the limit
+-- how many events: a decimal number up to the greatest
 abbrev pub events_count : Text → Option ℕ
 events_count word = within_limit (number_of word)
 
--- a part of the arguments, where it is there
+-- a part of the arguments, if its word is there
 abbrev pub given : {A : Type 0} → (Text → Option A) → Option Text → Option A
 given part None = None
 given part (Some word) = part word
@@ -99,7 +99,7 @@ request_by rows =
     request_with (given database_device_named (first_of (codes "device") rows)) (given seed_of (first_of (codes "seed") rows))
     (given events_count (first_of (codes "events") rows))
 
--- what the arguments of `selfrun` ask for, where they are taken
+-- what the arguments of `selfrun` ask for, if they are taken
 unfoldable pub selfrun_request : List Text → Option Request
 selfrun_request args = if is_taken selfrun_command args then request_by (matches_of selfrun_command args) else None
 
@@ -110,10 +110,10 @@ abbrev pub IsAnswerFor : Option Request → Answer → Type 0
 IsAnswerFor (Some request) answer = IsAnswer request answer
 IsAnswerFor None answer = answer ≡ UsageError (usage_text selfrun_usage)
 
--- whether an answer is that of the arguments of `selfrun`
+-- whether this is the answer to the arguments of `selfrun`
 abbrev pub IsSelfrunAnswer : List Text → Answer → Type 0
 IsSelfrunAnswer args answer = IsAnswerFor (selfrun_request args) answer
 
--- what arguments ask for, by their answer: their help goes before it
+-- what arguments ask for, by the answer to them: if they ask for help, the help comes in its place
 abbrev pub selfrun_outcome : List Text → Answer → Task
 selfrun_outcome args answer = helped selfrun_name SELFRUN_HELP.now args (at_once selfrun_name None answer)

@@ -1,4 +1,4 @@
-// What is counted of the parts of a design.
+// Counts the parts of a design and of its run.
 ghost use Rattle.std.specs.Prelude.{◌≡◌, ◌<◌, ◌≤◌, ◌^◌, All, IfOk, None, Ok, codes, length, map};
 ghost use Rattle.layout_file.specs.Layouts.{HasLayout, standard_layouts};
 ghost use Rattle.ice_image.specs.Configuration.{Configuration};
@@ -36,7 +36,7 @@ use vlog_text::{Module, from_own_text};
 #[derive(Drop)]
 pub(crate) struct Packed {
     pub(crate) image: AnyImage,
-    /// How many bytes the bitstream had.
+    /// How many bytes its bitstream had.
     pub(crate) bytes: usize,
 }
 
@@ -49,7 +49,7 @@ fn encoded(alloc: Global, image: &AnyImage) -> Result<Vec<u8>, AllocError>
     encode(alloc, image)
 }
 
-/// Packs an image of the standard layout and unpacks the bitstream.
+/// Packs an image of the standard layout, and unpacks the bitstream again.
 pub(crate) fn pack(alloc: Global, image: &AnyImage) -> Result<Packed, AllocError>
     requires { HasLayout standard_layouts (configuration_of image.now).layout }
     ensures image { IfOk result (λ packed. configuration_of packed.image ≡ configuration_of image.now) }
@@ -98,7 +98,7 @@ pub(crate) fn explained_lines(
     }
 }
 
-/// The module of a design, printed and parsed.
+/// The module of a design, after it was printed and parsed again.
 #[tactic(auto, unfolding(vlog_module::specs::Names::is_name, vlog_module::specs::Names::reserved_words))]
 fn module_of(alloc: Global, design: &Design) -> Result<Module, AllocError>
     ensures made { IfOk result (λ made. (db : Database) (image : Configuration) → IsDesignOf db image design.now → made ≡ module_of (fabric_with design.now.parts.lut_inputs db image) design.now.order (codes "selfrun")) }
@@ -116,7 +116,7 @@ fn ones_in(bits: &[bool]) -> u128
     bits.iter().filter(|bit| **bit).count() as u128
 }
 
-/// How many bits of outputs are 1, at the start of a module and after each event.
+/// How many output bits are 1 in a run of a module, counted at the start and after each event.
 fn ones_of(alloc: Global, module: &Module, events: &[Event]) -> Result<u128, AllocError>
     requires { All (λ event. event.pin < length (input_names «module».now.ports)) events.now }
     ensures { IfOk result (λ ones. ones ≡ ones_in (module_bits (module_run «module».now events.now))) }
@@ -135,7 +135,7 @@ fn ones_of(alloc: Global, module: &Module, events: &[Event]) -> Result<u128, All
 pub(crate) struct Ran {
     /// How many events were run.
     pub(crate) events: usize,
-    /// How many bits of outputs were 1, at the start and after each event.
+    /// How many output bits were 1, counted at the start and after each event.
     pub(crate) ones: u128,
 }
 

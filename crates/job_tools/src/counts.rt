@@ -1,4 +1,4 @@
-// What is told of a generated design.
+// The text of the counts of a generated design.
 ghost use Rattle.std.specs.Prelude.{◌≡◌, ◌<◌, ◌^◌, ◌++◌, ◌∷◌, [], OnOk, IfOk, codes, decimal};
 ghost use Rattle.text_lines.specs.Written.{text_of};
 ghost use Rattle.asc_text.specs.Canonical.{with_word};
@@ -26,7 +26,7 @@ pub(crate) struct Counts {
     pub(crate) events: usize,
     /// The lines that explain the image.
     pub(crate) explained: usize,
-    /// The output bits that are 1 at the start and after each event.
+    /// The output bits that are 1, counted at the start and after each event.
     pub(crate) ones: u128,
 }
 

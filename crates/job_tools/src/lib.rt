@@ -1,7 +1,7 @@
 //! The tool that tries itself: `selfrun`.
 //!
-//! It makes a chip database, an image and events from a number, takes them through all other parts, and tells ten numbers of them.
-//! The function that runs it has two clauses: the arguments have exactly one answer, and a run gives that.
+//! It makes a chip database, an image and events from a number, takes them through all other parts, and writes ten lines with what it
+//! counted. The function that runs it has two clauses: the arguments have exactly one answer, and a run gives that answer.
 #![tactic(auto)]
 
 mod counting;

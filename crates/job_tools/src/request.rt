@@ -63,7 +63,7 @@ pub(crate) struct Request {
     pub(crate) events: u32,
 }
 
-// The device that a word names, where it has a database.
+// The device that a word names, if there are databases of it.
 fn device_named(word: &str) -> Option<DeviceName>
     ensures { result ≡ database_device_named word.now }
 {
@@ -97,7 +97,7 @@ fn digits_value(digits: &[u8]) -> u128
     value
 }
 
-// The seed that a word writes.
+// The seed that a word writes, if it writes one.
 #[tactic(auto, unfolding(crate::specs::Selfrun::seed_of))]
 fn seed_of(word: &[u8]) -> Option<u64>
     ensures { result ≡ seed_of word.now }
@@ -111,7 +111,7 @@ fn seed_of(word: &[u8]) -> Option<u64>
     None
 }
 
-// How many events a word asks for.
+// How many events a word asks for, if it writes a number within the limit.
 fn events_count(word: &[u8]) -> Option<u32>
     ensures { result ≡ events_count word.now }
 {
@@ -121,7 +121,7 @@ fn events_count(word: &[u8]) -> Option<u32>
     }
 }
 
-// The device, where there is a word for it that names one with a database.
+// The device, if its word is there and names one with databases.
 fn device_given(word: Option<&str>) -> Option<DeviceName>
     ensures { result ≡ given database_device_named (text_of word.entry) }
 {
@@ -131,7 +131,7 @@ fn device_given(word: Option<&str>) -> Option<DeviceName>
     }
 }
 
-// The seed, where there is a word for it that writes one.
+// The seed, if its word is there and writes one.
 fn seed_given(word: Option<&str>) -> Option<u64>
     ensures { result ≡ given seed_of (text_of word.entry) }
 {
@@ -141,7 +141,7 @@ fn seed_given(word: Option<&str>) -> Option<u64>
     }
 }
 
-// How many events, where there is a word for it that writes a number within the limit.
+// How many events, if their word is there and writes a number within the limit.
 fn events_given(word: Option<&str>) -> Option<u32>
     ensures { result ≡ given events_count (text_of word.entry) }
 {
@@ -151,7 +151,7 @@ fn events_given(word: Option<&str>) -> Option<u32>
     }
 }
 
-// What the arguments ask for by what was found in them: all three have to be there.
+// The request, from what was found in the arguments: all three must be there.
 fn wanted(device: Option<DeviceName>, seed: Option<u64>, events: Option<u32>) -> Option<Request>
     ensures { result ≡ request_with device seed events }
 {
@@ -175,7 +175,7 @@ fn command<'a>(alloc: Global) -> Result<Command<'a>, AllocError>
     with(command, positional(alloc, "events"))
 }
 
-// What the arguments ask for, where they are taken.
+// The request of the arguments, or `None` if they aren't taken.
 #[tactic(auto, unfolding(crate::specs::Selfrun::selfrun_request))]
 pub(crate) fn request_of(alloc: Global, args: &[String]) -> Result<Option<Request>, AllocError>
     ensures { IfOk result (λ request. request ≡ selfrun_request (map string_bytes args.entry.now)) }

@@ -1,4 +1,4 @@
-// `selfrun`: a design that a number makes, through all parts.
+// `selfrun`: makes a design from a number, and takes it through all parts.
 ghost use Rattle.std.specs.Prelude.{◌≡◌, true, List, None, IfOk, IfErr, length, map, string_bytes};
 ghost use Rattle.plane_map.specs.Devices.{has_database};
 ghost use Rattle.ice_image.specs.Either.{configuration_of};
@@ -29,7 +29,7 @@ use std::alloc::{AllocError, Global};
 use tool_parts::read_database;
 use tool_run::{AtOnce, Host, Job, Stop, Tool, asks_for_help};
 
-/// Tells a text that was made.
+/// A tool that loads nothing and answers with a text that was made before.
 #[derive(Clone, Copy, Debug, PartialEq, Eq)]
 pub(crate) struct Telling<'a> {
     pub(crate) text: &'a [u8],
@@ -47,7 +47,7 @@ impl<'a> Tool for Telling<'a> {
     }
 }
 
-// What is counted of a design and of its run.
+// The counts of a design and of its run.
 fn counted(
     alloc: Global,
     request: Request,
@@ -75,7 +75,7 @@ fn counted(
     })
 }
 
-// What is told of a design.
+// The text for a design.
 fn design_text(
     alloc: Global,
     request: Request,
@@ -93,7 +93,7 @@ fn design_text(
     text_of(alloc, request.device, &counts)
 }
 
-// What is told of a database and an image that was packed.
+// The text for a database and an image that was packed, or why there is none.
 fn told_by(
     alloc: Global,
     request: Request,
@@ -111,7 +111,7 @@ fn told_by(
     }
 }
 
-// What is told of a database and an image.
+// The text for a database and an image, or why there is none.
 fn told_of(
     alloc: Global,
     request: Request,
@@ -126,7 +126,7 @@ fn told_of(
     told_by(alloc, request, db, &packed)
 }
 
-// What is told of the text of a database and an image.
+// The text for the text of a database and an image, or why there is none.
 #[tactic(auto, using(crate::proofs::Answer::database_stops))]
 fn told_from(
     alloc: Global,
@@ -142,7 +142,7 @@ fn told_from(
     told_of(alloc, request, &db, image)
 }
 
-// What is told of a request.
+// The text for a request, or why there is none.
 fn told(alloc: Global, request: Request) -> Result<Vec<u8>, Stop<'static>>
     requires { has_database request.device ≡ true }
     ensures bytes { IfOk result (λ bytes. IsAnswer request (Done bytes.items)) }
@@ -153,7 +153,7 @@ fn told(alloc: Global, request: Request) -> Result<Vec<u8>, Stop<'static>>
     told_from(alloc, request, &text, &image)
 }
 
-// Tells what is made of a request.
+// Does a request.
 fn tell<H: Host>(alloc: Global, request: Request, host: &mut H) -> u8
     requires { has_database request.device ≡ true }
     ensures { (answer : Answer) → IsAnswer request answer
@@ -179,7 +179,7 @@ fn tell<H: Host>(alloc: Global, request: Request, host: &mut H) -> u8
     }
 }
 
-// Does what the arguments ask for.
+// Does what the arguments ask for, or answers the usage error if they aren't taken.
 fn do_args<H: Host>(alloc: Global, args: &[String], host: &mut H) -> u8
     ensures { (answer : Answer) → IsSelfrunAnswer (map string_bytes args.now) answer
         → Does H.outside (at_once selfrun_name None answer) result (H.scene host.old) (H.scene host.new) }
@@ -195,7 +195,7 @@ fn do_args<H: Host>(alloc: Global, args: &[String], host: &mut H) -> u8
     }
 }
 
-/// Runs `selfrun` with these arguments, of which the first is its name.
+/// Runs `selfrun` with these arguments, the first of which is its name, and answers the exit status.
 pub fn run_selfrun<H: Host>(alloc: Global, args: &[String], host: &mut H) -> u8
     ensures one_answer { ExactlyOne (IsSelfrunAnswer (map string_bytes args.now)) }
     ensures does { (answer : Answer) → IsSelfrunAnswer (map string_bytes args.now) answer

@@ -17,7 +17,7 @@ use Rattle.layout_file.specs.Faults.{cause_if, count_of, numbers_cause}
 use Rattle.layout_file.specs.inside.Reading.{has_numbers, numbers_refusal}
 use Rattle.layout_file.proofs.ReadWidths.{width-within}
 
--- where there is no cause its test fails
+-- if there is no cause its test fails
 pub no-cause : (test : Bool) (cause : LayoutCause) → cause_if test cause ≡ None → test ≡ false
 no-cause true cause none = absurd cc
 no-cause false cause none = refl

@@ -17,7 +17,7 @@ layout-by layout K8 = refl
 pub are-layouts : (layout : DeviceName → Layout) → ((device : DeviceName) → (layout device).device ≡ device) → AreLayouts (layouts_by layout)
 are-layouts layout own device = ap (λ (l : Layout). l.device) (layout-by layout device) ∙ own device
 
--- the layouts where no others are given
+-- the layouts that hold if no others are given
 pub standard-are : AreLayouts standard_layouts
 standard-are = are-layouts standard_layout (λ device. refl)
 

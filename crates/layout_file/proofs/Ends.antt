@@ -28,7 +28,7 @@ cause-is : (lines : List (List ℕ)) (k : ℕ) (line : List ℕ) (reader : Reade
 cause-is lines k line reader at read =
     rw (at, read) (sym (refusal-is lines k (line_of line)))
 
--- the reader behind a line that it took
+-- the reader after a line that it took
 pub read-next : (lines : List (List ℕ)) (k : ℕ) (line : List ℕ) (reader next : Reader) → line_at lines k ≡ line → reader ≡ reader_before lines k
     → refusal reader (line_of line) ≡ None → next ≡ taken reader (line_of line) → next ≡ reader_before lines (k + 1)
 read-next lines k line reader next at read none takes =
@@ -67,7 +67,7 @@ refused text k line reader fault within at read fit told =
     first-stays (length (lines_of text)) k (fault_at (lines_of text)) fault within fit
     (ap (fault_with (k + 1)) (cause-is (lines_of text) k line reader at read) ∙ told)
 
--- where all lines were taken there is none
+-- if all lines were taken there is no fault
 pub accepted : (text : List ℕ) (k : ℕ) → k ≡ length (lines_of text) → first_below k (fault_at (lines_of text)) ≡ None → layout_fault_of text ≡ None
 unfolding layout_fault_of
 accepted text k all fit = subst (λ n. first_below n (fault_at (lines_of text)) ≡ None) all fit

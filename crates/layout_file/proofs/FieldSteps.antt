@@ -1,4 +1,4 @@
--- What the reader keeps behind a line.
+-- What the reader keeps after a line.
 use Rattle.std.proofs.Common.{◌≡◌, ℕ, suc, Bool, true, false, List, refl, sym, ap, ◌∙◌}
 use Rattle.std.specs.Prelude.{Option, Some, None, is_some, not, length, ◌==◌}
 use Rattle.shared_lemmas.proofs.Options.{none_from_is_some}
@@ -49,7 +49,7 @@ numbers-first lines n device field numbers said here none =
     let given : numbers_given lines device field n ≡ Some numbers = rw (here, said, is-same field) refl in
     rw (none, given) refl
 
--- a part behind it
+-- a part after it
 part-numbers : (lines : List (List ℕ)) (n : ℕ) (device : DeviceName) (field : Numbers) (numbers : List ℕ)
     → said_at lines n ≡ List_of field numbers → is_device device (section_before lines n) ≡ true → numbers_before lines n device field ≡ None
     → part_before lines (suc n) device ≡ with_numbers (part_before lines n device) field numbers
@@ -223,7 +223,7 @@ step-nothing lines n line said numbers flags section device =
     (λ d. part-kept lines n d (nothing-without lines n d line said numbers flags) (none d))
     (current-kept lines n (ap is_section said ∙ section))
 
--- the section of a line behind a beginning
+-- the section of a line after a beginning
 current-begun : (lines : List (List ℕ)) (n : ℕ) (word : List ℕ) → said_at lines n ≡ Section word → section_before lines (suc n) ≡ device_named word
 unfolding section_before last_below
 current-begun lines n word said = rw said (rw said refl)
@@ -290,7 +290,7 @@ step-flag lines n (Some device) field value said current none =
     (λ other differs. part-kept lines n other (nothing-elsewhere lines n other (ap (is_device other) current ∙ differs)) (rw said refl))
     (current-kept lines n (ap is_section said))
 
--- what the reader keeps behind a line that isn't faulty
+-- what the reader keeps after a line that isn't faulty
 pub reader-next : (lines : List (List ℕ)) (n : ℕ) (line : Line) → said_at lines n ≡ line → cause_of lines n line ≡ None
     → reader_before lines (suc n) ≡ taken (reader_before lines n) line
 reader-next lines n Passed said none = step-nothing lines n Passed said (λ field. refl) (λ field. refl) refl refl

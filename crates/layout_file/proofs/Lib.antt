@@ -4,7 +4,7 @@ pub mod AcceptedNumbers
 pub mod ByDevice
 -- the lines of a text, read one after the other, and the first that is faulty
 pub mod Ends
--- what the reader keeps behind a line
+-- what the reader keeps after a line
 pub mod FieldSteps
 -- what the reader keeps is what the lines before the next one give
 pub mod LineSteps

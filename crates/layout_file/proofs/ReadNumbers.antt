@@ -6,17 +6,17 @@ use Rattle.text_lines.specs.declared.words.Separators.TheVariants.{Spaces}
 use Rattle.text_lines.specs.Words.{numbers_of, number_of, words_of, with_number}
 use Rattle.layout_file.specs.inside.Reading.{is_long}
 
--- first numbers, and those that come behind them, where each is one
+-- first numbers, and the numbers after them, if each word is one
 abbrev pub after : List ℕ → Option (List ℕ) → Option (List ℕ)
 after first None = None
 after first (Some numbers) = Some (first ++ numbers)
 
--- behind no numbers
+-- after no numbers
 pub after-nothing : (rest : Option (List ℕ)) → rest ≡ after [] rest
 after-nothing None = refl
 after-nothing (Some numbers) = refl
 
--- behind one more
+-- after one more
 after-next : (first : List ℕ) (value : ℕ) (rest : Option (List ℕ)) → after first (with_number (Some value) rest) ≡ after (first ++ value ∷ []) rest
 after-next first value None = refl
 after-next first value (Some numbers) = ap (λ (l : List ℕ). Some l) (sym (append_assoc first (value ∷ []) numbers))
@@ -43,7 +43,7 @@ pub numbers-stopped : (all : Option (List ℕ)) (first word left behind : List �
 unfolding numbers_of
 numbers-stopped all first word left behind is cut none = rw (is, cut, ← none) refl
 
--- a number stands behind 18 others
+-- a number stands after 18 others
 pub numbers-many : (all : Option (List ℕ)) (first word left behind : List ℕ) (value : ℕ)
     → all ≡ after first (numbers_of (words_of Spaces left))
     → words_of Spaces left ≡ word ∷ words_of Spaces behind → Some value ≡ number_of word → nat_le 18 (length first) ≡ true

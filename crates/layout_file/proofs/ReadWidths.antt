@@ -10,7 +10,7 @@ unfolding start_in
 start_in-nothing widths zero none = refl
 start_in-nothing widths (suc columns) none = absurd (omega arith)
 
--- behind another column of tiles
+-- after another column of tiles
 pub start_in-last : (widths : List ℕ) (columns last : ℕ) → columns ≡ last + 1 → start_in widths columns ≡ start_in widths last + slice_index widths last
 unfolding start_in
 start_in-last widths zero last is = absurd (omega arith)

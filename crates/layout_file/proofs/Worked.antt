@@ -55,7 +55,7 @@ field_twice : layout_fault_of (codes ".layout 1k\nflip no\n.layout 8k\nflip no\n
 unfolding layout_fault_of lines_of line_of without_blanks trimmed words_of pieces_of numbers_of number_of section_before has_section numbers_before flag_before any_below first_below last_below start_in
 field_twice = refl
 
--- as many widths as the other device has
+-- the number of widths is right for the other device only
 other_count : layout_fault_of (codes ".layout 8k\nwidths 18 54 54 42 54 54 54\n") ≡ fault 2 Statement
 unfolding layout_fault_of lines_of line_of without_blanks trimmed words_of pieces_of numbers_of number_of section_before has_section numbers_before flag_before any_below first_below last_below start_in
 other_count = refl
@@ -77,7 +77,7 @@ small_twice : layout_fault_of (codes ".layout 384\n.layout 1k\n.layout 384\n") �
 unfolding layout_fault_of lines_of line_of without_blanks trimmed words_of pieces_of numbers_of number_of section_before has_section numbers_before flag_before any_below first_below last_below start_in
 small_twice = refl
 
--- lines with `#` and lines without a word are passed over, and count
+-- lines with `#` and lines without a word are skipped, and count
 passed_over : layout_fault_of (codes "# a\n \t\n\n.layout 1k\n#\nbanks\n") ≡ fault 6 Statement
 unfolding layout_fault_of lines_of line_of without_blanks trimmed words_of pieces_of numbers_of number_of section_before has_section numbers_before flag_before any_below first_below last_below start_in
 passed_over = refl
@@ -92,7 +92,7 @@ tab_between : layout_fault_of (codes ".layout 1k\nflip\tno\n") ≡ fault 2 State
 unfolding layout_fault_of lines_of line_of without_blanks trimmed words_of pieces_of numbers_of number_of section_before has_section numbers_before flag_before any_below first_below last_below start_in
 tab_between = refl
 
--- of two causes the first is told
+-- of two causes the first is reported
 least_cause : layout_fault_of (codes ".layout 1k\nbanks 0 1 2 3\nbanks 0 0 0 0\n") ≡ fault 3 Repeated
 unfolding layout_fault_of lines_of line_of without_blanks trimmed words_of pieces_of numbers_of number_of section_before has_section numbers_before flag_before any_below first_below last_below start_in
 least_cause = refl

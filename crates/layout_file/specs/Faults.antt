@@ -31,16 +31,16 @@ abbrev pub device_in : Line → Option DeviceName
 device_in (Section word) = device_named word
 device_in line = None
 
--- the same of the line of an index, where there is one
+-- the device of the section that the line of an index begins, if there is an index
 abbrev pub device_at : List (List ℕ) → Option ℕ → Option DeviceName
 device_at lines None = None
 device_at lines (Some k) = device_in (said_at lines k)
 
--- the device of the section in which a line stands: that of the last `.layout` before the line, and none before the first
+-- the device of the section to which a line belongs: the device of the last `.layout` before the line, and none before the first
 unfoldable pub section_before : List (List ℕ) → ℕ → Option DeviceName
 section_before lines n = device_at lines (last_below n (λ k. is_section (said_at lines k)))
 
--- whether a device, where there is one, is that device
+-- whether there is a device, and it is this one
 abbrev pub is_device : DeviceName → Option DeviceName → Bool
 is_device device None = false
 is_device device (Some other) = is_same_device device other
@@ -76,7 +76,7 @@ abbrev pub flag_in : Flag → Line → Option Bool
 flag_in field (Flag_of other value) = if is_flag field other then Some value else None
 flag_in field line = None
 
--- the numbers that a line gives a device for a field: those of a line in the device's section
+-- the numbers that a line gives a device for a field, if the line is in the device's section
 abbrev pub numbers_given : List (List ℕ) → DeviceName → Numbers → ℕ → Option (List ℕ)
 numbers_given lines device field k = if is_device device (section_before lines k) then numbers_in field (said_at lines k) else None
 
@@ -114,7 +114,7 @@ numbers_cause device PadColumns numbers = cause_if (not (are_places 18 42 number
 numbers_cause device PadRows numbers = cause_if (not (are_places 16 16 numbers)) Place
 numbers_cause device Banks numbers = cause_if (not (are_places 4 4 numbers)) Place
 
--- why the beginning of a section is faulty: an unknown device, or one that has a section
+-- why the beginning of a section is faulty: an unknown device, or a device that has a section already
 abbrev pub section_cause : List (List ℕ) → ℕ → Option DeviceName → Option LayoutCause
 section_cause lines n None = Some Device
 section_cause lines n (Some device) = cause_if (has_section lines n device) Repeated

@@ -27,7 +27,7 @@ AreLayouts layouts = (device : DeviceName) → (layout_for layouts device).devic
 abbrev pub HasLayout : Layouts → Layout → Type 0
 HasLayout layouts layout = layout_for layouts layout.device ≡ layout
 
--- the layouts where no others are given
+-- the layouts that hold if no others are given
 abbrev pub standard_layouts : Layouts
 standard_layouts = layouts_by standard_layout
 

@@ -8,7 +8,7 @@ use Rattle.layout_file.specs.declared.field.Numbers.TheVariants.{Widths, SideCol
 use Rattle.layout_file.specs.declared.field.Flag.{Flag}
 use Rattle.layout_file.specs.declared.field.Flag.TheVariants.{Mirror, Flip, PadMirror, RamFlip}
 
--- What a line is: one that is passed over, the beginning of a section with the word for its device, a field with its numbers,
+-- What a line is: one that is skipped, the beginning of a section with the word for its device, a field with its numbers,
 -- a field with `yes` or `no`, or anything else.
 pub data Line : Type 0 where
   Passed : Line
@@ -43,27 +43,27 @@ answer_of word =
     else if bytes_eq word (codes "no") then Some false
     else None
 
--- a field with numbers, where each word behind its name is one
+-- a field with numbers, if each word after its name is one
 abbrev pub list_line : Numbers → Option (List ℕ) → Line
 list_line field None = Unknown
 list_line field (Some numbers) = List_of field numbers
 
--- a field with `yes` or `no`, where the word behind its name is one of them
+-- a field with `yes` or `no`, if the word after its name is one of them
 abbrev pub flag_line : Flag → Option Bool → Line
 flag_line field None = Unknown
 flag_line field (Some value) = Flag_of field value
 
--- the same by the words behind its name, of which there has to be one
+-- a field with `yes` or `no` by the words after its name, of which there has to be exactly one
 abbrev pub flag_line_of : Flag → List (List ℕ) → Line
 flag_line_of field (word ∷ []) = flag_line field (answer_of word)
 flag_line_of field words = Unknown
 
--- the beginning of a section by the words behind `.layout`, of which there has to be one
+-- the beginning of a section by the words after `.layout`, of which there has to be exactly one
 abbrev pub section_of : List (List ℕ) → Line
 section_of (word ∷ []) = Section word
 section_of words = Unknown
 
--- a field by its name, with the words behind it
+-- a field by its name, with the words after it
 abbrev pub field_of : Option Numbers → Option Flag → List (List ℕ) → Line
 field_of (Some field) flag words = list_line field (numbers_of words)
 field_of None (Some field) words = flag_line_of field words
@@ -76,7 +76,7 @@ line_of_words (word ∷ words) =
     if bytes_eq word (codes ".layout") then section_of words
     else field_of (numbers_named word) (flag_named word) words
 
--- a line from its first byte on that isn't a blank
+-- a line without the blanks at its start
 unfoldable pub without_blanks : List ℕ → List ℕ
 without_blanks [] = []
 without_blanks (byte ∷ bytes) = if is_blank byte then without_blanks bytes else byte ∷ bytes
@@ -86,6 +86,6 @@ abbrev pub is_remark : List ℕ → Bool
 is_remark [] = false
 is_remark (byte ∷ bytes) = byte == 0x23
 
--- What a line says. Spaces and tabs before its first word and at its end don't count; spaces alone part its words.
+-- What a line says. Spaces and tabs before its first word and at its end don't count; only spaces separate its words.
 unfoldable pub line_of : List ℕ → Line
 line_of line = if is_remark line then Passed else line_of_words (words_of Spaces (without_blanks (trimmed line)))

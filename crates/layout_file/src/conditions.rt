@@ -19,7 +19,7 @@ pub(crate) fn count_of(device: DeviceName, field: Numbers) -> usize
     }
 }
 
-/// Why the numbers of a field are refused, where they are.
+/// Why the numbers of a field are refused, or `None` if they are taken.
 pub(crate) fn numbers_cause(
     device: DeviceName,
     field: Numbers,
@@ -98,14 +98,14 @@ fn start_in(widths: &[u32], columns: usize) -> u64
     start_in(widths, last) + u64::from(widths[last])
 }
 
-/// Whether a list has so many different entries, each below a bound.
+/// Whether a list has exactly `count` entries, all different and each below a bound.
 fn are_places(count: usize, bound: u32, entries: &[u32]) -> bool
     ensures { result ≡ are_places count bound entries.now }
 {
     entries.len() == count && are_distinct(entries) && are_below(bound, entries)
 }
 
-/// Whether no entry stands twice.
+/// Whether no entry occurs twice.
 fn are_distinct(entries: &[u32]) -> bool
     ensures { result ≡ are_distinct entries.now }
 {

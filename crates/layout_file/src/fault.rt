@@ -1,10 +1,10 @@
 // What can be wrong with a layout file.
 
-/// Why a line of a layout file is refused. Of several causes the first in this list is told.
+/// Why a line of a layout file is refused. If a line has several causes, the first in this list is reported.
 #[derive(Clone, Copy, Debug, PartialEq, Eq)]
 pub enum LayoutCause {
-    /// It isn't a line of a layout file: another word at its beginning, another number of words, a word that isn't a decimal
-    /// number, or another word than `yes` or `no`. Or it stands before the first `.layout`.
+    /// It isn't a line of a layout file: its first word is unknown, it has the wrong number of words, a word isn't a decimal number, or a
+    /// word isn't `yes` or `no`. Or it comes before the first `.layout`.
     Statement = 1,
     /// A section of a device that isn't `384`, `1k` or `8k`.
     Device = 2,

@@ -17,7 +17,7 @@ pub struct Layouts {
 }
 
 impl Layouts {
-    /// The layouts where no others are given.
+    /// The layouts that hold if no others are given.
     pub fn standard() -> Layouts
         ensures layouts { result ≡ standard_layouts }
         ensures devices { AreLayouts result }
@@ -29,12 +29,23 @@ impl Layouts {
         }
     }
 
-    /// The layouts that a layout file gives, or its first faulty line.
+    /// The layouts that a layout file gives.
     ///
     /// A section begins with `.layout 384`, `.layout 1k` or `.layout 8k`. Its lines, each at most once, are `widths` with 4, 7
     /// or 17 numbers, `sidecols` with 18, `iocols` with 18, `iorows` with 16, `banks` with 4, and `mirror`, `flip`,
-    /// `padmirror` and `ramflip` with `yes` or `no`. What isn't given is standard. Spaces part words. Lines that begin with
-    /// `#`, and lines with no word, are passed over.
+    /// `padmirror` and `ramflip` with `yes` or `no`. What isn't given is standard. Spaces separate words. Lines that begin with
+    /// `#`, and lines with no word, are skipped.
+    ///
+    /// # Errors
+    /// The first faulty line, with the first of its causes in the order of [`LayoutCause`].
+    ///
+    /// # Example
+    /// ```ignore
+    /// let layouts = Layouts::read(b".layout 1k\nwidths 20 54 54 42 54 54 54\n")?;
+    /// let layout = layouts.of(DeviceName::K1);
+    /// // Bit (0, 0) of the logic tile at (12, 16).
+    /// let place = layout.cram_place(12, 16, 0, 0);
+    /// ```
     pub fn read(bytes: &[u8]) -> Result<Layouts, LayoutFault>
         ensures layouts { IfOk result (λ layouts. layouts ≡ layouts_in bytes.now) }
         ensures devices { IfOk result AreLayouts }
@@ -69,7 +80,7 @@ ghost use Rattle.layout_file.specs.Faults.{fault_with};
 ghost use Rattle.layout_file.specs.inside.Reading.{refusal, taken};
 ghost use Rattle.std.specs.Prelude.{OnOk};
 
-/// Takes the next line, which has that number.
+/// Takes the next line, the line of this number.
 fn take_line(reader: &mut Reader, number: u64, line: &[u8]) -> Result<(), LayoutFault>
     ensures taken { IfOk result (λ _. reader.new ≡ taken reader.old (line_of line.now)) }
     ensures fits { OnOk result (refusal reader.old (line_of line.now) ≡ None) }

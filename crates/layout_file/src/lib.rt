@@ -1,4 +1,4 @@
-//! Layout files: texts that say how the devices lay out the bits of their tiles.
+//! Layout files: texts that say where the bits of tiles lie in the planes of the devices.
 #![tactic(auto)]
 
 mod conditions;

@@ -10,18 +10,18 @@ use crate::number_list::NumberList;
 use plane_map::DeviceName;
 use text_lines::{Separators, number, one_word, split_word, trimmed};
 
-/// What a line is.
+/// What kind of line it is.
 #[derive(Drop)]
 pub(crate) enum LineKind {
-    /// It is passed over.
+    /// A line that is skipped: a remark, or a line with no word.
     Passed,
-    /// The beginning of a section: of no device where the word isn't that of one.
+    /// The beginning of a section, with its device, or `None` if the word names no device.
     Section(Option<DeviceName>),
     /// A field with its numbers.
     List(Numbers, NumberList),
     /// A field with `yes` or `no`.
     Answer(Flag, bool),
-    /// None of a layout file, or more numbers than any field has.
+    /// No line of a layout file, or one with more numbers than any field has.
     Unknown,
 }
 
@@ -49,7 +49,7 @@ fn is_remark(line: &[u8]) -> bool
     }
 }
 
-/// A line from its first byte on that isn't a blank.
+/// A line without the blanks at its start.
 #[tactic(auto, unfolding(crate::specs::Lines::without_blanks))]
 fn without_blanks(line: &[u8]) -> &[u8]
     ensures { result.now ≡ without_blanks line.now }
@@ -61,7 +61,7 @@ fn without_blanks(line: &[u8]) -> &[u8]
     left
 }
 
-/// What a line says by its first word and what stands behind it.
+/// What a line says, by its first word and the text after it.
 fn kind_of_words(word: &[u8], behind: &[u8]) -> LineKind
     ensures { Says result (line_of_words (word.now ∷ words_of Spaces behind.now)) }
 {
@@ -75,7 +75,7 @@ fn kind_of_words(word: &[u8], behind: &[u8]) -> LineKind
     }
 }
 
-/// What a line says that begins a section.
+/// What a line says that begins a section, by the text after its first word.
 fn section_kind(behind: &[u8]) -> LineKind
     ensures { Says result (section_of (words_of Spaces behind.now)) }
 {
@@ -85,7 +85,7 @@ fn section_kind(behind: &[u8]) -> LineKind
     }
 }
 
-/// What a line says that names a field of numbers.
+/// What a line says that names a field of numbers, by the text after its first word.
 fn list_kind(field: Numbers, behind: &[u8]) -> LineKind
     ensures { Says result (list_line field (numbers_of (words_of Spaces behind.now))) }
 {
@@ -95,7 +95,7 @@ fn list_kind(field: Numbers, behind: &[u8]) -> LineKind
     }
 }
 
-/// What a line says that names a field of `yes` or `no`.
+/// What a line says that names a field of `yes` or `no`, by the text after its first word.
 fn answer_kind(field: Flag, behind: &[u8]) -> LineKind
     ensures { Says result (flag_line_of field (words_of Spaces behind.now)) }
 {
@@ -108,7 +108,7 @@ fn answer_kind(field: Flag, behind: &[u8]) -> LineKind
     }
 }
 
-/// What `yes` and `no` say.
+/// The Boolean that `yes` or `no` says, or `None` for another word.
 fn answer(word: &[u8]) -> Option<bool>
     ensures { result ≡ answer_of word.now }
 {
@@ -121,7 +121,7 @@ fn answer(word: &[u8]) -> Option<bool>
     }
 }
 
-/// The numbers that words write, where each writes one and there are at most 18.
+/// The numbers that the words say, or `None` if a word isn't a number or there are more than 18.
 fn number_list(words: &[u8]) -> Option<NumberList>
     ensures { MatchOption result (is_long (numbers_of (words_of Spaces words.now)) ≡ true)
         (λ numbers. numbers_of (words_of Spaces words.now) ≡ Some numbers) }

@@ -1,7 +1,7 @@
 // Numbers of a line in the types that a layout keeps.
 ghost use Rattle.std.specs.Prelude.{◌≡◌, ℕ, ◌≤◌, ◌<◌, ◌^◌, ◌-◌, ◌++◌, All, length, replicate};
 
-/// So many numbers as bytes.
+/// `N` numbers as bytes.
 pub(crate) fn bytes<const N: usize>(numbers: &[u32]) -> [u8; N]
     requires count { length numbers.now ≡ N }
     requires small { All (λ number. number < 2 ^ 8) numbers.now }
@@ -14,7 +14,7 @@ pub(crate) fn bytes<const N: usize>(numbers: &[u32]) -> [u8; N]
     bytes
 }
 
-/// At most 17 numbers in 16 bits each, and 0 past them.
+/// At most 17 numbers in 16 bits each, and 0 after them.
 pub(crate) fn widths(numbers: &[u32]) -> [u16; 17]
     requires few { length numbers.now ≤ 17 }
     requires small { All (λ number. number < 2 ^ 16) numbers.now }

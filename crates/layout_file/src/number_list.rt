@@ -1,4 +1,4 @@
-// A few numbers, kept in place.
+// A few numbers, kept without allocating.
 ghost use Rattle.std.specs.Prelude.{◌≡◌, ◌<◌, [], ◌∷◌, ◌++◌, length, nat_le};
 
 use std::marker::Model;

@@ -19,12 +19,12 @@ pub(crate) struct Reader {
     k384: Section,
     k1: Section,
     k8: Section,
-    /// The device of the section in which the next line stands.
+    /// The device of the section to which the next line belongs.
     current: Option<DeviceName>,
 }
 
 impl Reader {
-    /// No line was read.
+    /// A reader that has read no line.
     pub(crate) fn new() -> Reader
         ensures { result ≡ unread }
     {

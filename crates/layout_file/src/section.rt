@@ -50,7 +50,7 @@ impl Given {
     }
 }
 
-/// The layout of a device as far as its section was read.
+/// The layout of a device, as far as its section has been read.
 #[derive(Drop)]
 pub(crate) struct Section {
     pub(crate) layout: Layout,
@@ -113,7 +113,7 @@ impl Section {
         }
     }
 
-    /// Why the numbers of a field are refused, where they are.
+    /// Why the numbers of a field are refused, or `None` if they are taken.
     fn refusal_of(&self, field: Numbers, numbers: &[u32]) -> Option<LayoutCause>
         ensures { result ≡ numbers_refusal self.now field numbers.now }
     {

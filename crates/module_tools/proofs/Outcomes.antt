@@ -1,4 +1,4 @@
--- What a text is that spells a module, and one that has a fault.
+-- The outcome of a text that spells a module, and of one that has a fault.
 use Rattle.std.proofs.Common.{◌≡◌, ℕ, List}
 use Rattle.std.specs.Prelude.{Some, Result, Ok, Err}
 use Rattle.vlog_module.specs.Parts.{Parts}

@@ -1,4 +1,4 @@
--- What a tool says of a fault of a module's text or of a list of events.
+-- The messages for faults of a module's text and of lists of events.
 use Rattle.std.specs.Prelude.{ℕ, List, ◌++◌, codes, decimal}
 use Rattle.vlog_forms.specs.declared.fault.VlogCause.{VlogCause}
 use Rattle.vlog_forms.specs.declared.fault.VlogCause.TheVariants.{Syntax, Order, Undeclared, AssignedTwice}
@@ -22,6 +22,6 @@ event_fault_text (Form line) = codes "line " ++ decimal line ++ codes ": Form"
 event_fault_text (Pin line) = codes "line " ++ decimal line ++ codes ": Pin"
 event_fault_text (Memory e) = codes "out of memory"
 
--- the same behind the name of the file, where there are several
+-- the message with the name of the file before it, for a tool that takes several lists
 abbrev pub file_fault_text : List ℕ → EventFault → List ℕ
 file_fault_text name fault = name ++ codes " " ++ event_fault_text fault

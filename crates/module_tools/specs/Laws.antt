@@ -1,4 +1,4 @@
--- What holds of the command lines of the tools: each command is simple, and each task is told under the name of its tool.
+-- Laws of the command lines of the tools: each command is simple, as `clap`'s statement needs it, and each task has the name of its tool.
 use Rattle.std.specs.Prelude.{◌≡◌, ◌&&◌, Bool, true, false, List, codes, if◌then◌else◌, length, nat_le, refl, Option, None, Some}
 use Rattle.clap.specs.Words.{Row, Text, first_of, is_simple_and_free}
 use Rattle.clap.proofs.OnLiterals.{clap_on_literals}

@@ -1,4 +1,4 @@
--- `vlogrun`: the run of a module over a list of events.
+-- `vlogrun`: runs a module over a list of events.
 use Rattle.std.specs.Prelude.{ℕ, Bool, true, false, List, [], ◌∷◌, codes, get_or, Option, None, Some, Result, Ok, Err}
 use Rattle.clap.specs.Words.{App, Row, Text, first_of}
 use Rattle.vlog_module.specs.Parts.{Parts}
@@ -18,27 +18,27 @@ use Rattle.module_tools.specs.declared.told.Told.TheVariants.{Lines, Waves}
 use Rattle.module_tools.specs.declared.request.TheConstants.{VLOGRUN_HELP}
 use Rattle.module_tools.specs.Faults.{event_fault_text, vlog_fault_text}
 
--- ---- what is made of the two texts
+-- ---- the answer for the two texts
 
--- the most bytes of a module
+-- the most bytes that the text of a module may have
 abbrev pub module_limit : ℕ
 module_limit = 67108864
 
--- the most bytes of a list of events
+-- the most bytes that a list of events may have
 abbrev pub events_limit : ℕ
 events_limit = 1048576
 
--- what is told of a module's run over events: its lines, or its waves
+-- the text of a module's run over events: its lines, or its waves, a value change dump (IEEE Std 1364-2005, clause 18)
 abbrev pub told_text : Told → Parts → List Event → List ℕ
 told_text (Lines registers) m events = run_text m events registers
 told_text Waves m events = waves_text m events
 
--- the same where the text of the events has no fault
+-- the text of a module's run over a list of events, or the message for the first fault of the list
 abbrev pub run_over : Told → Parts → List ℕ → Option EventFault → Answer
 run_over told m events None = Done (told_text told m (events_of m.ports events))
 run_over told m events (Some fault) = Refused (event_fault_text fault)
 
--- the same for the module that a text spells; a fault of that text goes first
+-- the text of the run of the module that a text spells; a fault of that text goes before one of the events
 abbrev pub run_of : Told → Result Parts Fault → List ℕ → Answer
 run_of told (Ok m) events = run_over told m events (event_fault m.ports events)
 run_of told (Err fault) events = Refused (vlog_fault_text fault)
@@ -64,13 +64,13 @@ run_needs text events = record { name = Some text; limit = module_limit } ∷ re
 abbrev pub run_task : Told → Text → Option Text → Task
 run_task told text events = record { tool_name = vlogrun_name; needs = run_needs text events; target = None; answer = vlogrun_answer told }
 
--- waves show all registers, so `-s` and `--vcd` aren't taken together
+-- what the run tells, by the flags; waves show all registers, so `-s` and `--vcd` aren't taken together
 abbrev pub told_by : Bool → Bool → Option Told
 told_by registers false = Some (Lines registers)
 told_by false true = Some Waves
 told_by true true = None
 
--- there has to be a module
+-- there must be a module
 abbrev pub vlogrun_task_of : Option Told → Option Text → Option Text → Task
 vlogrun_task_of (Some told) (Some text) events = run_task told text events
 vlogrun_task_of (Some told) None events = usage_error vlogrun_name vlogrun_usage
@@ -84,7 +84,7 @@ vlogrun_task_by rows =
 abbrev pub vlogrun : Manual
 vlogrun = record { name = vlogrun_name; usage = vlogrun_usage; help = VLOGRUN_HELP.now; app = vlogrun_command; task = vlogrun_task_by }
 
--- what the arguments of `vlogrun` ask for, its help among that
+-- what the arguments of `vlogrun` ask for, which may be its help
 abbrev pub vlogrun_outcome : List Text → Task
 vlogrun_outcome args = outcome vlogrun args
 

@@ -1,4 +1,4 @@
--- `vlogsweep`: the runs of a module over several lists of events.
+-- `vlogsweep`: runs a module over several lists of events.
 use Rattle.std.specs.Prelude.{◌≡◌, ◌≤◌, ℕ, ◌&&◌, List, [], ◌∷◌, ◌++◌, codes, drop, flat_map, get_or, length, map, nat_le, false, if◌then◌else◌, Option, None, Some, Result, Ok, Err}
 use Rattle.std.specs.Option.{option_map}
 use Rattle.std.specs.Borrow.{Bor}
@@ -23,7 +23,7 @@ use Rattle.module_tools.specs.Vlogrun.{module_limit}
 
 -- ---- lists of events
 
--- the most lists of events, and the most bytes of each
+-- the most lists of events that a run takes, and the most bytes that each may have
 abbrev pub most_lists : ℕ
 most_lists = 64
 
@@ -35,24 +35,24 @@ pub record EventFile : Type 0 where
   pub name : Text
   pub bytes : List ℕ
 
--- files by their names and their bytes, both in order
+-- the files, from their names and their bytes, both in order
 abbrev pub files_of : List Text → List (List ℕ) → List EventFile
 files_of [] texts = []
 files_of (name ∷ names) [] = []
 files_of (name ∷ names) (text ∷ texts) = record { name = name; bytes = text } ∷ files_of names texts
 
--- what is said of a file that is refused
+-- the message for a file, if it is refused
 abbrev pub file_refusal : List Port → EventFile → Option (List ℕ)
 file_refusal ports file = option_map (file_fault_text file.name) (event_fault ports file.bytes)
 
--- what is said of the first file that is refused
+-- the message for the first file that is refused, if there is one
 abbrev pub first_refusal : List Port → List EventFile → Option (List ℕ)
 first_refusal ports [] = None
 first_refusal ports (file ∷ files) = or_else (file_refusal ports file) (first_refusal ports files)
 
--- ---- what is made of the module and the lists
+-- ---- the answer for the module and the lists
 
--- the line before the lines of a run: the name of the file
+-- the heading of a run, the line before its lines: the name of the file
 abbrev pub heading_of : Text → List ℕ
 heading_of name = codes "events " ++ name ++ 10 ∷ []
 
@@ -60,17 +60,17 @@ heading_of name = codes "events " ++ name ++ 10 ∷ []
 abbrev pub file_text : Parts → EventFile → List ℕ
 file_text m file = heading_of file.name ++ run_text m (events_of m.ports file.bytes) false
 
--- the texts of all files, where none is refused
+-- the texts of all files, if none is refused
 abbrev pub sweep_over : Parts → List EventFile → Option (List ℕ) → Answer
 sweep_over m files None = Done (flat_map (file_text m) files)
 sweep_over m files (Some text) = Refused text
 
--- the same for the module that a text spells; a fault of that text goes first
+-- the texts of all files for the module that a text spells; a fault of that text goes before one of a file
 abbrev pub sweep_of : Result Parts Fault → List EventFile → Answer
 sweep_of (Ok m) files = sweep_over m files (first_refusal m.ports files)
 sweep_of (Err fault) files = Refused (vlog_fault_text fault)
 
--- the first text is the module, and each other the list of the file of that name
+-- the answer for the texts that were loaded: the first is the module, the others are the lists of the files of these names
 abbrev pub vlogsweep_answer : List Text → List (List ℕ) → Answer
 vlogsweep_answer names texts = sweep_of (outcome_of (get_or texts 0 [])) (files_of names (drop 1 texts))
 
@@ -88,7 +88,7 @@ vlogsweep_command = command vlogsweep_name (required (codes "module") ∷ severa
 abbrev pub list_need : Text → Need
 list_need name = record { name = Some name; limit = list_limit }
 
--- the module, and then the lists in their order
+-- the module, then the lists in their order
 abbrev pub sweep_needs : Text → List Text → List Need
 sweep_needs text names = record { name = Some text; limit = module_limit } ∷ map list_need names
 
@@ -98,12 +98,12 @@ task_over needs names = record { tool_name = vlogsweep_name; needs = needs; targ
 abbrev pub sweep_task : Text → List Text → Task
 sweep_task text names = task_over (sweep_needs text names) names
 
--- there are one list at least and sixty-four at most
+-- at least one list and at most sixty-four are taken
 abbrev pub counted_task : Text → List Text → Task
 counted_task text names =
     if nat_le 1 (length names) && nat_le (length names) most_lists then sweep_task text names else usage_error vlogsweep_name vlogsweep_usage
 
--- there has to be a module
+-- there must be a module
 abbrev pub vlogsweep_task_of : Option Text → List Text → Task
 vlogsweep_task_of (Some text) names = counted_task text names
 vlogsweep_task_of None names = usage_error vlogsweep_name vlogsweep_usage
@@ -115,7 +115,7 @@ vlogsweep_task_by rows = vlogsweep_task_of (first_of (codes "module") rows) (val
 abbrev pub vlogsweep : Manual
 vlogsweep = record { name = vlogsweep_name; usage = vlogsweep_usage; help = VLOGSWEEP_HELP.now; app = vlogsweep_command; task = vlogsweep_task_by }
 
--- what the arguments of `vlogsweep` ask for, its help among that
+-- what the arguments of `vlogsweep` ask for, which may be its help
 abbrev pub vlogsweep_outcome : List Text → Task
 vlogsweep_outcome args = outcome vlogsweep args
 
@@ -130,12 +130,12 @@ abbrev pub vlogsweep_task_for : Option SweepRequest → Task
 vlogsweep_task_for None = usage_error vlogsweep_name vlogsweep_usage
 vlogsweep_task_for (Some request) = sweep_task request.«module».now (names_of request.names.items)
 
--- the lists of a request are sixty-four at most
+-- a request has at most sixty-four lists
 abbrev pub IsFew : Option SweepRequest → Type 0
 IsFew None = Unit {0}
 IsFew (Some request) = length request.names.items ≤ most_lists
 
--- where a file is refused, that is told
+-- a stop tells this refusal, or that memory is out
 abbrev pub TellsRefusal : Option (List ℕ) → Stop → Type 0
 TellsRefusal refusal (stop.Refused told) = refusal ≡ Some (refusal_text told)
 TellsRefusal refusal (stop.UsageError told) = ⊥

@@ -1,4 +1,4 @@
-// What a tool says of a fault.
+// The messages for faults of a module's text and of lists of events.
 ghost use Rattle.std.specs.Prelude.{◌≡◌, ◌++◌, codes};
 ghost use Rattle.tool_run.specs.Lines.{refusal_text};
 ghost use Rattle.vlog_forms.specs.Outcome.{fault};
@@ -9,7 +9,7 @@ use tool_run::{Refusal, decimal, text};
 use vlog_cycle::EventFault;
 use vlog_text::VlogCause;
 
-// What is wrong with the text of a module, behind a colon.
+// What is wrong with the text of a module, after a colon.
 fn vlog_cause_text(cause: VlogCause) -> &'static str
     ensures { result.now ≡ codes ": " ++ vlog_cause_text cause }
 {
@@ -21,14 +21,14 @@ fn vlog_cause_text(cause: VlogCause) -> &'static str
     }
 }
 
-/// The fault of the text of a module.
+/// The refusal of the text of a module: the offset and the cause.
 pub(crate) fn vlog_refusal(offset: u64, cause: VlogCause) -> Refusal<'static>
     ensures { refusal_text result ≡ vlog_fault_text (fault offset cause) }
 {
     refusal(decimal("offset ", offset), text(vlog_cause_text(cause)))
 }
 
-/// The fault of a list of events.
+/// The refusal of a list of events: the line and the cause.
 pub(crate) fn event_refusal(fault: EventFault) -> Refusal<'static>
     ensures { refusal_text result ≡ event_fault_text fault }
 {
@@ -39,7 +39,7 @@ pub(crate) fn event_refusal(fault: EventFault) -> Refusal<'static>
     }
 }
 
-/// The fault of a list of events, behind the name of its file.
+/// The refusal of a list of events with the name of its file before it.
 pub(crate) fn file_refusal(name: &str, fault: EventFault) -> Refusal<'_>
     ensures { refusal_text result ≡ file_fault_text name.now fault }
 {

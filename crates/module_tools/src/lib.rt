@@ -1,6 +1,6 @@
 //! The tools that take modules of the Verilog subset: `vlogrun` and `vlogsweep`.
 //!
-//! Each tool has its command line, its usage line and what it makes of what it loads. The function that runs it has one clause: a
+//! Each tool has its command line, its usage line and its answer for what it loads. The function that runs it has one clause: a
 //! run does the task that the command line asks for.
 #![tactic(auto)]
 

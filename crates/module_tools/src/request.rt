@@ -48,7 +48,7 @@ isn't taken; 3 reading failed; 4 writing failed; 5 out of memory; 6 an input is
 longer than its limit.
 ";
 
-/// What the arguments ask for: what is told of the run, the module, and the events.
+/// What the arguments ask for: what the run tells, the module, and the events.
 #[derive(Clone, Copy)]
 pub(crate) struct Request<'a> {
     pub(crate) told: Told,
@@ -56,7 +56,7 @@ pub(crate) struct Request<'a> {
     pub(crate) events: Option<&'a str>,
 }
 
-// What is told of the run, by the flags: registers and waves aren't asked for together.
+// What the run tells, by the flags. Registers and waves aren't taken together.
 fn told_by(registers: bool, waves: bool) -> Option<Told>
     ensures { result ≡ told_by registers waves }
 {
@@ -67,7 +67,7 @@ fn told_by(registers: bool, waves: bool) -> Option<Told>
     }
 }
 
-// What the arguments ask for by what was found in them: there has to be a module.
+// The request, from what was found in the arguments: there must be a module.
 fn wanted<'a>(
     told: Option<Told>,
     module: Option<&'a str>,
@@ -96,7 +96,7 @@ pub(crate) fn command<'a>(alloc: Global) -> Result<Command<'a>, AllocError>
     with(command, positional(alloc, "events"))
 }
 
-// What was found in the arguments asks for.
+// The request of the arguments, or `None` if they aren't taken.
 pub(crate) fn request_in<'a>(matches: &ArgMatches<'a>) -> Option<Request<'a>>
     ensures { vlogrun_task_for result ≡ vlogrun_task_by (rows_of (found_of matches.now)) }
 {

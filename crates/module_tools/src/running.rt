@@ -19,13 +19,13 @@ use tool_run::{Host, Job, Load, Stop, Tool, loaded_at};
 use vlog_cycle::{EventFault, read_events, run_text};
 use vlog_text::{Module, VlogFault, parse};
 
-/// The most bytes of a module.
+/// The most bytes that the text of a module may have.
 pub(crate) const MODULE_LIMIT: usize = 67_108_864;
 
-/// The most bytes of a list of events.
+/// The most bytes that a list of events may have.
 const EVENTS_LIMIT: usize = 1_048_576;
 
-/// Runs the module that it loads over the events that it loads, and tells its lines.
+/// Loads a module and a list of events, runs the module over the events, and tells the lines of the run.
 #[derive(Clone, Copy, Debug, PartialEq, Eq)]
 pub(crate) struct Running {
     pub(crate) registers: bool,
@@ -49,7 +49,7 @@ impl Tool for Running {
     }
 }
 
-// The lines of the run of a module over events, both in bytes.
+// The lines of the run of a module over events, from the texts of both.
 #[tactic(auto, using(crate::proofs::Outcomes::outcome_spelled, crate::proofs::Outcomes::outcome_faulty))]
 fn run_texts(
     alloc: Global,
@@ -87,7 +87,7 @@ fn run_module(
     }
 }
 
-// Runs by the files of a request.
+// Does a request: loads its files and runs the module.
 fn run_files<H: Host>(alloc: Global, request: Request<'_>, host: &mut H) -> u8
     ensures { Does H.outside (vlogrun_task_for (Some request.entry)) result (H.scene host.old) (H.scene host.new) }
 {
@@ -152,7 +152,7 @@ impl CommandLine for Vlogrun {
     ghost speaks = { vlogrun-speaks };
 }
 
-/// Runs `vlogrun` with these arguments, of which the first is its name.
+/// Runs `vlogrun` with these arguments, the first of which is its name, and answers the exit status.
 pub fn run_vlogrun<H: Host>(alloc: Global, args: &[String], host: &mut H) -> u8
     ensures { Does H.outside (vlogrun_outcome (map string_bytes args.now)) result (H.scene host.old) (H.scene host.new) }
 {

@@ -38,7 +38,7 @@ command line isn't taken; 3 reading failed; 4 writing failed; 5 out of memory;
 6 a file is longer than its limit.
 ";
 
-/// The most lists of events.
+/// The most lists of events that a run takes: each is one of 64 bit-parallel lanes.
 const MOST_LISTS: usize = 64;
 
 /// What the arguments ask for: the module, and the names of one to sixty-four lists of events.
@@ -58,7 +58,7 @@ fn names_found<'a>(alloc: Global, names: Option<&[&'a str]>) -> Result<Vec<&'a s
     }
 }
 
-// The request for so many lists, where that is a number of lists.
+// The request for these lists, if there are 1 to 64 of them.
 fn counted<'a>(module: &'a str, names: Vec<&'a str>) -> Option<SweepRequest<'a>>
     ensures task { vlogsweep_task_for result ≡ counted_task «module».entry.now (names_of names.entry.items) }
     ensures few { IfSome result (λ request. length request.names.items ≤ 64) }
@@ -70,7 +70,7 @@ fn counted<'a>(module: &'a str, names: Vec<&'a str>) -> Option<SweepRequest<'a>>
     }
 }
 
-// What the arguments ask for by what was found in them: there have to be a module and a list.
+// The request, from what was found in the arguments: there must be a module and at least one list.
 fn wanted<'a>(module: Option<&'a str>, names: Vec<&'a str>) -> Option<SweepRequest<'a>>
     ensures task { vlogsweep_task_for result ≡ vlogsweep_task_of (text_of «module».entry) (names_of names.entry.items) }
     ensures few { IfSome result (λ request. length request.names.items ≤ 64) }
@@ -90,7 +90,7 @@ pub(crate) fn command<'a>(alloc: Global) -> Result<Command<'a>, AllocError>
     with(command, several(alloc, "events"))
 }
 
-/// What was found in the arguments asks for.
+/// The request of the arguments, or `None` if they aren't taken.
 pub(crate) fn request_in<'a>(
     alloc: Global,
     matches: &ArgMatches<'a>,

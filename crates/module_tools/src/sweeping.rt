@@ -20,10 +20,11 @@ use vlog_cycle::{EventFault, read_events};
 use vlog_sweep::{EventList, sweep};
 use vlog_text::{Module, VlogFault, parse};
 
-/// The most bytes of a list of events.
+/// The most bytes that a list of events may have.
 const LIST_LIMIT: usize = 65_536;
 
-/// Runs the module that it loads over the lists of events that it loads, from files of these names.
+/// Loads a module and lists of events, from files of these names, and runs the module over each list. All lists run at once, each in a
+/// bit-parallel lane of its own.
 #[derive(Drop)]
 pub(crate) struct Sweeping<'a> {
     names: Vec<&'a str>,
@@ -43,7 +44,7 @@ impl Tool for Sweeping<'_> {
     }
 }
 
-// What was loaded behind the module.
+// What was loaded after the module.
 fn behind_first(loaded: &[Vec<u8>]) -> &[Vec<u8>]
     ensures { result.now ≡ drop 1 loaded.now }
 {
@@ -53,7 +54,7 @@ fn behind_first(loaded: &[Vec<u8>]) -> &[Vec<u8>]
     }
 }
 
-// The runs of a module over lists of events, all in bytes.
+// The lines of the runs of a module over lists of events, from the texts of all.
 #[tactic(auto, using(crate::proofs::Outcomes::outcome_spelled, crate::proofs::Outcomes::outcome_faulty))]
 fn sweep_texts<'a>(
     alloc: Global,
@@ -72,7 +73,7 @@ fn sweep_texts<'a>(
     }
 }
 
-// The runs of a module over lists of events.
+// The lines of the runs of a module over lists of events, from their texts.
 fn sweep_module<'a>(
     alloc: Global,
     module: &Module,
@@ -88,7 +89,7 @@ fn sweep_module<'a>(
     Ok(sweep(alloc, module, &lists)?)
 }
 
-// Reads the files of these names behind those before, up to the first that is refused.
+// Reads the lists of the files of these names and appends them, up to the first that is refused.
 fn read_files<'a>(
     alloc: Global,
     module: &Module,
@@ -117,7 +118,7 @@ fn read_files<'a>(
     }
 }
 
-// Adds a list.
+// Appends a list.
 fn push_list(lists: &mut Vec<EventList>, list: EventList) -> Result<(), AllocError>
     ensures { OnOk result (lists.new.items ≡ lists.old.items ++ list ∷ []) }
 {
@@ -125,7 +126,7 @@ fn push_list(lists: &mut Vec<EventList>, list: EventList) -> Result<(), AllocErr
     Ok(())
 }
 
-// The list of events of a file behind its heading.
+// The list of events of a file, with its heading.
 fn read_file<'a>(
     alloc: Global,
     module: &Module,
@@ -147,7 +148,7 @@ fn read_file<'a>(
     }
 }
 
-// The line before the lines of a run: the name of the file.
+// The heading of a run, the line before its lines: the name of the file.
 fn heading_of(alloc: Global, name: &str) -> Result<Vec<u8>, AllocError>
     ensures { IfOk result (λ heading. heading.items ≡ heading_of name.now) }
 {
@@ -157,7 +158,7 @@ fn heading_of(alloc: Global, name: &str) -> Result<Vec<u8>, AllocError>
     Ok(heading)
 }
 
-// The loads of a request: the module, and then the lists in their order.
+// The loads of a request: the module, then the lists in their order.
 fn loads_of<'a>(
     alloc: Global,
     module: &'a str,
@@ -180,7 +181,7 @@ fn loads_of<'a>(
     Ok(loads)
 }
 
-// Runs over what these loads are, the module and then the lists of the tool's names.
+// Performs the job of these loads, which are the module and then the lists of the tool's names.
 fn sweep_loads<H: Host>(alloc: Global, tool: &Sweeping<'_>, loads: &[Load<'_>], host: &mut H) -> u8
     requires { IsSound (map need_of loads.now) }
     ensures { Does H.outside (task_over (map need_of loads.now) (names_of tool.now.names.items)) result (H.scene host.old) (H.scene host.new) }
@@ -193,7 +194,7 @@ fn sweep_loads<H: Host>(alloc: Global, tool: &Sweeping<'_>, loads: &[Load<'_>], 
     host.perform(alloc, tool, &job)
 }
 
-// Runs by the files of a request.
+// Does a request: loads its files and runs the module.
 fn sweep_files<H: Host>(alloc: Global, request: SweepRequest<'_>, host: &mut H) -> u8
     requires { length request.names.items ≤ 64 }
     ensures { Does H.outside (vlogsweep_task_for (Some request.entry)) result (H.scene host.old) (H.scene host.new) }
@@ -248,7 +249,7 @@ impl CommandLine for Vlogsweep {
     ghost speaks = { vlogsweep-speaks };
 }
 
-/// Runs `vlogsweep` with these arguments, of which the first is its name.
+/// Runs `vlogsweep` with these arguments, the first of which is its name, and answers the exit status.
 pub fn run_vlogsweep<H: Host>(alloc: Global, args: &[String], host: &mut H) -> u8
     ensures { Does H.outside (vlogsweep_outcome (map string_bytes args.now)) result (H.scene host.old) (H.scene host.new) }
 {

@@ -1,10 +1,10 @@
-// What `vlogrun` tells of a run.
+// What a run of `vlogrun` tells.
 
-/// What is told of a run.
+/// What a run of `vlogrun` tells.
 #[derive(Clone, Copy, Debug, PartialEq, Eq)]
 pub enum Told {
-    /// A line at the start and one after each event, of the outputs, and of the registers too where they are asked for.
+    /// A line at the start and one after each event: the outputs, and the registers too if they are asked for.
     Lines { registers: bool },
-    /// The waves: what each event changed.
+    /// The waves: a VCD (value change dump), which has what each event changed.
     Waves,
 }

@@ -1,4 +1,4 @@
-// The waves of `vlogrun`.
+// The waves of `vlogrun`: a VCD (value change dump).
 ghost use Rattle.std.specs.Prelude.{◌≡◌, IfOk, IfErr};
 ghost use Rattle.tool_run.specs.Stops.{StopsWith};
 ghost use Rattle.tool_run.specs.Tasks.{Done};
@@ -15,7 +15,7 @@ use vlog_cycle::{EventFault, read_events};
 use vlog_text::{Module, VlogFault, parse};
 use vlog_waves::Waves;
 
-/// Runs the module that it loads over the events that it loads, and tells its waves.
+/// Loads a module and a list of events, runs the module over the events, and tells the waves of the run.
 #[derive(Clone, Copy, Debug, PartialEq, Eq)]
 pub(crate) struct Tracing;
 
@@ -32,7 +32,7 @@ impl Tool for Tracing {
     }
 }
 
-// The waves of the run of a module over events, both in bytes.
+// The waves of the run of a module over events, from the texts of both.
 #[tactic(auto, using(crate::proofs::Outcomes::outcome_spelled, crate::proofs::Outcomes::outcome_faulty))]
 fn trace_texts(alloc: Global, text: &[u8], events: &[u8]) -> Result<Waves, Stop<'static>>
     ensures bytes { IfOk result (λ waves. run_of WavesTold (outcome_of text.now) events.now ≡ Done (waves_in waves)) }

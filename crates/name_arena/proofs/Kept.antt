@@ -1,4 +1,4 @@
--- Names stay where more is written.
+-- Names stay when more is written.
 use Rattle.std.proofs.Common.{◌≡◌, ℕ, ◌-◌, ◌^◌, ◌<◌, ◌≤◌, List, [], ◌∷◌, ◌++◌, length, map, Bool, true, if◌then◌else◌, refl, sym, ap, subst, ◌∙◌, inl, inr, arith, length-append}
 use Rattle.std.proofs.lemmas.List.{get_or_append_left, get_or_past, map-append}
 use Rattle.std.proofs.lemmas.List.Elements.{All-head, All-tail, All-push}
@@ -62,6 +62,6 @@ names_pushed old new spans span name keeps all is =
 pub spans_pushed : (old new : List (List ℕ)) (spans : List Span) (span : Span) → Keeps old new → All (λ s. IsSpanOf old s) spans → IsSpanOf new span → All (λ s. IsSpanOf new s) (spans ++ span ∷ [])
 spans_pushed old new spans span keeps all is = All-push (λ s. IsSpanOf new s) spans span (λ k d inside. (keeps _ (all k d inside)).0) is
 
--- what is pushed where there is room
+-- what is pushed if there is room
 pub pushed : {X : Type 0} (fits : Bool) (old new longer : List X) → fits ≡ true → new ≡ (if fits then longer else old) → new ≡ longer
 pushed fits old new longer is e = e ∙ ap (λ b. if b then longer else old) is

@@ -8,7 +8,7 @@ use Rattle.name_arena.specs.Buckets.{bucket_of, named, AreChained, IsLast, Lacks
 
 -- ---- more names
 
--- the last place stays where more names follow
+-- the last place stays when more names follow
 last_among : (names more : List (List ℕ)) (count bucket n place : ℕ) → n ≤ length names → IsLast names count bucket n place → IsLast (names ++ more) count bucket n place
 last_among names more count bucket n place few is = record {
   own = λ lt. ap (bucket_of count) (get_or_append_left names more [] place (omega (arith, few, lt))) ∙ is.own lt;
@@ -26,7 +26,7 @@ chained_among names more last before chained = record {
       (last_among names more (length last) (bucket_of (length last) (named names k)) k (get_or before k 0) (omega (arith, chained.few, lt)) (chained.before_is k lt));
 }
 
--- a name that is added stands behind the others
+-- a name that is added comes after the others
 pub named_last : (names : List (List ℕ)) (name : List ℕ) → named (names ++ name ∷ []) (length names) ≡ name
 named_last names name = get_or-append_right names (name ∷ []) (length names) (length names) [] refl (omega arith) ∙ ap (λ k. get_or (name ∷ []) k []) (sub-self (length names))
   where
@@ -133,7 +133,7 @@ searched_on names before name count behind place searches lt other = record {
   chained = searches.chained;
 }
 
--- and where none is left there is none
+-- and if none is left there is none
 pub searched_all : (names : List (List ℕ)) (before name : List ℕ) (count behind place : ℕ) → Searches names before name count behind place → behind ≤ place → Lacks names name
 searched_all names before name count behind place searches none k below =
     elim (cases_lt k behind) [

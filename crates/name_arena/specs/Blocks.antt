@@ -8,15 +8,15 @@ use denote.Builtin.{u8}
 use denote.RawPtr.{Ptr, lies_at, room_for, ◌+ₚ◌}
 use denote.Struct.Lending.{lent_at}
 
--- the type of so many bytes
+-- the type of `n` bytes
 abbrev pub bytes_type : ℕ → Ty
 bytes_type n = ty_array (ty_int w8) n
 
--- the bytes that are written, from the pointer on
+-- the bytes that are written, starting at the pointer
 abbrev pub written : Ptr → List ℕ → Fml
 written p xs = lies_at (Array u8 (length xs)) full_share p xs
 
--- the room behind them
+-- the free room after them
 abbrev pub left : Ptr → ℕ → List ℕ → Fml
 left p room xs = room_for (bytes_type (room - length xs)) (p +ₚ length xs)
 

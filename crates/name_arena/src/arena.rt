@@ -1,11 +1,11 @@
-// Names: their bytes in chunks, and where each of them stands.
+// Names: their bytes in chunks, and where each name is.
 ghost use Rattle.std.specs.Prelude.{◌≡◌, ◌+◌, ◌-◌, ◌^◌, ◌<◌, ◌++◌, ◌∷◌, [], length, slice_index_or, ◌↔◌, IsTrue, IfOk, OnErr};
 
 use crate::chunks::{Chunks, Span};
 use std::alloc::{AllocError, Global};
 use std::marker::Model;
 
-/// A name of an arena. Contracts see the place that it names, counted from 0.
+/// The id of a name in an arena. In contracts it is the place of the name, counted from 0.
 #[derive(Clone, Copy, Debug, PartialEq, Eq, PartialOrd, Ord)]
 pub struct NameId {
     place: u32,
@@ -22,14 +22,14 @@ impl Model for NameId {
 }
 
 impl NameId {
-    /// The id that names a place.
+    /// The id of the name at a place.
     pub(crate) fn at(place: u32) -> NameId
         ensures { result ≡ place }
     {
         NameId { place }
     }
 
-    /// The place that it names.
+    /// The place of the name.
     pub fn place(self) -> usize
         ensures { result ≡ self }
     {
@@ -37,8 +37,8 @@ impl NameId {
     }
 }
 
-/// Byte strings in the order in which they were added. Contracts see the list of them. The bytes lie in chunks of memory that are never
-/// grown or moved, and are given back together with the arena.
+/// Byte strings in the order in which they were added; in contracts, the list of them. The bytes are in chunks of memory that never grow or
+/// move, and that are freed together with the arena.
 #[derive(Drop)]
 pub struct NameArena {
     chunks: Chunks,
@@ -57,7 +57,7 @@ impl Model for NameArena {
 }
 
 impl NameArena {
-    /// No names. It takes no memory yet.
+    /// An arena without names. It takes no memory yet.
     pub fn new(alloc: Global) -> NameArena
         ensures { result ≡ [] }
     {
@@ -67,7 +67,10 @@ impl NameArena {
         }
     }
 
-    /// Adds a name at the end, and tells its id. After a refusal no name was added.
+    /// Adds a name at the end, and returns its id.
+    ///
+    /// # Errors
+    /// `AllocError` if memory is out. Then no name was added.
     pub fn push(&mut self, name: &[u8]) -> Result<NameId, AllocError>
         requires { length self.old < 2 ^ 32 - 1 }
         ensures pushed { IfOk result (λ id. self.new ≡ self.old ++ name.now ∷ []) }
@@ -75,14 +78,14 @@ impl NameArena {
         ensures unchanged { OnErr result (self.new ≡ self.old) }
     {
         let place = self.spans.len() as u32;
-        // The room comes first, so that no bytes are kept of a name that is refused.
+        // Reserve first, so that no bytes are kept of a name that isn't added.
         self.spans.reserve(1)?;
         let span = self.chunks.keep(name)?;
         let _fits = self.spans.push(span);
         Ok(NameId { place })
     }
 
-    /// The bytes of a name. The id is from this arena.
+    /// The bytes of a name. The id must be one of this arena.
     pub fn get(&self, id: NameId) -> &[u8]
         requires { id < length self.now }
         ensures { result.now ≡ slice_index_or self.now id [] }
@@ -98,7 +101,7 @@ impl NameArena {
         self.chunks.name(self.spans[place])
     }
 
-    /// Whether the arena has a name of that id, as it has of each of its own.
+    /// Whether the arena has a name with that id; it has one for each id that it gave.
     pub fn has(&self, id: NameId) -> bool
         ensures { IsTrue result ↔ (id < length self.now) }
     {

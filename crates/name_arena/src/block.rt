@@ -1,4 +1,4 @@
-// A block of memory from an allocator, which is written byte by byte from its start on, and never grown or moved.
+// A block of memory from an allocator. It is written byte by byte from its start, and never grown or moved.
 ghost use Rattle.std.specs.Prelude.{◌≡◌, ℕ, ◌+◌, ◌^◌, ◌<◌, ◌≤◌, List, [], ◌∷◌, ◌++◌, length, IfOk};
 ghost use denote.RawPtr.{Ptr};
 ghost use Rattle.name_arena.specs.Blocks.{bytes_type, memory_owns, memory_lent};
@@ -12,7 +12,7 @@ pub(crate) struct Start {
     ptr: *mut u8,
 }
 
-// The owner of a block's bytes and of the room behind them. It takes no space.
+// The owner of a block's bytes and of the free room after them. It takes no space.
 pub(crate) struct Memory {
     ghost at: { Ptr },
     ghost room: { ℕ },
@@ -38,7 +38,7 @@ impl<A: Allocator> Model for Deed<A> {
     ghost also_owns = { λ d. A.dealloc_token d.alloc (bytes_type d.room) d.at };
 }
 
-// A block in which nothing is written.
+// Allocates a block in which nothing is written.
 pub(crate) fn allocate<A: Allocator>(
     alloc: &A,
     room: usize,
@@ -58,7 +58,7 @@ pub(crate) fn allocate<A: Allocator>(
     }
 }
 
-// Gives a block back.
+// Frees a block.
 pub(crate) fn free<A: Allocator>(
     alloc: &A,
     start: Start,
@@ -74,7 +74,7 @@ pub(crate) fn free<A: Allocator>(
 }
 
 impl Memory {
-    // Writes a byte behind the others.
+    // Writes a byte after the others.
     pub(crate) fn write(&mut self, start: Start, place: usize, byte: u8)
         requires { (start.ptr ≡ self.old.at) × (place ≡ length self.old.bytes) × (place < self.old.room) }
         ensures { (self.new.at ≡ self.old.at) × (self.new.room ≡ self.old.room) × (self.new.bytes ≡ self.old.bytes ++ byte ∷ []) }

@@ -1,4 +1,4 @@
-// Names by their bytes: in each bucket the places of its names, one behind another.
+// A hash table of names: each bucket is a chain of the places of its names.
 ghost use Rattle.std.specs.Prelude.{◌≡◌, ◌≢◌, ℕ, ◌+◌, ◌-◌, ◌^◌, ◌<◌, ◌≤◌, List, [], ◌++◌, ◌∷◌, length, get_or, vec_capacity, vec_len, MatchOption, IfOk, OnErr, OnOk};
 ghost use Rattle.std.specs.Bool.{OnFalse};
 ghost use Rattle.name_arena.specs.Buckets.{bucket_of, named, number_of, HasAt, IsChained, IsLast, Lacks};
@@ -7,7 +7,7 @@ use crate::arena::NameArena;
 use std::alloc::{AllocError, Global};
 use std::hash::{FoldHasher, Hasher};
 
-/// The place of no name.
+/// Stands for 'no place'.
 const NONE: u32 = u32::MAX;
 
 /// How many buckets there are at first.
@@ -16,17 +16,17 @@ const FEWEST: usize = 1024;
 /// How many buckets there are at most.
 const MOST: usize = 0x8000_0000;
 
-/// The places of names, sorted into buckets by a number that is made of their bytes.
+/// The places of names, sorted into buckets by the hash of their bytes.
 #[derive(Drop)]
 pub(crate) struct Chains {
-    /// In each bucket the last place.
+    /// For each bucket the last place in it.
     last: Vec<u32>,
-    /// For each place the one before it in its bucket.
+    /// For each place the one before it in the same bucket.
     before: Vec<u32>,
 }
 
 impl Chains {
-    /// No place and no bucket. It takes no memory yet.
+    /// No places and no buckets. It takes no memory yet.
     pub(crate) fn new(alloc: Global) -> Chains
         ensures chained { (names : List (List ℕ)) → IsChained names result }
         ensures none { length result.before.items ≡ 0 }
@@ -37,7 +37,7 @@ impl Chains {
         }
     }
 
-    /// The places of all names, in more buckets than there are names, as far as there may be so many.
+    /// The places of all names, in more buckets than there are names, up to `MOST` buckets.
     pub(crate) fn of(alloc: Global, names: &NameArena) -> Result<Chains, AllocError>
         requires { length names.now < 2 ^ 32 - 1 }
         ensures chained { IfOk result (IsChained names.now) }
@@ -54,7 +54,7 @@ impl Chains {
         Ok(chains)
     }
 
-    /// So many empty buckets.
+    /// `count` empty buckets.
     fn with_buckets(alloc: Global, count: usize) -> Result<Chains, AllocError>
         requires { count < 2 ^ 32 }
         ensures chained { IfOk result (λ chains. (names : List (List ℕ)) → IsChained names chains) }
@@ -69,14 +69,14 @@ impl Chains {
         })
     }
 
-    /// Whether there are as many places as buckets, so that they should be put into more.
+    /// Whether there are as many places as buckets, so that more buckets are needed.
     pub(crate) fn is_full(&self) -> bool
         ensures { OnFalse result (0 < length self.now.last.items) }
     {
         self.last.len() <= self.before.len() && self.last.len() < MOST
     }
 
-    /// Puts the places of all names into more buckets, where there are as many places as buckets.
+    /// If there are as many places as buckets, puts the places of all names into more buckets.
     pub(crate) fn widen(&mut self, alloc: Global, names: &NameArena) -> Result<(), AllocError>
         requires few { length names.now < 2 ^ 32 - 1 }
         requires chained { IsChained names.now self.old }
@@ -99,7 +99,7 @@ impl Chains {
         }
     }
 
-    /// Makes room for one place more.
+    /// Makes room for one more place.
     pub(crate) fn reserve(&mut self) -> Result<(), AllocError>
         ensures same { (self.new.last ≡ self.old.last) × (self.new.before.items ≡ self.old.before.items) }
         ensures room { OnOk result (vec_len self.new.before < vec_capacity self.new.before) }
@@ -107,7 +107,7 @@ impl Chains {
         self.before.reserve(1)
     }
 
-    /// Puts the next place into its bucket: that of this name.
+    /// Puts the next place into the bucket of `name`.
     pub(crate) fn push(&mut self, name: &[u8])
         requires buckets { 0 < length self.old.last.items }
         requires few { length self.old.before.items < 2 ^ 32 - 1 }
@@ -123,7 +123,7 @@ impl Chains {
         self.before.push_reserved(before);
     }
 
-    /// A place that has a name: none where no place has it.
+    /// A place with that name, or `None` if no place has it.
     pub(crate) fn find(&self, names: &NameArena, name: &[u8]) -> Option<u32>
         requires chained { IsChained names.now self.now }
         requires whole { length self.now.before.items ≡ length names.now }
@@ -139,7 +139,7 @@ impl Chains {
     }
 }
 
-/// How many buckets there are for so many names and as many more: a power of two.
+/// How many buckets there are for twice `names` names: a power of two.
 fn buckets_for(names: usize) -> usize
     ensures { (0 < result) × (result < 2 ^ 32) }
 {
@@ -150,7 +150,7 @@ fn buckets_for(names: usize) -> usize
     count
 }
 
-/// Puts a place into a bucket, and gives the one that was the last there.
+/// Makes a place the last of a bucket, and returns the one that was the last before.
 fn put_last(last: &mut Vec<u32>, bucket: usize, place: u32) -> u32
     requires { bucket < length last.old.items }
     ensures before { result ≡ get_or last.old.items bucket 0 }
@@ -163,7 +163,7 @@ fn put_last(last: &mut Vec<u32>, bucket: usize, place: u32) -> u32
     before
 }
 
-/// A place that has a name, from the last one of its bucket on.
+/// A place with that name, searched from the last one of its bucket on.
 fn find_from(names: &NameArena, before: &[u32], last: u32, name: &[u8]) -> Option<u32>
     requires whole { length before.now ≡ length names.now }
     requires chained { (count : ℕ) × IsLast names.now count (bucket_of count name.now) (length names.now) last
@@ -182,7 +182,7 @@ fn find_from(names: &NameArena, before: &[u32], last: u32, name: &[u8]) -> Optio
     None
 }
 
-/// The bucket of a name, of so many.
+/// The bucket of a name among `count` buckets.
 #[tactic(auto, unfolding(crate::specs::Buckets::bucket_of))]
 fn bucket_of(count: usize, name: &[u8]) -> usize
     requires { 0 < count }
@@ -192,7 +192,7 @@ fn bucket_of(count: usize, name: &[u8]) -> usize
     number_of(name) as usize & (count - 1)
 }
 
-/// A number that is made of a name's bytes.
+/// The hash of a name.
 #[tactic(auto, unfolding(crate::specs::Buckets::number_of))]
 fn number_of(name: &[u8]) -> u64
     ensures { result ≡ number_of name.now }

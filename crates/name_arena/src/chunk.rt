@@ -1,4 +1,4 @@
-// A chunk of memory that is written from its start on, never grown or moved, and given back when it is dropped.
+// A chunk of memory that is written from its start, never grown or moved, and freed when it is dropped.
 ghost use Rattle.std.specs.Prelude.{◌≡◌, ◌+◌, ◌≤◌, ◌++◌, length, IfOk};
 ghost use Rattle.name_arena.specs.Names.{chunk_bytes};
 
@@ -6,10 +6,10 @@ use crate::block::{Deed, Memory, Start, allocate, free};
 use std::alloc::{AllocError, Global};
 use std::marker::Model;
 
-/// How many bytes a chunk has room for, but one that a longer name has to itself.
+/// The room of a chunk in bytes. A name longer than that has a chunk of its own.
 pub(crate) const CHUNK_BYTES: usize = 65_536;
 
-/// A block with room for `CHUNK_BYTES` bytes or more. Contracts see the bytes that are written.
+/// A block with room for `CHUNK_BYTES` bytes or more. In contracts, the bytes that are written.
 pub(crate) struct Chunk {
     alloc: Global,
     start: Start,
@@ -45,7 +45,7 @@ impl Drop for Chunk {
 }
 
 impl Chunk {
-    /// A new chunk with a name at its start. It has room for `CHUNK_BYTES` bytes, or for the name alone where that is longer.
+    /// A new chunk with a name at its start. It has room for `CHUNK_BYTES` bytes, or for just the name if the name is longer.
     pub(crate) fn with_name(alloc: Global, name: &[u8]) -> Result<Chunk, AllocError>
         ensures { IfOk result (λ chunk. chunk ≡ name.now) }
     {
@@ -62,7 +62,7 @@ impl Chunk {
         })
     }
 
-    /// Writes a name behind the others.
+    /// Writes a name after the others.
     pub(crate) fn append(&mut self, name: &[u8])
         requires { length self.old + length name.now ≤ chunk_bytes }
         ensures { self.new ≡ self.old ++ name.now }
@@ -71,7 +71,7 @@ impl Chunk {
         self.count += name.len();
     }
 
-    /// All that is written.
+    /// All bytes that are written.
     pub(crate) fn bytes(&self) -> &[u8]
         ensures { result.now ≡ self.now }
     {
@@ -79,7 +79,7 @@ impl Chunk {
     }
 }
 
-// Writes bytes behind the `count` that are there.
+// Writes bytes after the `count` bytes that are there.
 fn write_all(memory: &mut Memory, start: Start, count: usize, bytes: &[u8])
     requires { (start.ptr ≡ memory.old.at) × (count ≡ length memory.old.bytes) × (count + length bytes.now ≤ memory.old.room) }
     ensures written { memory.new.bytes ≡ memory.old.bytes ++ bytes.now }

@@ -1,4 +1,4 @@
-// Names in chunks: one behind the other in the last chunk while they fit.
+// Names in chunks, one after the other in the last chunk while they fit.
 ghost use Rattle.std.specs.Prelude.{◌≡◌, ◌+◌, ◌-◌, ◌^◌, ◌<◌, ◌≤◌, ◌↔◌, [], ◌∷◌, ◌++◌, length, slice_set, IsTrue, IfOk, OnErr};
 ghost use Rattle.name_arena.specs.Names.{chunk_bytes, chunk_at, name_at, name_within, IsWithin, IsSpanOf, HasRoom, Keeps};
 
@@ -6,11 +6,11 @@ use crate::chunk::{CHUNK_BYTES, Chunk};
 use std::alloc::{AllocError, Global};
 use std::marker::Model;
 
-/// The chunk of names that take no byte.
+/// The chunk number of empty names.
 const NO_CHUNK: u32 = u32::MAX;
 
-/// Where a name stands: its chunk, and the places of its first and its last byte there. A name that is longer than `CHUNK_BYTES` is
-/// all of its chunk, and the empty name is in none.
+/// Where a name is: its chunk, and the places of its first and last byte there. A name longer than `CHUNK_BYTES` fills a chunk of its own,
+/// and the empty name is in no chunk.
 #[derive(Clone, Copy, Debug)]
 pub(crate) struct Span {
     chunk: u32,
@@ -18,7 +18,7 @@ pub(crate) struct Span {
     last: u16,
 }
 
-/// The chunks of an arena. Contracts see what is written in each.
+/// The chunks of an arena. In contracts, what is written in each.
 #[derive(Drop)]
 pub(crate) struct Chunks {
     alloc: Global,
@@ -36,7 +36,7 @@ impl Model for Chunks {
 }
 
 impl Chunks {
-    /// No chunk. It takes no memory yet.
+    /// No chunks. It takes no memory yet.
     pub(crate) fn new(alloc: Global) -> Chunks
         ensures { result ≡ [] }
     {
@@ -46,7 +46,7 @@ impl Chunks {
         }
     }
 
-    /// Keeps a name, and tells where. The names that are kept already stay.
+    /// Keeps a name, and returns where it is. The names kept before stay where they are.
     pub(crate) fn keep(&mut self, name: &[u8]) -> Result<Span, AllocError>
         ensures kept { IfOk result (λ span. IsSpanOf self.new span × (name_at self.new span ≡ name.now)) }
         ensures others { IfOk result (λ _. Keeps self.old self.new) }
@@ -79,7 +79,7 @@ impl Chunks {
         }
     }
 
-    // Whether a name of so many bytes fits in the last chunk.
+    // Whether a name of `count` bytes fits in the last chunk.
     fn has_room(&self, count: usize) -> bool
         requires { count < 2 ^ 63 }
         ensures { IsTrue result ↔ HasRoom self.now count }
@@ -90,7 +90,7 @@ impl Chunks {
         }
     }
 
-    // Writes a name behind the others of the last chunk.
+    // Writes a name after the others in the last chunk.
     fn append(&mut self, name: &[u8]) -> Span
         requires { (0 < length name.now) × HasRoom self.old (length name.now) }
         ensures kept { IsSpanOf self.new result × (name_at self.new result ≡ name.now) }
@@ -126,7 +126,7 @@ impl Chunks {
     }
 }
 
-// Writes a name behind the others of a chunk, and tells where it begins.
+// Writes a name after the others in a chunk, and returns where it begins.
 fn append_at(chunks: &mut [Chunk], place: usize, name: &[u8]) -> usize
     requires { (place < length chunks.old) × (length (chunk_at chunks.old place) + length name.now ≤ chunk_bytes) }
     ensures start { result ≡ length (chunk_at chunks.old place) }

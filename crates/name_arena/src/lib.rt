@@ -1,5 +1,5 @@
-//! Names: byte strings that are added one after another and named by their places, in an arena, or in a table that finds them
-//! again by their bytes.
+//! Names: byte strings that are added one after the other and known by their places. They are kept in an arena, or in a table that also
+//! finds a name by its bytes.
 #![tactic(auto)]
 
 mod arena;

@@ -1,4 +1,4 @@
-// Names that are found again by their bytes.
+// Names that can be found by their bytes.
 ghost use Rattle.std.specs.Prelude.{◌≡◌, ◌-◌, ◌^◌, ◌<◌, ◌++◌, ◌∷◌, [], length, slice_index_or, ◌↔◌, IsTrue, IfOk, MatchOption, OnErr};
 ghost use Rattle.name_arena.specs.Buckets.{HasAt, Lacks};
 
@@ -7,8 +7,8 @@ use crate::chains::Chains;
 use std::alloc::{AllocError, Global};
 use std::marker::Model;
 
-/// Names in the order in which they were added, and an index from their bytes, which are kept once, to their ids. Contracts see
-/// the list of them.
+/// Names in the order in which they were added, and an index from their bytes to their ids. The bytes are kept once. In contracts, the list
+/// of the names.
 #[derive(Drop)]
 pub struct NameTable {
     alloc: Global,
@@ -28,7 +28,7 @@ impl Model for NameTable {
 }
 
 impl NameTable {
-    /// No names. It takes no memory yet.
+    /// A table without names. It takes no memory yet.
     pub fn new(alloc: Global) -> NameTable
         ensures { result ≡ [] }
     {
@@ -39,7 +39,10 @@ impl NameTable {
         }
     }
 
-    /// Adds a name at the end, and tells its id. After a refusal no name was added.
+    /// Adds a name at the end, and returns its id.
+    ///
+    /// # Errors
+    /// `AllocError` if memory is out. Then no name was added.
     pub fn push(&mut self, name: &[u8]) -> Result<NameId, AllocError>
         requires { length self.old < 2 ^ 32 - 1 }
         ensures pushed { IfOk result (λ id. self.new ≡ self.old ++ name.now ∷ []) }
@@ -53,7 +56,7 @@ impl NameTable {
         Ok(id)
     }
 
-    /// The id of a name: none where no name is that one.
+    /// The id of a name, or `None` if the table hasn't that name.
     pub fn find(&self, name: &[u8]) -> Option<NameId>
         ensures { MatchOption result (Lacks self.now name.now) (HasAt self.now name.now) }
     {
@@ -63,7 +66,7 @@ impl NameTable {
         }
     }
 
-    /// The bytes of a name. The id is from this table.
+    /// The bytes of a name. The id must be one of this table.
     pub fn get(&self, id: NameId) -> &[u8]
         requires { id < length self.now }
         ensures { result.now ≡ slice_index_or self.now id [] }
@@ -71,7 +74,7 @@ impl NameTable {
         self.names.get(id)
     }
 
-    /// Whether the table has a name of that id, as it has of each of its own.
+    /// Whether the table has a name with that id; it has one for each id that it gave.
     pub fn has(&self, id: NameId) -> bool
         ensures { IsTrue result ↔ (id < length self.now) }
     {

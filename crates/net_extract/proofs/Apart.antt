@@ -1,4 +1,4 @@
--- Lists in which each item is apart from all behind it.
+-- Lists in which each item is distinct from all after it.
 use Rattle.std.proofs.Common.{◌≡◌, ◌≢◌, ℕ, zero, suc, ◌<◌, ◌≤◌, Bool, true, false, List, [], ◌∷◌, ◌++◌, map, arith}
 use Rattle.std.specs.Prelude.{All, Contains, filter, if◌then◌else◌}
 use Rattle.std.specs.List.{flat_map}
@@ -13,7 +13,7 @@ use Rattle.net_extract.specs.Tiles.{over_grid, over_tiles, at_kind, item_if}
 use Rattle.net_extract.specs.Fabric.{numbered_from}
 use Rattle.net_extract.proofs.Within.{All-flat_map, All-if, All-numbered}
 
--- each item has the relation to all behind it
+-- each item has the relation to all after it
 abbrev pub AreApart : {A : Type 0} → (A → A → Type 0) → List A → Type 0
 AreApart R [] = Unit {0}
 AreApart R (x ∷ xs) = All (R x) xs × AreApart R xs
@@ -73,7 +73,7 @@ module _ {A : Type 0} (R : A → A → Type 0) where
       (All-weaker (Q x) (λ y. All (R a) (given y)) (λ y other. All-contains (λ b. All (R b) (given y)) (given x) a (across x y other) there) xs apart.0))
       (given x) (All-contains_itself (given x)))
 
-  -- what the places below a bound give, where items of two places are apart by a number that tells the place
+  -- what the places below a bound give, if items of two places differ in a number that tells the place
   pub apart-gathered : (P : A → Type 0) (key : A → ℕ) → ((a b : A) → P a → P b → key a ≢ key b → R a b)
       → (n : ℕ) (given : ℕ → List A) → ((k : ℕ) → k < n → All (λ a. P a × (key a ≡ k)) (given k)) → ((k : ℕ) → k < n → AreApart R (given k))
       → AreApart R (gathered_below n given)
@@ -88,7 +88,7 @@ module _ {A : Type 0} (R : A → A → Type 0) where
       (λ b of_b. differ a b of_a.0 of_b.0 (λ same. absurd (omega (arith, of_a.1, of_b.1, same, less)))) (given n) (at n (omega arith)))
       (given k) (at k (omega arith))))
 
-  -- what the tiles of a kind give, where items of two tiles are apart by their columns or rows
+  -- what the tiles of a kind give, if items of two tiles differ in their columns or rows
   pub apart-over_tiles : (P : A → Type 0) (left low : A → ℕ) → ((a b : A) → P a → P b → left a ≢ left b → R a b) → ((a b : A) → P a → P b → low a ≢ low b → R a b)
       → (device : DeviceName) (kind : TileKind) (given : ℕ → ℕ → List A)
       → ((x y : ℕ) → x < grid_width device → y < grid_height device → All (λ a. P a × (left a ≡ x) × (low a ≡ y)) (given x y))

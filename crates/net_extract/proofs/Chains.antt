@@ -1,4 +1,4 @@
--- Clock chains: where the search for the end of a chain comes to is its end, and a net has the value of the end of its chain.
+-- Clock chains: the search finds the end of a chain, and a net has the value of the end of its chain.
 use Rattle.std.proofs.Common.{◌≡◌, ℕ, zero, suc, ◌+◌, ◌<◌, ◌≤◌, Bool, true, false, List, [], ◌∷◌, length, get_or, refl, sym, ap, ◌∙◌, subst, arith, inl, inr}
 use Rattle.std.proofs.lemmas.Bool.{cases_Bool}
 use Rattle.bit_plane.proofs.Words.{bit_value-le}
@@ -104,7 +104,7 @@ module _ (fabric : Fabric) where
   leads-on more class net is rest =
       goes_on net is (subst (λ end. LeadsTo fabric (class_of fabric.joins net) end) (sym (search-goes more class net is)) rest)
 
-  -- classes whose chains are found with so many steps
+  -- classes of joined nets whose chains are found within a number of steps
   AreFound : List ℕ → Type 0
   AreFound before = (class : ℕ) → has before class ≡ true → (steps : ℕ) → length before < steps → LeadsTo fabric class (end_within fabric steps class)
 
@@ -149,7 +149,7 @@ module _ (fabric : Fabric) where
   unfolding AreFound
   found-none class listed steps few = absurd (has-none class listed)
 
-  -- where there is a write order, the search finds the end of each chain
+  -- if there is a write order, the search finds the end of each chain
   pub clock_end-leads : IsWithin fabric → (order : List ℕ) → IsWriteOrder (wiring_of fabric) order
       → (net : ℕ) → LeadsTo fabric (class_of fabric.joins net) (clock_end fabric net)
   unfolding clock_end
@@ -162,7 +162,7 @@ module _ (fabric : Fabric) where
 
 -- ---- the value of a clock
 
--- the value of the end of a chain: that of its pin, and 0 where it is still
+-- the value of the end of a chain: that of its pin, or 0 if it has no driver
 abbrev pub HasEndValue : List Bool → ClockEnd → Bool → Type 0
 HasEndValue pins (at_pin place) bit = bit ≡ get_or pins place false
 HasEndValue pins undriven bit = bit ≡ false
@@ -187,7 +187,7 @@ module _ (fabric : Fabric) (within : IsWithin fabric) (state : State) (pins v : 
   unfolding value_of
   copied-value rule net same = ap (λ r. value_of (is_connected fabric) state pins (bit_in v) r) same
 
-  -- the bit of a class is that of its first driver
+  -- the bit of a class of joined nets is that of its first driver
   first-value : (class : ℕ) (driven : is_driven fabric class ≡ true)
       → class_bit fabric within state pins v class ≡ value_of (is_connected fabric) state pins (bit_in v) (first-driver fabric class driven).0.rule
   first-value class driven =

@@ -91,7 +91,7 @@ module _ (connected bit other : ℕ → Bool) where
       let of_c = input-same false c (λ n is. same n (has-right first (second ++ third) n (has-right second third n (has-some c n is)))) in
       rw (of_a, of_b, of_c) refl
 
-  -- a register looks at its reset where that acts at once, and else at no net
+  -- a register reads its set or reset if that is asynchronous, and else no net
   settled_bit-same : (place : ℕ) (register : Register) (old : Bool) → ((n : ℕ) → has (nets_read (register_bit place register)) n ≡ true → bit n ≡ other n)
       → settled_bit connected bit register old ≡ settled_bit connected other register old
   unfolding settled_bit nets_read
@@ -101,7 +101,7 @@ module _ (connected bit other : ℕ → Bool) where
         | inr waits ↦ rw waits refl
       ]
 
-  -- a driver's value is the same where the nets that it reads are
+  -- a driver's value is the same if the nets that it reads have the same values
   pub value-same : (state : State) (pins : List Bool) (rule : Rule) → ((n : ℕ) → has (nets_read rule) n ≡ true → bit n ≡ other n)
       → value_of connected state pins bit rule ≡ value_of connected state pins other rule
   unfolding value_of nets_read

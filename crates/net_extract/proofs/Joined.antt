@@ -9,7 +9,7 @@ use Rattle.net_extract.specs.Parents.{merged}
 
 -- ---- names by recursion
 
--- the name of a net's class, one routing after the other
+-- the name of a net's class of joined nets, one routing after the other
 unfoldable named : List (ℕ × ℕ) → ℕ → ℕ
 named [] net = net
 named (join ∷ joins) net = merged (named joins) join.0 join.1 net
@@ -37,7 +37,7 @@ one-max x y p q =
           rw (low, high) (one-other y x p q)
     ]
 
--- nets are joined where their classes have one name
+-- nets are joined if their classes of joined nets have one name
 is_joined-named : (joins : List (ℕ × ℕ)) (a b : ℕ) → is_joined joins a b ≡ eqb (named joins a) (named joins b)
 unfolding is_joined named merged
 is_joined-named [] a b = refl
@@ -57,7 +57,7 @@ named-le (join ∷ joins) net = one-le (named joins join.0) (named joins join.1)
 one-itself : (name : ℕ → ℕ) (x y at : ℕ) → name x ≡ x → name y ≡ y → name (name at) ≡ name at → one (min x y) (max x y) (name (one (min x y) (max x y) (name at))) ≡ one (min x y) (max x y) (name at)
 one-itself name x y at x_is y_is at_is = grind (arith, nat_tests)
 
--- the name of a class is a net of the class
+-- the name of a class of joined nets is a net of the class
 named-itself : (joins : List (ℕ × ℕ)) (net : ℕ) → named joins (named joins net) ≡ named joins net
 unfolding named merged
 named-itself [] net = refl
@@ -77,12 +77,12 @@ class_of-named joins net =
 
 -- ---- classes, one routing after the other
 
--- without routings each net is a class by itself
+-- without routings each net is its own class
 pub class_of-none : (net : ℕ) → class_of [] net ≡ net
 unfolding named
 class_of-none net = class_of-named [] net
 
--- a routing makes the classes of its nets one
+-- a routing merges the classes of its nets
 pub class_of-more : (joins : List (ℕ × ℕ)) (a b net : ℕ) → class_of ((a, b) ∷ joins) net ≡ merged (class_of joins) a b net
 unfolding named merged
 class_of-more joins a b net =

@@ -27,7 +27,7 @@ joined-back {joins} (further {a} {b} join rest) = joined-then (joined-back rest)
 
 -- ---- what the test says
 
--- what is listed behind a head
+-- what is listed after a head
 contains-behind : (head item : ℕ × ℕ) (joins : List (ℕ × ℕ)) → Contains joins item → Contains (head ∷ joins) item
 contains-behind head item joins found = (suc found.0, omega (arith, found.1), found.2)
 
@@ -89,7 +89,7 @@ unfolding is_joined
 is_joined-itself [] a = eq-eqb a a refl
 is_joined-itself (join ∷ joins) a = or_left _ _ (is_joined-itself joins a)
 
--- what holds for the routings behind the head
+-- what holds for the routings after the head
 record IsThen (joins : List (ℕ × ℕ)) : Type 0 where
   step : (a b c : ℕ) → is_joined joins a b ≡ true → is_joined joins b c ≡ true → is_joined joins a c ≡ true
 
@@ -157,7 +157,7 @@ class_by joins net (Some class) found =
       ];
     }
 
--- the class of a net is the least net that is joined to it
+-- the class of joined nets that a net belongs to is the least net that is joined to it
 pub class_of-is : (joins : List (ℕ × ℕ)) (net : ℕ) → IsClassOf joins net (class_of joins net)
 unfolding class_of
 class_of-is joins net = class_by joins net (least_below (suc net) (is_joined joins net)) refl

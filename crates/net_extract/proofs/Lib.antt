@@ -1,4 +1,4 @@
--- the first item of a list, where lists are joined or given place by place
+-- the first item of a list that is made by joining lists, or place by place
 pub mod Firsts
 -- lists that grow by what each item of another list gives with its place
 pub mod Numbered
@@ -19,7 +19,7 @@ pub mod Facts
 pub mod OneValue
 -- what a fabric is that has no fault
 pub mod Taken
--- clock chains: where the search for the end of a chain comes to is its end, and a net has the value of the end of its chain
+-- clock chains: the search finds the end of a chain, and a net has the value of the end of its chain
 pub mod Chains
 -- the fabric of a database whose lines name nets of the device has no net past their number
 pub mod Within
@@ -27,7 +27,7 @@ pub mod Within
 pub mod Settling
 -- a fabric without a fault has exactly one run for each list of events
 pub mod Runs
--- a used RAM of a narrow mode is a memory of narrow words
+-- a used RAM in a narrow mode works as a memory of narrow words
 pub mod NarrowMemories
 -- the definitions at small databases and images, worked out by hand
 pub mod Worked
@@ -49,13 +49,13 @@ pub mod Paired
 pub mod Alike
 -- entries of LUTs by the bits of their words
 pub mod Entries
--- the value of a LUT looks at no input that the LUT doesn't use
+-- the value of a LUT doesn't depend on an input that the LUT doesn't use
 pub mod UsedInputs
 -- what is found in lists that are made from others, and bits that are all set
 pub mod Listed
 -- nets and places that a database names are its device's
 pub mod Nets
--- lists in which each item is apart from all behind it
+-- lists in which each item is distinct from all after it
 pub mod Apart
 -- no driver of a database and an image stands twice
 pub mod Once

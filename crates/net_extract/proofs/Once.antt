@@ -56,7 +56,7 @@ GlobalsDiffer one two = one.g ≡ two.g → one.net ≡ two.net → ⊥
 abbrev pub BuffersDiffer : Buffer → Buffer → Type 0
 BuffersDiffer one two = one.line ≡ two.line → ⊥
 
--- the parts of a fabric differ, each from all behind it
+-- the parts of a fabric differ, each from all after it
 pub record ArePartsApart (fabric : Fabric) : Type 0 where
   pub pins : AreApart PinsDiffer fabric.pins
   pub lcs : AreApart CellsDiffer fabric.lcs
@@ -182,7 +182,7 @@ module _ (db : Database) (image : Configuration) where
       All-map (λ (register : Register). is_cell_user register.user ≡ false) pin_register_here (filter is_registered (pins_of db image))
       (All-every (λ pin. is_cell_user (pin_register_here pin).user ≡ false) pin_register-user (filter is_registered (pins_of db image)))
 
-  -- a flip-flop and the register of a pin are two
+  -- a flip-flop and the register of a pin differ
   users-differ : (one two : Register) → is_cell_user one.user ≡ true → is_cell_user two.user ≡ false → RegistersDiffer one two
   users-differ one two of_cell of_pin x y user =
       let both : true ≡ false = sym of_cell ∙ (ap is_cell_user user ∙ of_pin) in absurd cc
@@ -295,7 +295,7 @@ number_of (driver.Global g net) = 9
 number_of (driver.Link line) = 10
 number_of (driver.PinReg x y n) = 11
 
--- drivers of one kind, each apart from all behind it
+-- drivers of one kind, each distinct from all after it
 record IsOfKind (number : ℕ) (drives : List Drive) : Type 0 where
   apart : AreApart DriversDiffer drives
   all : All (λ drive. number_of drive.driver ≡ number) drives
@@ -518,7 +518,7 @@ module _ (fabric : Fabric) (parts : ArePartsApart fabric) where
       (then-kinds 6 _ _ carries-kind (then-kinds 7 _ _ sets-kind (then-kinds 8 _ _ (rams-kind fabric.rams parts.rams) (then-kinds 9 _ _ globals-kind
       (then-kinds 10 _ _ buffers-kind (last-kind 11 _ pin_registers-kind))))))))))).apart
 
--- the first two drivers of a class are two
+-- the first two drivers of a class of joined nets differ
 pub first-differ : (inputs : LutInputs) (db : Database) (image : Configuration) (class : ℕ) (one two : Drive) (rest : List Drive)
     → drivers_of (fabric_with inputs db image) class ≡ one ∷ two ∷ rest → one.driver ≢ two.driver
 unfolding drivers_of

@@ -112,7 +112,7 @@ pub record IsWithin (fabric : Fabric) : Type 0 where
   pub drives : (drive : Drive) → Contains (drives_of fabric) drive → drive.net < fabric.nets
   pub reads : (drive : Drive) → Contains (drives_of fabric) drive → (net : ℕ) → has (nets_read drive.rule) net ≡ true → net < fabric.nets
 
--- each class has one driver at most
+-- each class of joined nets has one driver at most
 abbrev pub HasSingleDrivers : Fabric → Type 0
 HasSingleDrivers fabric = (class : ℕ) → class < fabric.nets → length (drivers_of fabric class) ≤ 1
 
@@ -121,7 +121,7 @@ first_value : (ℕ → Bool) → State → List Bool → (ℕ → Bool) → List
 first_value connected state pins bit [] = false
 first_value connected state pins bit (drive ∷ drives) = value_of connected state pins bit drive.rule
 
--- the rule of each class: the value of its driver
+-- the rule of each class of joined nets: the value of its driver
 pub rules_of : Fabric → State → List Bool → Rules
 rules_of fabric state pins class value =
     first_value (is_connected fabric) state pins (λ net. value (class_of fabric.joins net)) (drivers_of fabric class)
@@ -228,7 +228,7 @@ module _ (fabric : Fabric) where
       joined-bit v same (further {a} {b} (inl forth) rest) = same a b forth ∙ joined-bit v same rest
       joined-bit v same (further {a} {b} (inr back) rest) = sym (same b a back) ∙ joined-bit v same rest
 
-      -- the bit of a class, and 0 where it has no driver
+      -- the bit of a class of joined nets; 0 if it has no driver
       pub class_bit : List Bool → ℕ → Bool
       class_bit v class = cond (is_driven fabric class) (bit_in v class) false
 

@@ -24,7 +24,7 @@ use Rattle.net_extract.specs.Found.{on_link, links_on}
 
 -- ---- one link by its bits
 
--- bits have the values of a number where they are its lowest bits
+-- bits have the values of a number if they are its lowest bits
 pub values-tell : (image : Configuration) (x y : ℕ) (bits : List RowCol) (values : ℕ) (result : Bool) → IsTrue result ↔ (listed_bits image x y bits ≡ word_bits (length bits) values)
     → result ≡ pointwise beq (bits_at image x y bits) (word_bits (length bits) values)
 values-tell image x y bits values result tells =

@@ -71,7 +71,7 @@ leads-joined class parents low high leads inside low_is high_is = record {
       ];
 }
 
--- the classes of two nets are one where the greater root has the lesser as its parent
+-- the classes of joined nets of two nets are merged once the greater root has the lesser as its parent
 pub leads-merged : (class : ℕ → ℕ) (parents : List ℕ) (a b low high : ℕ) → AreParents class parents → high < length parents → class low ≡ low → class high ≡ high
     → max (class a) (class b) ≡ high → min (class a) (class b) ≡ low → AreParents (merged class a b) (set parents high low)
 unfolding merged

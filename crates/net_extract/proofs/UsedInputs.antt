@@ -1,4 +1,4 @@
--- The value of a LUT looks at no input that the LUT doesn't use: where such an input reads 0, the value is the same.
+-- The value of a LUT doesn't depend on an input that the LUT doesn't use: if such an input reads 0 instead, the value is the same.
 use Rattle.std.proofs.Common.{◌≡◌, ℕ, zero, suc, ◌+◌, ◌*◌, ◌/◌, ◌%◌, ◌^◌, ◌<◌, ◌≤◌, ◌==◌, Bool, true, false, ◌&&◌, List, [], ◌∷◌, map, get_or, refl, sym, ap, ◌∙◌, arith, inl, inr, eq-eqb}
 use Rattle.std.specs.Prelude.{not, Option, None, if◌then◌else◌}
 use Rattle.std.specs.Bool.{beq}
@@ -37,7 +37,7 @@ value-small false = omega arith
 abbrev number_of : Bool → Bool → Bool → Bool → ℕ
 number_of a b c d = bit_value a + 2 * bit_value b + 4 * bit_value c + 8 * bit_value d
 
--- an input, or 0 where it isn't used
+-- an input, or 0 if it isn't used
 abbrev read_bit : ℕ → ℕ → Bool → Bool
 read_bit word k bit = if uses_input word k then bit else false
 
@@ -86,7 +86,7 @@ module _ (word : ℕ) where
       let set : number_of a b c true ≡ n + 2 ^ 3 = omega arith in
       ap (entry_of word) set ∙ sym (same-entries word 3 n unused (omega arith) (omega arith))
 
-  -- the entry is the same where each input that isn't used reads 0
+  -- the entry is the same if each input that isn't used reads 0
   entry-read : (a b c d : Bool)
       → entry_of word (number_of a b c d) ≡ entry_of word (number_of (read_bit word 0 a) (read_bit word 1 b) (read_bit word 2 c) (read_bit word 3 d))
   entry-read a b c d =
@@ -111,7 +111,7 @@ module _ (connected : ℕ → Bool) (pins : List Bool) (bit : ℕ → Bool) wher
   net-input (net ∷ ins) zero = refl
   net-input (net ∷ ins) (suc k) = net-input ins k
 
-  -- what comes to an input of the cell
+  -- the bit at an input of the cell
   abbrev came : Lc → ℕ → Bool
   came lc k = input_or_0 connected bit (get_or lc.ins k None)
 

@@ -205,7 +205,7 @@ cell_with_lut lut = record {
   sr = Some 6;
 }
 
--- its flip-flop, whose reset acts at once or waits for the clock
+-- its flip-flop, whose set or reset is asynchronous or synchronous
 abbrev register_with : Bool → Register
 register_with at_once = record (register_of read.All (cell_with_lut 0)) { at_once = at_once }
 
@@ -285,12 +285,12 @@ loop : design_fault read.All database_b (both (at 1 1 3 0 ∷ [])) ≡ Some (fau
 unfolding database_a database_b image_with digits word_bits word_of bytes_of blank flat rows_of row_from rows_from kind_of start_in standard_widths standard_side_columns standard_pad_columns standard_pad_rows standard_banks place_of word_place_of any_below least_below last_below first_below gathered_below net_at names_of_net function_place extra_place input_of pad_of are_set is_link_on is_function_on is_any_on is_extra_on over_grid is_read cell_places cell_bits entry_bits cell_with cells_at cells_of register_of registers_of pin_register pin_registers_of sets_of is_ram_used ram_at rams_of start_words pintype_of pin_with pins_of global_nets globals_of is_refused_with is_joined class_of numbered_from joins_of buffers_of fabric_with drives_of drivers_of is_driven nets_read lut_value settled_bit value_of next_bit written shown next_words next_register state_after settled_state outputs_of output_values wiring_of has leads_below is_on_cycle turn_at end_within clock_end users_of device_faults pll_faults pin_faults cascade_faults driver_faults loop_faults clock_faults pins_fault rams_fault fabric_fault design_fault
 loop = refl
 
--- it reads the input that it inverts: it is refused where it reads only what it uses too
+-- it reads the input that it inverts, so it is refused also if it reads only what it uses
 loop_used : design_fault read.Used database_b (both (at 1 1 3 0 ∷ [])) ≡ Some (fault.loop 1)
 unfolding database_a database_b image_with digits word_bits word_of bytes_of blank flat rows_of row_from rows_from kind_of start_in standard_widths standard_side_columns standard_pad_columns standard_pad_rows standard_banks place_of word_place_of any_below least_below last_below first_below gathered_below net_at names_of_net function_place extra_place input_of pad_of are_set is_link_on is_function_on is_any_on is_extra_on over_grid is_read cell_places cell_bits entry_bits cell_with cells_at cells_of uses_input register_of registers_of pin_register pin_registers_of sets_of is_ram_used ram_at rams_of start_words pintype_of pin_with pins_of global_nets globals_of is_refused_with is_joined class_of numbered_from joins_of buffers_of fabric_with drives_of drivers_of is_driven nets_read lut_value settled_bit value_of next_bit written shown next_words next_register state_after settled_state outputs_of output_values wiring_of has leads_below is_on_cycle turn_at end_within clock_end users_of device_faults pll_faults pin_faults cascade_faults driver_faults loop_faults clock_faults pins_fault rams_fault fabric_fault design_fault
 loop_used = refl
 
--- a LUT whose value comes to its in_2, which it doesn't use
+-- a LUT whose value is fed back to its in_2, which it doesn't use
 unused_loop : design_fault read.All database_f (both (at 1 1 3 0 ∷ [])) ≡ Some (fault.loop 1)
 unfolding database_a database_b database_f image_with digits word_bits word_of bytes_of blank flat rows_of row_from rows_from kind_of start_in standard_widths standard_side_columns standard_pad_columns standard_pad_rows standard_banks place_of word_place_of any_below least_below last_below first_below gathered_below net_at names_of_net function_place extra_place input_of pad_of are_set is_link_on is_function_on is_any_on is_extra_on over_grid is_read cell_places cell_bits entry_bits cell_with cells_at cells_of uses_input register_of registers_of pin_register pin_registers_of sets_of is_ram_used ram_at rams_of start_words pintype_of pin_with pins_of global_nets globals_of is_refused_with is_joined class_of numbered_from joins_of buffers_of fabric_with drives_of drivers_of is_driven nets_read lut_value settled_bit value_of next_bit written shown next_words next_register state_after settled_state outputs_of output_values wiring_of has leads_below is_on_cycle turn_at end_within clock_end users_of device_faults pll_faults pin_faults cascade_faults driver_faults loop_faults clock_faults pins_fault rams_fault fabric_fault design_fault
 unused_loop = refl
@@ -363,7 +363,7 @@ registered_drivers : map {B = Driver × ℕ} (λ drive. (drive.driver, drive.net
 unfolding database_a database_e image_with digits word_bits word_of bytes_of blank flat rows_of row_from rows_from kind_of start_in standard_widths standard_side_columns standard_pad_columns standard_pad_rows standard_banks place_of word_place_of any_below least_below last_below first_below gathered_below net_at names_of_net function_place extra_place input_of pad_of are_set is_link_on is_function_on is_any_on is_extra_on over_grid is_read cell_places cell_bits entry_bits cell_with cells_at cells_of register_of registers_of pin_register pin_registers_of sets_of is_ram_used ram_at rams_of start_words pintype_of pin_with pins_of global_nets globals_of is_refused_with is_joined class_of numbered_from joins_of buffers_of fabric_with drives_of drivers_of is_driven nets_read lut_value settled_bit value_of next_bit written shown next_words next_register state_after settled_state outputs_of output_values wiring_of has leads_below is_on_cycle turn_at end_within clock_end users_of device_faults pll_faults pin_faults cascade_faults driver_faults loop_faults clock_faults pins_fault rams_fault fabric_fault design_fault
 registered_drivers = refl
 
--- a pin that can be switched off has two outputs, the second of which is 1 where nothing drives it
+-- a tri-state pin has two outputs, the second of which is 1 if nothing drives it
 switched : map {B = Bool × Rule} (λ output. (output.enable, output.rule))
     (outputs_of (fabric_of database_a (image_with (at 0 1 0 0 ∷ at 0 2 0 0 ∷ at 0 2 3 0 ∷ at 0 2 5 0 ∷ at 0 2 6 0 ∷ (lut_i ++ at 1 1 2 0 ∷ [])))))
     ≡ (false, input false (Some 3)) ∷ (true, input true None) ∷ []
@@ -440,7 +440,7 @@ pin_and_ram : design_fault read.All database_c (both (at 3 1 0 0 ∷ [])) ≡ So
 unfolding database_a database_b database_c image_with digits word_bits word_of bytes_of blank flat rows_of row_from rows_from kind_of start_in standard_widths standard_side_columns standard_pad_columns standard_pad_rows standard_banks place_of word_place_of any_below least_below last_below first_below gathered_below net_at names_of_net function_place extra_place input_of pad_of are_set is_link_on is_function_on is_any_on is_extra_on over_grid is_read cell_places cell_bits entry_bits cell_with cells_at cells_of register_of registers_of pin_register pin_registers_of sets_of is_ram_used ram_at rams_of start_words pintype_of pin_with pins_of global_nets globals_of is_refused_with is_joined class_of numbered_from joins_of buffers_of fabric_with drives_of drivers_of is_driven nets_read lut_value settled_bit value_of next_bit written shown next_words next_register state_after settled_state outputs_of output_values wiring_of has leads_below is_on_cycle turn_at end_within clock_end users_of device_faults pll_faults pin_faults cascade_faults driver_faults loop_faults clock_faults pins_fault rams_fault fabric_fault design_fault
 pin_and_ram = refl
 
--- the clock of a RAM is inverted in the upper tile, where its name stands
+-- the clock of a RAM is inverted in the upper tile, where its name is found
 ram_clock : map {B = Bool × Bool × Option ℕ} (λ ram. (ram.rneg, ram.wneg, ram.rclk)) (rams_of database_c (both (at 3 1 0 0 ∷ at 3 2 4 0 ∷ []))) ≡ (true, false, Some 4) ∷ []
 unfolding database_a database_b database_c image_with digits word_bits word_of bytes_of blank flat rows_of row_from rows_from kind_of start_in standard_widths standard_side_columns standard_pad_columns standard_pad_rows standard_banks place_of word_place_of any_below least_below last_below first_below gathered_below net_at names_of_net function_place extra_place input_of pad_of are_set is_link_on is_function_on is_any_on is_extra_on over_grid is_read cell_places cell_bits entry_bits cell_with cells_at cells_of register_of registers_of pin_register pin_registers_of sets_of is_ram_used ram_at rams_of start_words pintype_of pin_with pins_of global_nets globals_of is_refused_with is_joined class_of numbered_from joins_of buffers_of fabric_with drives_of drivers_of is_driven nets_read lut_value settled_bit value_of next_bit written shown next_words next_register state_after settled_state outputs_of output_values wiring_of has leads_below is_on_cycle turn_at end_within clock_end users_of device_faults pll_faults pin_faults cascade_faults driver_faults loop_faults clock_faults pins_fault rams_fault fabric_fault design_fault
 ram_clock = refl
@@ -460,7 +460,7 @@ bad_pad : pins_fault database_c (record (blank_image (standard_layout K1)) { cra
 unfolding database_a database_b database_c image_with digits word_bits word_of bytes_of blank flat rows_of row_from rows_from kind_of start_in standard_widths standard_side_columns standard_pad_columns standard_pad_rows standard_banks place_of word_place_of any_below least_below last_below first_below gathered_below net_at names_of_net function_place extra_place input_of pad_of are_set is_link_on is_function_on is_any_on is_extra_on over_grid is_read cell_places cell_bits entry_bits cell_with cells_at cells_of register_of registers_of pin_register pin_registers_of sets_of is_ram_used ram_at rams_of start_words pintype_of pin_with pins_of global_nets globals_of is_refused_with is_joined class_of numbered_from joins_of buffers_of fabric_with drives_of drivers_of is_driven nets_read lut_value settled_bit value_of next_bit written shown next_words next_register state_after settled_state outputs_of output_values wiring_of has leads_below is_on_cycle turn_at end_within clock_end users_of device_faults pll_faults pin_faults cascade_faults driver_faults loop_faults clock_faults pins_fault rams_fault fabric_fault design_fault
 bad_pad = refl
 
--- routings join both ways: 3, 7 and 8 are one class
+-- routings join both ways: 3, 7 and 8 are one class of joined nets
 classes : map (class_of ((7, 3) ∷ (3, 8) ∷ [])) (0 ∷ 3 ∷ 7 ∷ 8 ∷ []) ≡ 0 ∷ 3 ∷ 3 ∷ 3 ∷ []
 unfolding image_with digits word_bits word_of bytes_of blank flat rows_of row_from rows_from kind_of start_in standard_widths standard_side_columns standard_pad_columns standard_pad_rows standard_banks place_of word_place_of any_below least_below last_below first_below gathered_below net_at names_of_net function_place extra_place input_of pad_of are_set is_link_on is_function_on is_any_on is_extra_on over_grid is_read cell_places cell_bits entry_bits cell_with cells_at cells_of register_of registers_of pin_register pin_registers_of sets_of is_ram_used ram_at rams_of start_words pintype_of pin_with pins_of global_nets globals_of is_refused_with is_joined class_of numbered_from joins_of buffers_of fabric_with drives_of drivers_of is_driven nets_read lut_value settled_bit value_of next_bit written shown next_words next_register state_after settled_state outputs_of output_values wiring_of has leads_below is_on_cycle turn_at end_within clock_end users_of device_faults pll_faults pin_faults cascade_faults driver_faults loop_faults clock_faults pins_fault rams_fault fabric_fault design_fault
 classes = refl
@@ -493,12 +493,12 @@ uses_first : uses 21845 ≡ true ∷ false ∷ false ∷ false ∷ []
 unfolding uses_input any_below word_bits
 uses_first = refl
 
--- one that is 1 where an odd number of in_0, in_1 and in_3 is
+-- one that is 1 if an odd number of in_0, in_1 and in_3 is 1
 uses_three : uses 39270 ≡ true ∷ true ∷ false ∷ true ∷ []
 unfolding uses_input any_below word_bits
 uses_three = refl
 
--- one that is 1 where all inputs are: one entry differs from its neighbours
+-- one that is 1 if all inputs are 1: one entry differs from its neighbours
 uses_each : uses 32768 ≡ true ∷ true ∷ true ∷ true ∷ []
 unfolding uses_input any_below word_bits
 uses_each = refl
@@ -530,12 +530,12 @@ unused_value : lut_value (λ net. true) [] (λ net. (net == 0) || (net == 2)) (t
 unfolding uses_input any_below word_bits lut_value
 unused_value = refl
 
--- a reset doesn't act where the enable is 0
+-- a synchronous reset doesn't act if the clock enable is 0
 reset_disabled : next_bit (λ net. true) [] (λ net. net == 6) (register_with false) false ≡ false
 unfolding image_with digits word_bits word_of bytes_of blank flat rows_of row_from rows_from kind_of start_in standard_widths standard_side_columns standard_pad_columns standard_pad_rows standard_banks place_of word_place_of any_below least_below last_below first_below gathered_below net_at names_of_net function_place extra_place input_of pad_of are_set is_link_on is_function_on is_any_on is_extra_on over_grid is_read cell_places cell_bits entry_bits cell_with cells_at cells_of register_of registers_of pin_register pin_registers_of sets_of is_ram_used ram_at rams_of start_words pintype_of pin_with pins_of global_nets globals_of is_refused_with is_joined class_of numbered_from joins_of buffers_of fabric_with drives_of drivers_of is_driven nets_read lut_value settled_bit value_of next_bit written shown next_words next_register state_after settled_state outputs_of output_values wiring_of has leads_below is_on_cycle turn_at end_within clock_end users_of device_faults pll_faults pin_faults cascade_faults driver_faults loop_faults clock_faults pins_fault rams_fault fabric_fault design_fault
 reset_disabled = refl
 
--- it acts where the enable has no driver
+-- it acts if the clock enable has no driver
 reset_enabled : next_bit (λ net. not (net == 5)) [] (λ net. net == 6) (register_with false) false ≡ true
 unfolding image_with digits word_bits word_of bytes_of blank flat rows_of row_from rows_from kind_of start_in standard_widths standard_side_columns standard_pad_columns standard_pad_rows standard_banks place_of word_place_of any_below least_below last_below first_below gathered_below net_at names_of_net function_place extra_place input_of pad_of are_set is_link_on is_function_on is_any_on is_extra_on over_grid is_read cell_places cell_bits entry_bits cell_with cells_at cells_of register_of registers_of pin_register pin_registers_of sets_of is_ram_used ram_at rams_of start_words pintype_of pin_with pins_of global_nets globals_of is_refused_with is_joined class_of numbered_from joins_of buffers_of fabric_with drives_of drivers_of is_driven nets_read lut_value settled_bit value_of next_bit written shown next_words next_register state_after settled_state outputs_of output_values wiring_of has leads_below is_on_cycle turn_at end_within clock_end users_of device_faults pll_faults pin_faults cascade_faults driver_faults loop_faults clock_faults pins_fault rams_fault fabric_fault design_fault
 reset_enabled = refl

@@ -6,7 +6,7 @@ use Rattle.chipdb_reader.specs.Fit.{IsFit}
 use Rattle.chipdb_reader.specs.Kept.{Kept, database_in}
 use Rattle.net_extract.specs.Links.{LinkSet, AreLinks, is_read_in}
 
--- whether a net that may be missing is read
+-- whether a net is read; false if it is missing
 abbrev pub is_some_read_in : LinkSet → Option ℕ → Bool
 is_some_read_in links None = false
 is_some_read_in links (Some net) = is_read_in links net

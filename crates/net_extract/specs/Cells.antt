@@ -1,4 +1,4 @@
--- Logic cells: the bits of each, the cells that are used, and carry inputs that are set.
+-- Logic cells: the bits of each, the cells that are used, and carry inputs that are set (Project IceStorm, 'LOGIC Tile').
 use Rattle.std.specs.Prelude.{ℕ, zero, suc, Bool, false, ◌&&◌, List, [], ◌∷◌, ◌++◌, map, get_or, codes, if◌then◌else◌, Option, Some, None}
 use Rattle.std.specs.List.{list_any}
 use Rattle.bit_plane.specs.BitList.{word_of}
@@ -20,7 +20,7 @@ use Rattle.net_extract.specs.Nets.{net_named, with_number, ending_in}
 abbrev pub cell_name : ℕ → List ℕ
 cell_name i = ending_in (codes "LC_") i
 
--- the rows and columns that a function lists, and none where it isn't there
+-- the rows and columns that a function lists, and none if the function is missing
 abbrev pub bits_of_line : Option FunctionLine → List RowCol
 bits_of_line None = []
 bits_of_line (Some function) = function.bits
@@ -33,15 +33,15 @@ cell_places db i = bits_of_line (function_named db Logic (cell_name i))
 unfoldable pub cell_bits : Database → Configuration → ℕ → ℕ → ℕ → List Bool
 cell_bits db image x y i = bits_at image x y (cell_places db i)
 
--- one of them
+-- bit k of a cell's bits; 0 if it is missing
 abbrev pub cell_bit : List Bool → ℕ → Bool
 cell_bit bits k = get_or bits k false
 
--- the numbers of the bits that are entries 0 to 15 of the LUT
+-- the numbers of the bits that are entries 0 to 15 of the LUT (Project IceStorm, 'LOGIC Tile')
 unfoldable pub entry_bits : List ℕ
 entry_bits = 4 ∷ 14 ∷ 15 ∷ 5 ∷ 6 ∷ 16 ∷ 17 ∷ 7 ∷ 3 ∷ 13 ∷ 12 ∷ 2 ∷ 1 ∷ 11 ∷ 10 ∷ 0 ∷ []
 
--- the number that some of the bits of a cell make, the first of them the lowest
+-- the number that some of the bits of a cell form, the first of them the lowest
 abbrev pub number_of : List ℕ → List Bool → ℕ
 number_of numbers bits = word_of (map (cell_bit bits) numbers)
 
@@ -49,7 +49,7 @@ number_of numbers bits = word_of (map (cell_bit bits) numbers)
 abbrev pub lut_of : List Bool → ℕ
 lut_of bits = number_of entry_bits bits
 
--- the numbers of the bits that enable the carry and the flip-flop, that let a reset set, and that let it act at once
+-- the numbers of the bits `CarryEnable`, `DffEnable`, `Set_NoReset` and `AsyncSetReset` (Project IceStorm, 'LOGIC Tile')
 unfoldable pub flag_bits : List ℕ
 flag_bits = 8 ∷ 9 ∷ 18 ∷ 19 ∷ []
 
@@ -57,46 +57,49 @@ flag_bits = 8 ∷ 9 ∷ 18 ∷ 19 ∷ []
 abbrev pub flags_of : List Bool → ℕ
 flags_of bits = number_of flag_bits bits
 
+-- whether the carry of the cell is on: `CarryEnable`
 abbrev pub has_carry : List Bool → Bool
 has_carry bits = cell_bit bits 8
 
+-- whether the cell has a flip-flop: `DffEnable`
 abbrev pub has_flip : List Bool → Bool
 has_flip bits = cell_bit bits 9
 
--- whether a reset sets
+-- whether the flip-flop's set or reset is a set: `Set_NoReset`
 abbrev pub is_setting : List Bool → Bool
 is_setting bits = cell_bit bits 18
 
--- whether a reset acts at once, without a clock
+-- whether the set or reset is asynchronous: `AsyncSetReset`
 abbrev pub is_asynchronous : List Bool → Bool
 is_asynchronous bits = cell_bit bits 19
 
--- a cell is used where one of its bits is 1
+-- a cell is used if one of its bits is 1
 abbrev pub is_used : List Bool → Bool
 is_used bits = list_any (λ bit. bit) bits
 
--- a flip-flop whose reset acts at once, without a clock
+-- a flip-flop with an asynchronous set or reset
 abbrev pub is_at_once : List Bool → Bool
 is_at_once bits = has_flip bits && is_asynchronous bits
 
 -- ---- the nets of a cell
 
--- the net of cell i that has the name `lutff_i/` and so on
+-- the net of a port of cell i, such as `lutff_i/out`
 abbrev pub lutff_net : Database → ℕ → ℕ → ℕ → List ℕ → Option ℕ
 lutff_net db x y i port = net_named db x y (with_number (codes "lutff_") i port)
 
--- the net of a name `lutff_global/` and so on, which the cells of a tile share
+-- the net of a port that the cells of a tile share, such as `lutff_global/clk`
 abbrev pub shared_net : Database → ℕ → ℕ → List ℕ → Option ℕ
 shared_net db x y port = net_named db x y (codes "lutff_global/" ++ port)
 
--- the carry in: that of cell 0 is the tile's, and that of any other cell is the carry out of the cell before
+-- the carry-in: `carry_in_mux` of the tile for cell 0, and the carry-out of the cell before for any other cell
 abbrev pub carry_in_net : Database → ℕ → ℕ → ℕ → Option ℕ
 carry_in_net db x y zero = net_named db x y (codes "carry_in_mux")
 carry_in_net db x y (suc i) = lutff_net db x y i (codes "/cout")
 
 -- ---- cells
 
--- cell i of the tile at (x, y), which has these bits
+-- cell i of the tile at (x, y), which has these bits: an `SB_LUT4`, an `SB_CARRY`, and an `SB_DFF` or one of its forms with clock enable,
+-- set or reset
 unfoldable pub cell_with : Database → Configuration → ℕ → ℕ → ℕ → List Bool → Lc
 cell_with db image x y i bits = record {
   x = x;
@@ -118,7 +121,7 @@ cell_with db image x y i bits = record {
   sr = shared_net db x y (codes "s_r");
 }
 
--- cell i where it is used
+-- cell i if it is used
 abbrev pub used_cell : Database → Configuration → ℕ → ℕ → ℕ → List Lc
 used_cell db image x y i =
     let bits = cell_bits db image x y i in
@@ -138,7 +141,7 @@ abbrev pub set_with : ℕ → ℕ → Option ℕ → List CarrySet
 set_with x y None = []
 set_with x y (Some net) = record { x = x; y = y; net = net } ∷ []
 
--- the net `carry_in_mux` of a tile where `CarryInSet` is on
+-- the net `carry_in_mux` of a tile if `CarryInSet` is on
 abbrev pub sets_at : Database → Configuration → ℕ → ℕ → List CarrySet
 sets_at db image x y = if is_function_on db image Logic x y (codes "CarryInSet") then set_with x y (net_named db x y (codes "carry_in_mux")) else []
 

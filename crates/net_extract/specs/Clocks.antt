@@ -1,4 +1,4 @@
--- Where clocks come from, and what uses them.
+-- Where clocks come from, and what uses them. A clock chain leads from a clock net, driver by driver, to the clock's source.
 use Rattle.std.specs.Prelude.{◌≡◌, ℕ, zero, suc, ◌&&◌, List, [], ◌∷◌, ◌++◌, map, flat_map, filter, ◌==◌, Option}
 use Rattle.plane_map.specs.declared.device.DeviceName.{DeviceName}
 use Rattle.net_extract.specs.declared.register.Register.{Register}
@@ -13,18 +13,18 @@ use Rattle.net_extract.specs.Drivers.Rule.{pin_bit, copied}
 
 -- ---- chains
 
--- where a chain ends: at the input pin of that place, at a class without a driver, or at any other driver
+-- where a clock chain ends: at the input pin with that index, at a class of joined nets without a driver, or at any other driver
 pub data ClockEnd : Type 0 where
   at_pin : ℕ → ClockEnd
   undriven : ClockEnd
   logic : ClockEnd
 
--- what a chain does at a class: it ends, or goes on to the class of another net
+-- what a clock chain does at a class of joined nets: it ends, or goes on to the class of another net
 pub data Turn : Type 0 where
   ends : ClockEnd → Turn
   goes_to : ℕ → Turn
 
--- A chain goes on from a buffer, and from a global that a net `fabout` drives, to the source. An input pin and a pad end it.
+-- A buffer, and a global network that a net `fabout` drives, lead the chain on to their source. An input pin and a pad end it.
 abbrev pub turn_by : Rule → Turn
 turn_by (pin_bit place) = ends (at_pin place)
 turn_by (copied net) = goes_to net
@@ -34,23 +34,23 @@ abbrev pub turn_of : List Drive → Turn
 turn_of [] = ends undriven
 turn_of (drive ∷ drives) = turn_by drive.rule
 
--- what a chain does at a class
+-- what a clock chain does at a class of joined nets
 unfoldable pub turn_at : Fabric → ℕ → Turn
 turn_at fabric class = turn_of (drivers_of fabric class)
 
--- the chain from a class comes to an end
+-- the clock chain from a class of joined nets has this end
 pub data LeadsTo (fabric : Fabric) : ℕ → ClockEnd → Type 0 where
   ends_here : {class : ℕ} {end : ClockEnd} → turn_at fabric class ≡ ends end → LeadsTo fabric class end
   goes_on : {class : ℕ} {end : ClockEnd} (net : ℕ) → turn_at fabric class ≡ goes_to net
       → LeadsTo fabric (class_of fabric.joins net) end → LeadsTo fabric class end
 
--- where a chain ends, by what it does at a class and where it ends from another class on
+-- where a clock chain ends, from what it does at a class of joined nets and from where it ends if it goes on to another net
 abbrev pub end_by : (ℕ → ClockEnd) → Turn → ClockEnd
 end_by later (ends end) = end
 end_by later (goes_to net) = later net
 
--- Where the chain from a class ends that comes to so many classes at most. One that comes to more classes than there are nets
--- comes back to a class, and counts as another end: a fabric with such a cycle isn't taken.
+-- Where the clock chain from a class of joined nets ends if it passes at most this many classes; a longer chain counts as one that ends
+-- at another driver than a pin. A chain that passes more classes than there are nets is a cycle, and a fabric with a cycle isn't taken.
 unfoldable pub end_within : Fabric → ℕ → ℕ → ClockEnd
 end_within fabric zero class = logic
 end_within fabric (suc more) class = end_by (λ net. end_within fabric more (class_of fabric.joins net)) (turn_at fabric class)
@@ -68,11 +68,11 @@ pub record User : Type 0 where
   pub user : ClockUser
   pub net : Option ℕ
 
--- a register
+-- a register as a user of its clock
 abbrev pub register_user : Register → User
 register_user register = record { x = register.x; y = register.y; user = register.user; net = register.clk }
 
--- the ports of a RAM: the read port goes first
+-- the ports of a RAM as users of their clocks: the read port comes first
 abbrev pub ram_users : RamCell → List User
 ram_users ram =
     record { x = ram.x; y = ram.y; user = Read; net = ram.rclk }

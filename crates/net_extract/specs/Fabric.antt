@@ -16,14 +16,14 @@ use Rattle.net_extract.specs.Rams.{rams_of, over_rams, start_words}
 use Rattle.net_extract.specs.Pins.{pins_of, globals_of}
 use Rattle.net_extract.specs.Registers.{registers_of, pin_registers_of}
 
--- a buffer that is on, by its place among the database's buffers
+-- a buffer that is on, by its index among the database's buffers, and its two nets
 pub record Buffer : Type 0 where
   pub line : ℕ
   pub src : ℕ
   pub dst : ℕ
 
--- The nets are the numbers below `nets`. Each list is in the order of tiles, buffers in that of the database. The registers are the
--- flip-flops of the cells, then those of pins. `lut_inputs` tells which inputs the LUTs of the cells read.
+-- The nets are the numbers below `nets`. Each list is in the order of tiles, but buffers are in the order of the database. The registers
+-- are the flip-flops of the cells, then the registers of pins. `lut_inputs` says which inputs the LUTs of the cells read.
 pub record Fabric : Type 0 where
   pub nets : ℕ
   pub joins : List (ℕ × ℕ)
@@ -37,14 +37,14 @@ pub record Fabric : Type 0 where
   pub rams : List RamCell
   pub start : List (List (List Bool))
 
--- ---- items with their places
+-- ---- items with their indexes
 
--- the items of a list with their places, counted from a number on
+-- the items of a list with their indexes, counted from a number on
 unfoldable pub numbered_from : {A : Type 0} → ℕ → List A → List (ℕ × A)
 numbered_from place [] = []
 numbered_from place (item ∷ items) = (place, item) ∷ numbered_from (suc place) items
 
--- the items of a list with their places
+-- the items of a list with their indexes
 abbrev pub numbered : {A : Type 0} → List A → List (ℕ × A)
 numbered items = numbered_from 0 items
 
@@ -63,7 +63,7 @@ buffers_of db image = map buffer_of (filter (λ place. is_link_on image place.1)
 
 -- ---- the whole
 
--- what a database and an image configure, where the LUTs read these inputs
+-- what a database and an image configure, if the LUTs read these inputs
 unfoldable pub fabric_with : LutInputs → Database → Configuration → Fabric
 fabric_with inputs db image = record {
   nets = db.chip.nets;
@@ -79,7 +79,7 @@ fabric_with inputs db image = record {
   start = over_rams db image (λ x y. start_words image x y ∷ []);
 }
 
--- what a database and an image configure: LUTs read all of their inputs
+-- what a database and an image configure, if the LUTs read all of their inputs
 abbrev pub fabric_of : Database → Configuration → Fabric
 fabric_of db image = fabric_with read.All db image
 

@@ -1,5 +1,5 @@
--- For which cause a database and an image aren't taken: the first cause, with the least that has it. Each list of faults is in
--- the order of what has them.
+-- Why a database and an image aren't taken: the first cause that holds, with the first tile, pin, net or user that has it. Each list of
+-- faults is in the order of the tiles, pins, nets or users.
 use Rattle.std.specs.Prelude.{ℕ, List, [], ◌∷◌, flat_map, if◌then◌else◌, Option, Some, None}
 use Rattle.plane_map.specs.declared.device.DeviceName.{DeviceName}
 use Rattle.plane_map.specs.Devices.{is_same_device}
@@ -19,7 +19,7 @@ use Rattle.net_extract.specs.Wiring.{Wiring, wiring_of, is_on_cycle}
 use Rattle.net_extract.specs.Clocks.{ClockEnd, User, users_of, clock_end}
 use Rattle.net_extract.specs.Clocks.ClockEnd.{at_pin, undriven, logic}
 
--- a cause with what has it
+-- a cause, and what has it
 pub data Fault : Type 0 where
   -- the devices differ
   other_device : Fault
@@ -27,13 +27,13 @@ pub data Fault : Type 0 where
   pll : (x y : ℕ) → Fault
   -- a pin of a type that isn't taken
   pin_mode : (x y n pintype : ℕ) → Fault
-  -- a RAM that passes on its address
+  -- a RAM that is cascaded
   cascade : (x y : ℕ) → Fault
-  -- a class with two drivers or more, and the first two
+  -- a class of joined nets with two drivers or more, and the first two
   two_drivers : (net : ℕ) (first second : Driver) → Fault
-  -- a class that lies on a cycle
+  -- a class of joined nets that lies on a combinational cycle
   loop : (net : ℕ) → Fault
-  -- a user of a clock that comes from another driver than a pin
+  -- a user of a clock whose clock comes from another driver than a pin
   clock : (x y : ℕ) (user : ClockUser) (net : ℕ) → Fault
 
 -- ---- devices
@@ -65,11 +65,11 @@ abbrev pub drivers_fault : ℕ → List Drive → List Fault
 drivers_fault class (first ∷ second ∷ others) = two_drivers class first.driver second.driver ∷ []
 drivers_fault class drives = []
 
--- classes with two drivers or more
+-- classes of joined nets with two drivers or more
 unfoldable pub driver_faults : Fabric → List Fault
 driver_faults fabric = gathered_below fabric.nets (λ class. drivers_fault class (drivers_of fabric class))
 
--- classes that lie on a cycle
+-- classes of joined nets that lie on a combinational cycle
 unfoldable pub loop_faults : Wiring → List Fault
 loop_faults wiring = gathered_below wiring.count (λ class. item_if (is_on_cycle wiring class) (loop class))
 
@@ -91,7 +91,7 @@ clock_faults device fabric = flat_map (λ user. user_fault fabric user user.net)
 
 -- ---- the first cause
 
--- what is wrong with pins: the first cause, with its least tile or pin
+-- what is wrong with pins: the first cause, with the first tile or pin that has it
 unfoldable pub pins_fault : Database → Configuration → Option Fault
 pins_fault db image = or_else (first_of (pll_faults db image)) (first_of (pin_faults db image))
 
@@ -106,7 +106,7 @@ fabric_fault device fabric =
     (or_else (first_of (loop_faults (wiring_of fabric)))
     (first_of (clock_faults device fabric)))
 
--- why a database and an image aren't taken, where the LUTs read these inputs
+-- why a database and an image aren't taken, if the LUTs read these inputs
 unfoldable pub design_fault : LutInputs → Database → Configuration → Option Fault
 design_fault inputs db image =
     or_else (first_of (device_faults db image))

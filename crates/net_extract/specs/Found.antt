@@ -6,15 +6,15 @@ use Rattle.net_extract.specs.On.{is_link_on}
 use Rattle.net_extract.specs.Fabric.{numbered}
 use Rattle.net_extract.specs.declared.on.OnLink.{OnLink}
 
--- a link with its place
+-- a link with its index
 abbrev pub on_link : ℕ × Link → OnLink
 on_link place = record { place = place.0; src = place.1.src; dst = place.1.dst }
 
--- the links that are on, with their places
+-- the links that are on, with their indexes
 unfoldable pub links_on : Configuration → List Link → List OnLink
 links_on image links = map on_link (filter (λ place. is_link_on image place.1) (numbered links))
 
--- the two nets of each
+-- the two nets of each link
 abbrev pub ends_of : List OnLink → List (ℕ × ℕ)
 ends_of links = map (λ link. (link.src, link.dst)) links
 

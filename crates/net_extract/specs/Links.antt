@@ -1,4 +1,4 @@
--- What is kept of links and nets, and when it is that of a database and an image.
+-- What is kept of links and nets, and when it is what a database and an image configure.
 use Rattle.std.specs.Prelude.{◌≡◌, ℕ, Bool, false, List, length, map, filter, slice_index_or}
 use Rattle.ice_image.specs.Configuration.{Configuration}
 use Rattle.chipdb_reader.specs.Database.{Database, Link}
@@ -7,26 +7,26 @@ use Rattle.net_extract.specs.Nets.{is_read}
 use Rattle.net_extract.specs.Joins.{class_of}
 use Rattle.net_extract.specs.Fabric.{numbered, joins_of}
 
--- the places of the buffers and of the routings that are on, and for each net its class and whether it is read
+-- the indexes of the buffers and of the routings that are on, and for each net its class of joined nets and whether it is read
 pub record LinkSet : Type 0 where
   pub buffers : List ℕ
   pub routings : List ℕ
   pub classes : List ℕ
   pub reads : List Bool
 
--- the places of the links that are on, rising
+-- the indexes of the links that are on, in ascending order
 unfoldable pub places_on : Configuration → List Link → List ℕ
 places_on image links = map (λ place. place.0) (filter (λ place. is_link_on image place.1) (numbered links))
 
--- the class of a net; a number that isn't one of a net is a class by itself
+-- the class of joined nets that a net belongs to; the number itself if there is no such net
 abbrev pub class_in : LinkSet → ℕ → ℕ
 class_in links net = slice_index_or links.classes net net
 
--- whether a net is read; a number that isn't one of a net isn't
+-- whether a net is read; false if there is no such net
 abbrev pub is_read_in : LinkSet → ℕ → Bool
 is_read_in links net = slice_index_or links.reads net false
 
--- what is kept is what the rules of a fabric say of this database and this image
+-- what is kept agrees with the rules of a fabric for this database and this image
 pub record AreLinks (db : Database) (image : Configuration) (links : LinkSet) : Type 0 where
   pub nets : length links.classes ≡ db.chip.nets
   pub buffers : links.buffers ≡ places_on image db.buffers

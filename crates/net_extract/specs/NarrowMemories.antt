@@ -1,4 +1,4 @@
--- A RAM of a narrow mode is a memory of narrow words, in each run of a fabric.
+-- A RAM (`SB_RAM40_4K`) in a narrow mode works as a memory of narrow words, in each run of a fabric.
 use Rattle.std.specs.Prelude.{◌≡◌, ℕ, ◌+◌, ◌*◌, ◌/◌, ◌<◌, Bool, true, false, ◌&&◌, ◌==◌, List, [], ◌∷◌, take, get_or, length, All, Option, None, if◌then◌else◌}
 use Rattle.ice_image.specs.Configuration.{Configuration}
 use Rattle.chipdb_reader.specs.Database.{Database}
@@ -10,7 +10,7 @@ use Rattle.net_extract.specs.Steps.{Event, Entry, IsRun, address_of, bit_of_word
 
 -- ---- narrow words
 
--- bit d of the narrow word at an address of a RAM's words
+-- bit d of the narrow word at an address in a RAM's words
 abbrev pub narrow_in : ℕ → List (List Bool) → ℕ → ℕ → Bool
 narrow_in mode words address d = narrow_bit mode (λ a. bit_of_word (word_at words a)) address d
 
@@ -32,17 +32,17 @@ given_bit connected bit ram d = input_or_0 connected bit (get_or ram.wdata (port
 abbrev pub AreWords : List (List Bool) → Type 0
 AreWords words = (length words ≡ 256) × All (λ word. length word ≡ 16) words
 
--- the words and the read register of the RAM at a place
+-- the words and the read register of the used RAM with an index
 abbrev pub words_in : State → ℕ → List (List Bool)
 words_in state place = get_or state.words place []
 
 abbrev pub read_in : State → ℕ → List Bool
 read_in state place = get_or state.reads place []
 
--- ---- what an event does to the RAM at a place, between an entry and the next one
+-- ---- what an event does to a RAM, from one entry to the next
 
--- At a write edge of a narrow mode with both enables, the narrow word at the address becomes what is given, and every other narrow word
--- stays.
+-- At a write edge with both enables, in a narrow mode, the narrow word at the write address becomes the write data, and every other narrow
+-- word stays as it is.
 abbrev pub WritesNarrow : Fabric → Entry → Entry → ℕ × RamCell → Type 0
 WritesNarrow fabric before after place =
     let connected = is_connected fabric in
@@ -55,8 +55,8 @@ WritesNarrow fabric before after place =
     ≡ (if address == narrow_address connected bit ram.write ram.waddr then given_bit connected bit ram d
     else narrow_in ram.write (words_in before.state place.0) address d)
 
--- At a read edge of a narrow mode with both enables, bit `share * d` of the read register becomes bit d of the narrow word at the address,
--- as it was before the event.
+-- At a read edge with both enables, in a narrow mode, bit `share * d` of the read register becomes bit d of the narrow word at the read
+-- address, as it was before the event.
 abbrev pub ReadsNarrow : Fabric → Entry → Entry → ℕ × RamCell → Type 0
 ReadsNarrow fabric before after place =
     let connected = is_connected fabric in
@@ -68,7 +68,7 @@ ReadsNarrow fabric before after place =
     → get_or (read_in after.state place.0) (share ram.read * d) false
     ≡ narrow_in ram.read (words_in before.state place.0) (narrow_address connected bit ram.read ram.raddr) d
 
--- At a read edge without both enables the read register stays.
+-- At a read edge at which one of the two enables is 0, the read register stays as it is.
 abbrev pub KeepsRead : Fabric → Entry → Entry → ℕ × RamCell → Type 0
 KeepsRead fabric before after place =
     let connected = is_connected fabric in
@@ -90,8 +90,8 @@ abbrev pub EachStep : (Entry → Entry → Type 0) → Entry → List Entry → 
 EachStep Holds entry [] = Unit {0}
 EachStep Holds entry (next ∷ entries) = Holds entry next × EachStep Holds next entries
 
--- In each run of the fabric of a database and an image each used RAM has 256 words of 16 bits after the start and after each event, and is a
--- memory of narrow words at the ports of a narrow mode.
+-- In each run of the fabric of a database and an image, each used RAM has 256 words of 16 bits after the start and after each event, and it
+-- works as a memory of narrow words at each port in a narrow mode.
 abbrev pub RamsAreMemories : Database → Configuration → Type 0
 RamsAreMemories db image =
     let fabric = fabric_of db image in

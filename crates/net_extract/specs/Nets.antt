@@ -1,4 +1,4 @@
--- Nets by their names, and the nets that are read.
+-- Nets by their names (Project IceStorm, 'icebox chip database'), and the nets that are read.
 use Rattle.std.specs.Prelude.{ℕ, Bool, false, ◌&&◌, ◌||◌, List, ◌++◌, decimal, ◌==◌, Option, Some, None}
 use Rattle.std.specs.List.{list_any}
 use Rattle.ice_image.specs.Configuration.{Configuration}
@@ -6,17 +6,17 @@ use Rattle.chipdb_reader.specs.Database.{Database, Link}
 use Rattle.chipdb_reader.specs.Lookups.{net_at}
 use Rattle.net_extract.specs.On.{is_link_on}
 
--- the net that has the name at (x, y), where there is one
+-- the net that has the name at (x, y), if there is one
 abbrev pub net_named : Database → ℕ → ℕ → List ℕ → Option ℕ
 net_named db x y name = net_at x y name db.names
 
 -- ---- names with numbers
 
--- a name with a number in it, as `io_1/D_IN_0`
+-- a name with a number in it, such as `io_1/D_IN_0`
 abbrev pub with_number : List ℕ → ℕ → List ℕ → List ℕ
 with_number before n after = before ++ (decimal n ++ after)
 
--- a name with a number at its end, as `ram/MASK_7`
+-- a name with a number at its end, such as `ram/MASK_7`
 abbrev pub ending_in : List ℕ → ℕ → List ℕ
 ending_in before n = before ++ decimal n
 
@@ -30,11 +30,11 @@ is_source image net link = is_link_on image link && (link.src == net)
 abbrev pub is_end : Configuration → ℕ → Link → Bool
 is_end image net link = is_link_on image link && ((link.src == net) || (link.dst == net))
 
--- a net is read where it is the source of a buffer that is on, or an end of a routing that is on
+-- a net is read if it is the source of a buffer that is on, or an end of a routing that is on
 unfoldable pub is_read : Database → Configuration → ℕ → Bool
 is_read db image net = list_any (is_source image net) db.buffers || list_any (is_end image net) db.routings
 
--- the same of a net that may be missing
+-- whether a net is read; false if it is missing
 abbrev pub is_some_read : Database → Configuration → Option ℕ → Bool
 is_some_read db image None = false
 is_some_read db image (Some net) = is_read db image net

@@ -1,4 +1,4 @@
--- Pins and global nets.
+-- Pins (`SB_IO`; Project IceStorm, 'IO Tile') and global nets (`SB_GB_IO` and `SB_GB`).
 use Rattle.std.specs.Prelude.{ℕ, ◌/◌, ◌%◌, Bool, true, false, not, ◌&&◌, ◌||◌, List, [], length, map, position, unwrap_or, bytes_eq, codes, ◌==◌, if◌then◌else◌, Option, Some, None, option_map, option_and_then}
 use Rattle.std.specs.List.{list_any}
 use Rattle.bit_plane.specs.BitList.{word_of}
@@ -25,7 +25,7 @@ use Rattle.net_extract.specs.Nets.{net_named, with_number, ending_in, is_some_re
 abbrev pub pintype_bit : Database → Configuration → ℕ → ℕ → ℕ → ℕ → Bool
 pintype_bit db image x y n k = is_function_on db image Io x y (ending_in (with_number (codes "IOB_") n (codes ".PINTYPE_")) k)
 
--- the type of pin n: the number of its six bits
+-- the type of pin n: the number that its six bits form (`SB_IO`, PIN_TYPE)
 unfoldable pub pintype_of : Database → Configuration → ℕ → ℕ → ℕ → ℕ
 pintype_of db image x y n = word_of (row_from 6 (pintype_bit db image x y n))
 
@@ -49,7 +49,7 @@ has_plain_output pintype = output_part pintype == 6
 abbrev pub has_registered_output : ℕ → Bool
 has_registered_output pintype = output_part pintype == 5
 
--- the output part 1010: an output that can be switched off
+-- the output part 1010: a tri-state output, which can be switched off
 abbrev pub has_tri_state_output : ℕ → Bool
 has_tri_state_output pintype = output_part pintype == 10
 
@@ -61,18 +61,18 @@ has_plain_input pintype = input_part pintype == 1
 abbrev pub has_registered_input : ℕ → Bool
 has_registered_input pintype = input_part pintype == 0
 
--- a pin of no output and a plain input
+-- a pin with no output and a plain input
 abbrev pub is_plain_input : ℕ → Bool
 is_plain_input pintype = has_no_output pintype && has_plain_input pintype
 
--- a pin of no output and a registered input, which is an input pin where its input is read
+-- a pin with no output and a registered input; it is an input pin if its input is read
 abbrev pub is_registered_input : ℕ → Bool
 is_registered_input pintype = has_no_output pintype && has_registered_input pintype
 
 abbrev pub is_output_pin : ℕ → Bool
 is_output_pin pintype = has_plain_output pintype || (has_registered_output pintype || has_tri_state_output pintype)
 
--- every input pin and every output pin is a port; `read` tells whether the pin's input is read
+-- every input pin and every output pin is a port; `read` says whether the pin's input is read
 abbrev pub is_port : ℕ → Bool → Bool
 is_port pintype read = is_plain_input pintype || ((is_registered_input pintype && read) || is_output_pin pintype)
 
@@ -94,7 +94,7 @@ kind_of pintype =
 
 -- ---- pins
 
--- the net of pin n that has the name `io_n/` and so on
+-- the net of a port of pin n, such as `io_n/D_IN_0`
 abbrev pub io_net : Database → ℕ → ℕ → ℕ → List ℕ → Option ℕ
 io_net db x y n port = net_named db x y (with_number (codes "io_") n port)
 
@@ -116,7 +116,7 @@ pin_with db x y n pintype = record {
   enable = io_net db x y n (codes "/OUT_ENB");
 }
 
--- pin n where it is a port
+-- pin n if it is a port
 abbrev pub port_at : Database → Configuration → ℕ → ℕ → ℕ → List Pin
 port_at db image x y n =
     let pintype = pintype_of db image x y n in
@@ -138,26 +138,26 @@ is_registered pin = is_registered_kind pin.kind
 abbrev pub is_tri_state : Pin → Bool
 is_tri_state pin = pin.output && is_tri_state_kind pin.kind
 
--- the place of pin n of the tile at (x, y) among pins; one that isn't among them has none, and counts as the place behind the last
+-- the index of pin n of the tile at (x, y) among pins, or the number of pins if it isn't one of them
 abbrev pub place_among : List Pin → ℕ → ℕ → ℕ → ℕ
 place_among pins x y n = unwrap_or (position (λ pin. (pin.x == x) && ((pin.y == y) && (pin.n == n))) pins) (length pins)
 
--- ---- globals
+-- ---- global networks
 
--- the pad of global g, where the image lets a pad drive it
+-- the pad of global network g, if the image lets a pad drive it: the extra bit `padin_glb_netwk.g` (Project IceStorm, 'IO Tile')
 abbrev pub global_pad : Database → Configuration → ℕ → Option PinXy
 global_pad db image g = if is_extra_on db image (ending_in (codes "padin_glb_netwk.") g) then pad_of g db.global_pins else None
 
--- the net `fabout` of global g's tile
+-- the net `fabout` of the tile of global network g
 abbrev pub global_fabout : Database → ℕ → Option ℕ
 global_fabout db g = option_and_then (λ tile. net_named db tile.x tile.y (codes "fabout")) (input_of g db.global_inputs)
 
--- a pad goes before a net `fabout`
+-- a pad takes precedence over a net `fabout`
 abbrev pub source_of_global : Option PinXy → Option ℕ → Option GlobalFrom
 source_of_global (Some pad) fabout = Some (Pad pad.x pad.y pad.n)
 source_of_global None fabout = option_map (λ net. Fabout net) fabout
 
--- what gives global g its value
+-- what drives global network g
 abbrev pub global_source : Database → Configuration → ℕ → Option GlobalFrom
 global_source db image g = source_of_global (global_pad db image g) (global_fabout db g)
 
@@ -165,16 +165,16 @@ global_source db image g = source_of_global (global_pad db image g) (global_fabo
 abbrev pub is_global_net : Database → ℕ → ℕ → Bool
 is_global_net db g net = list_any (λ line. (line.net == net) && bytes_eq (ending_in (codes "glb_netwk_") g) line.name) db.names
 
--- the nets of global g, rising
+-- the nets of global network g, in ascending order
 unfoldable pub global_nets : Database → ℕ → List ℕ
 global_nets db g = gathered_below db.chip.nets (λ net. item_if (is_global_net db g net) net)
 
--- a global without a source drives nothing
+-- a global network without a source drives nothing
 abbrev pub nets_from : Database → ℕ → Option GlobalFrom → List GlobalNet
 nets_from db g None = []
 nets_from db g (Some from) = map (λ net. record { g = g; net = net; from = from }) (global_nets db g)
 
--- the nets of globals 0 to 7 with what gives them their values, by global and net
+-- the nets of global networks 0 to 7 with what drives them, by global network and net
 unfoldable pub globals_of : Database → Configuration → List GlobalNet
 globals_of db image = gathered_below 8 (λ g. nets_from db g (global_source db image g))
 
@@ -184,13 +184,13 @@ abbrev pub is_pin_at : ℕ → ℕ → ℕ → Option PinXy → Bool
 is_pin_at x y n None = false
 is_pin_at x y n (Some pin) = (pin.x == x) && ((pin.y == y) && (pin.n == n))
 
--- whether the pin is the pad of a global that its pad drives, also where no net is that global's
+-- whether the pin is the pad of a global network that is driven by its pad, even if the global network has no net
 abbrev pub is_global_pad : Database → Configuration → ℕ → ℕ → ℕ → Bool
 is_global_pad db image x y n = any_below 8 (λ g. is_pin_at x y n (global_pad db image g))
 
--- Whether pin n, which has that type, isn't taken: its output part is another one; its input is read, which is neither plain nor that of a
--- registered input pin; its second input is read; it is the pad of a global and no plain input pin; it is a port of a tile with LVDS; or it
--- can be switched off and its input is read.
+-- Whether pin n, which has that type, isn't taken, for one of these reasons: its output part is none of those above; its input is read, but
+-- is neither plain nor the input of a registered input pin; its second input, `D_IN_1`, is read; it is the pad of a global network, but no
+-- plain input pin; it is a port of a tile with LVDS; it has a tri-state output and its input is read.
 unfoldable pub is_refused_with : Database → Configuration → ℕ → ℕ → ℕ → ℕ → Bool
 is_refused_with db image x y n pintype =
     not (has_no_output pintype || is_output_pin pintype)
@@ -200,6 +200,6 @@ is_refused_with db image x y n pintype =
     || ((is_port pintype (is_input_read db image x y n) && is_function_on db image Io x y (codes "IoCtrl.LVDS"))
     || (has_tri_state_output pintype && is_input_read db image x y n)))))
 
--- whether a function `PLL.` and so on is on in the io tile
+-- whether a function whose name starts with `PLL.` is on in the io tile
 abbrev pub has_pll : Database → Configuration → ℕ → ℕ → Bool
 has_pll db image x y = is_any_on db image Io x y (codes "PLL.")

@@ -1,4 +1,5 @@
--- Block RAMs. A RAM is a lower tile at (x, y) with the upper tile at (x, y + 1), and is named by the lower one.
+-- Block RAMs (`SB_RAM40_4K`; Project IceStorm, 'RAM Tile'). A RAM is a lower tile at (x, y) with the upper tile at (x, y + 1), and is named
+-- by the lower one.
 use Rattle.std.specs.Prelude.{ℕ, ◌+◌, ◌*◌, Bool, false, ◌||◌, List, [], ◌∷◌, ◌++◌, get_or, is_some, codes, if◌then◌else◌, Option}
 use Rattle.bit_plane.specs.BitList.{bit_value}
 use Rattle.bit_plane.specs.Rows.{row_from}
@@ -15,19 +16,20 @@ use Rattle.net_extract.specs.Nets.{net_named, ending_in, is_some_read}
 
 -- ---- ports
 
--- the net of a port: that of its name at the lower tile, else at the upper one
+-- the net of a port: the net with its name at the lower tile, else at the upper one
 abbrev pub port_net : Database → ℕ → ℕ → List ℕ → Option ℕ
 port_net db x y name = or_else (net_named db x y name) (net_named db x (y + 1) name)
 
--- the net of a port `ram/` and so on
+-- the net of a port, such as `ram/WCLK`
 abbrev pub ram_net : Database → ℕ → ℕ → List ℕ → Option ℕ
 ram_net db x y port = port_net db x y (codes "ram/" ++ port)
 
--- so many ports whose names end in a number, the lowest first
+-- the nets of `count` ports whose names end in a number, the lowest first
 abbrev pub ram_nets : Database → ℕ → ℕ → List ℕ → ℕ → List (Option ℕ)
 ram_nets db x y port count = each_below count (λ k. ram_net db x y (ending_in port k))
 
--- a clock port is inverted where `NegClk` is on in the tile in which its name was found
+-- a clock port is inverted if `NegClk` is on in the tile in which its name was found (`SB_RAM40_4KNR`, `SB_RAM40_4KNW` and
+-- `SB_RAM40_4KNRNW`)
 abbrev pub is_port_inverted : Database → Configuration → ℕ → ℕ → List ℕ → Bool
 is_port_inverted db image x y name =
     if is_some (net_named db x y name) then is_function_on db image RamB x y (codes "NegClk")
@@ -36,15 +38,17 @@ is_port_inverted db image x y name =
 
 -- ---- modes
 
--- the value of two of the upper tile's functions `RamConfig.CBIT_k`
+-- the number that two of the upper tile's functions `RamConfig.CBIT_k` form
 abbrev pub mode_of : Database → Configuration → ℕ → ℕ → ℕ → ℕ → ℕ
 mode_of db image x y low high =
     bit_value (is_function_on db image RamT x (y + 1) (ending_in (codes "RamConfig.CBIT_") low))
     + 2 * bit_value (is_function_on db image RamT x (y + 1) (ending_in (codes "RamConfig.CBIT_") high))
 
+-- the mode of the write port: WRITE_MODE of `SB_RAM40_4K`
 abbrev pub write_mode : Database → Configuration → ℕ → ℕ → ℕ
 write_mode db image x y = mode_of db image x y 0 1
 
+-- the mode of the read port: READ_MODE of `SB_RAM40_4K`
 abbrev pub read_mode : Database → Configuration → ℕ → ℕ → ℕ
 read_mode db image x y = mode_of db image x y 2 3
 
@@ -56,13 +60,13 @@ first_data_bit mode = get_or (0 ∷ 0 ∷ 1 ∷ 3 ∷ []) mode 0
 abbrev pub data_bit : ℕ → ℕ → ℕ
 data_bit mode d = share mode * d + first_data_bit mode
 
--- whether a function `RamCascade.` and so on is on in one of the two tiles
+-- whether a function whose name starts with `RamCascade.` is on in one of the two tiles
 abbrev pub is_cascaded : Database → Configuration → ℕ → ℕ → Bool
 is_cascaded db image x y = is_any_on db image RamB x y (codes "RamCascade.") || is_any_on db image RamT x (y + 1) (codes "RamCascade.")
 
 -- ---- RAMs
 
--- a RAM is used where a bit of its read data is read
+-- a RAM is used if a bit of its read data is read
 unfoldable pub is_ram_used : Database → Configuration → ℕ → ℕ → Bool
 is_ram_used db image x y = any_below 16 (λ bit. is_some_read db image (ram_net db x y (ending_in (codes "RDATA_") bit)))
 

@@ -22,7 +22,7 @@ use Rattle.net_extract.specs.Pins.{is_registered, place_among}
 abbrev pub table_of : LutInputs → Lc → Table
 table_of inputs lc = record { word = lc.lut; ins = map Net (inputs_read inputs lc.lut lc.ins) }
 
--- the flip-flop of a cell
+-- the flip-flop of a cell (`SB_DFF` and its forms)
 unfoldable pub register_of : LutInputs → Lc → Register
 register_of inputs lc = record {
   x = lc.x;
@@ -44,19 +44,20 @@ registers_of inputs lcs = map (register_of inputs) (filter (λ lc. lc.flip) lcs)
 
 -- ---- registers of pins
 
--- the net of a name `io_global/` and so on, which the pins of a tile share
+-- the net of a port that the pins of a tile share, such as `io_global/inclk`
 abbrev pub io_shared_net : Database → Pin → List ℕ → Option ℕ
 io_shared_net db pin port = net_named db pin.x pin.y (codes "io_global/" ++ port)
 
--- what the register of a pin takes: an input register the pin, which has a place among the input pins, an output register `io_n/D_OUT_0`
+-- what the register of a pin takes: an input register takes the pin's value, and an output register that of `io_n/D_OUT_0`
 abbrev pub pin_source : List Pin → Pin → Source
 pin_source inputs pin = if pin.output then Net pin.dout else SourcePin (place_among inputs pin.x pin.y pin.n)
 
--- the table that has the value of its lowest input
+-- the LUT whose value is that of its input in_0
 abbrev pub table_as : Source → Table
 table_as source = record { word = 43690; ins = source ∷ Net None ∷ Net None ∷ Net None ∷ [] }
 
--- The register of a pin, which has no reset. An input register drives `io_n/D_IN_0`; what an output register drives is told by its pin.
+-- The register of a pin (`SB_IO`), which has no set or reset. An input register drives `io_n/D_IN_0`. An output register drives no net
+-- itself; its value is read through its pin.
 unfoldable pub pin_register : Database → Configuration → List Pin → Pin → Register
 pin_register db image inputs pin = record {
   x = pin.x;

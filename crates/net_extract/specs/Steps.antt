@@ -12,7 +12,7 @@ use Rattle.net_extract.specs.Values.{State, IsConsistent, input_or_0, input_or_1
 
 -- ---- edges
 
--- a clock has an edge where its net goes from 0 to 1, or from 1 to 0 where it is inverted; without a net it has none
+-- a clock has an edge if its net goes from 0 to 1, or from 1 to 0 if the clock is inverted; without a net it has none
 abbrev pub has_edge : Bool → Option ℕ → (ℕ → Bool) → (ℕ → Bool) → Bool
 has_edge inverted None before after = false
 has_edge inverted (Some net) before after =
@@ -20,17 +20,17 @@ has_edge inverted (Some net) before after =
 
 -- ---- registers
 
--- what a register becomes at an edge whose reset waits for the clock: where its enable is 0 it stays; else where its reset is 1
--- it becomes the set bit; else it becomes the LUT's value
+-- the next value of a register with a synchronous set or reset, at an edge: if its enable is 0 it stays; else if its reset is 1 it becomes
+-- the set bit; else it becomes the LUT's value (`SB_DFFESR` and `SB_DFFESS`)
 abbrev pub next_in_time : Register → Bool → Bool → Bool → Bool → Bool
 next_in_time register enabled reset made old = if not enabled then old else if reset then register.«set» else made
 
--- what a register becomes at an edge whose reset acts at once: where its reset is 1 it becomes the set bit; else where its enable is
--- 0 it stays; else it becomes the LUT's value
+-- the next value of a register with an asynchronous set or reset, at an edge: if its reset is 1 it becomes the set bit; else if its enable
+-- is 0 it stays; else it becomes the LUT's value (`SB_DFFER` and `SB_DFFES`)
 abbrev pub next_at_once : Register → Bool → Bool → Bool → Bool → Bool
 next_at_once register enabled reset made old = if reset then register.«set» else if not enabled then old else made
 
--- What a register becomes at an edge.
+-- The next value of a register at an edge.
 unfoldable pub next_bit : (ℕ → Bool) → List Bool → (ℕ → Bool) → Register → Bool → Bool
 next_bit connected pins bit register old =
     let enabled = input_or_1 connected bit register.cen in
@@ -40,7 +40,7 @@ next_bit connected pins bit register old =
 
 -- ---- RAMs
 
--- the number that address ports have, the lowest first
+-- the number that address ports form, the lowest first
 abbrev pub address_of : (ℕ → Bool) → (ℕ → Bool) → List (Option ℕ) → ℕ
 address_of connected bit ports = word_of (map (input_or_0 connected bit) ports)
 
@@ -48,19 +48,20 @@ address_of connected bit ports = word_of (map (input_or_0 connected bit) ports)
 abbrev pub word_address : (ℕ → Bool) → (ℕ → Bool) → List (Option ℕ) → ℕ
 word_address connected bit ports = address_of connected bit (take 8 ports)
 
--- the high part of a narrow word that a port addresses: as many address bits behind those as the mode says
+-- which narrow word of a word a port addresses: the number that its address bits after those eight form, one, two or three of them in
+-- modes 1, 2 and 3
 abbrev pub high_part : (ℕ → Bool) → (ℕ → Bool) → ℕ → List (Option ℕ) → ℕ
 high_part connected bit mode ports = address_of connected bit (take mode (drop 8 ports))
 
--- a word, and no bits past the last
+-- a word; no bits past the last word
 abbrev pub word_at : List (List Bool) → ℕ → List Bool
 word_at words address = get_or words address []
 
--- a bit of a word, and 0 past the last
+-- a bit of a word; 0 past the last bit
 abbrev pub bit_of_word : List Bool → ℕ → Bool
 bit_of_word word b = get_or word b false
 
--- bit b of a word that is written whole: `WDATA_b` where `MASK_b` is 0, and as it was where that is 1
+-- bit b of a word that is written whole: `WDATA_b` if `MASK_b` is 0, and as it was if `MASK_b` is 1
 abbrev pub masked_bit : (ℕ → Bool) → (ℕ → Bool) → RamCell → List Bool → ℕ → Bool
 masked_bit connected bit ram word b =
     if input_or_0 connected bit (get_or ram.mask b None) then bit_of_word word b
@@ -70,21 +71,21 @@ masked_bit connected bit ram word b =
 abbrev pub written_data : (ℕ → Bool) → (ℕ → Bool) → RamCell → ℕ → Bool
 written_data connected bit ram d = input_or_0 connected bit (get_or ram.wdata (data_bit ram.write d) None)
 
--- The next word of a RAM at the place that is written. In mode 0 the mask tells which bits stay; in another mode the narrow word at the
--- high part of the address is put in the word, and the mask isn't read.
+-- The next value of the word that is written in a RAM (`SB_RAM40_4K`). In mode 0 the mask says which bits stay. In another mode the high
+-- part of the address says which narrow word of the word is replaced, and the mask isn't read.
 unfoldable pub written : (ℕ → Bool) → (ℕ → Bool) → RamCell → List Bool → List Bool
 written connected bit ram word =
     if ram.write == 0 then row_from 16 (masked_bit connected bit ram word)
     else row_from 16 (put_bit ram.write (bit_of_word word) (high_part connected bit ram.write ram.waddr) (written_data connected bit ram))
 
--- The next read register of a RAM that is read, by the addressed word: in mode 0 that word; in another mode what is got of its narrow word
--- at the high part of the address.
+-- The next read register of a RAM that is read (`SB_RAM40_4K`), from the addressed word: in mode 0 that word; in another mode the narrow
+-- word of it that the high part of the address selects, as `got_bit` places it.
 unfoldable pub shown : (ℕ → Bool) → (ℕ → Bool) → RamCell → List Bool → List Bool
 shown connected bit ram word =
     if ram.read == 0 then word
     else row_from 16 (got_bit ram.read (bit_of_word word) (high_part connected bit ram.read ram.raddr))
 
--- what the words of a RAM become at a write edge
+-- what the words of a RAM become at a write edge: nothing changes unless both enables are 1
 unfoldable pub next_words : (ℕ → Bool) → (ℕ → Bool) → RamCell → List (List Bool) → List (List Bool)
 next_words connected bit ram words =
     let address = word_address connected bit ram.waddr in
@@ -92,7 +93,7 @@ next_words connected bit ram words =
     then set words address (written connected bit ram (word_at words address))
     else words
 
--- what the read register becomes at a read edge
+-- what the read register becomes at a read edge: nothing changes unless both enables are 1
 unfoldable pub next_register : (ℕ → Bool) → (ℕ → Bool) → RamCell → List (List Bool) → List Bool → List Bool
 next_register connected bit ram words register =
     if input_or_1 connected bit ram.rclke && input_or_0 connected bit ram.re
@@ -131,17 +132,17 @@ state_after fabric pins state before after =
 
 -- ---- settling
 
--- the bits of registers once those whose resets act at once have settled
+-- the bits of registers, after those with an asynchronous set or reset have settled
 abbrev pub settled_bits : Fabric → (ℕ → Bool) → List Bool → List Bool
 settled_bits fabric bit bits = map (λ place. settled_bit (is_connected fabric) bit place.1 (get_or bits place.0 false)) (numbered fabric.registers)
 
--- A state settles by the bits of nets: each register whose reset acts at once and is 1 has its set bit, and all else stays.
+-- How a state settles, from the bits of nets: each register whose asynchronous set or reset is 1 has its set bit, and all else stays.
 unfoldable pub settled_state : Fabric → (ℕ → Bool) → State → State
 settled_state fabric bit state = record { bits = settled_bits fabric bit state.bits; reads = state.reads; words = state.words }
 
 -- ---- runs
 
--- a bit for the input pin of that place
+-- an event: the input pin with that index gets this bit
 pub record Event : Type 0 where
   pub pin : ℕ
   pub bit : Bool
@@ -168,7 +169,7 @@ pub record Follows (fabric : Fabric) (before : Entry) (event : Event) (after : E
   pub state : after.state
       ≡ settled_state fabric (bit_in after.v) (state_after fabric before.pins before.state (bit_in before.v) (bit_in after.v))
 
--- before it settles at the start, all registers and read registers are 0, and the words are those of the image
+-- the state at the start, before it settles: all registers and read registers are 0, and the words are those of the image
 abbrev pub start_state : Fabric → State
 start_state fabric = record {
   bits = replicate (length fabric.registers) false;
@@ -182,7 +183,7 @@ pub record IsFirst (fabric : Fabric) (entry : Entry) : Type 0 where
   pub pins : entry.pins ≡ replicate (length (inputs_of fabric)) false
   pub state : entry.state ≡ settled_state fabric (bit_in entry.v) (start_state fabric)
 
--- entries that follow one after the other from an entry on
+-- entries of which each follows the one before, the first one a given entry
 abbrev pub FollowEach : Fabric → Entry → List Event → List Entry → Type 0
 FollowEach fabric entry [] [] = Unit {0}
 FollowEach fabric entry (event ∷ events) (next ∷ entries) = Follows fabric entry event next × FollowEach fabric next events entries

@@ -11,7 +11,7 @@ use Rattle.net_extract.specs.On.{begins_with, are_set}
 use Rattle.chipdb_reader.specs.declared.items.TileXy8.{TileXy8}
 use Rattle.net_extract.specs.Tiles.{over_tiles, at_kind}
 
--- the tile at a place of the grid where it is of that kind
+-- the tile at a place of the grid if it is of that kind
 abbrev pub tile_if : DeviceName → TileKind → ℕ → ℕ → List TileXy8
 tile_if device kind x y = at_kind device kind (λ x y. record { x = x; y = y } ∷ []) x y
 
@@ -23,6 +23,6 @@ tiles_of device kind = over_tiles device kind (λ x y. record { x = x; y = y } �
 abbrev pub HasTile : AnyImage → TileKind → ℕ → ℕ → Type 0
 HasTile image kind x y = kind_of (device_of image) x y ≡ Some kind
 
--- whether a function is of a kind, has a name that begins so, and is on at (x, y)
+-- whether a function is of a kind, has a name that starts with `beginning`, and is on at (x, y)
 abbrev pub begins_and_is_on : Configuration → TileKind → ℕ → ℕ → List ℕ → FunctionLine → Bool
 begins_and_is_on image kind x y beginning function = begins_with kind beginning function && are_set image x y function.bits

@@ -20,16 +20,16 @@ pub record State : Type 0 where
 
 -- ---- inputs
 
--- An input is unconnected where it has no net, or a net whose class has no driver. It then has a stated value.
+-- An input is unconnected if it has no net, or a net whose class of joined nets has no driver. It then has a stated value.
 abbrev pub input_value : (ℕ → Bool) → (ℕ → Bool) → Bool → Option ℕ → Bool
 input_value connected bit stated None = stated
 input_value connected bit stated (Some net) = if connected net then bit net else stated
 
--- an input that is 0 where it is unconnected, as all are but enables of clocks
+-- an input that is 0 if it is unconnected, as all inputs are but clock enables and output enables
 abbrev pub input_or_0 : (ℕ → Bool) → (ℕ → Bool) → Option ℕ → Bool
 input_or_0 connected bit net = input_value connected bit false net
 
--- an input that is 1 where it is unconnected: the enable of a clock
+-- an input that is 1 if it is unconnected: a clock enable
 abbrev pub input_or_1 : (ℕ → Bool) → (ℕ → Bool) → Option ℕ → Bool
 input_or_1 connected bit net = input_value connected bit true net
 
@@ -50,15 +50,16 @@ entry_number connected pins bit table =
     bit_value (table_input connected pins bit table 0) + 2 * bit_value (table_input connected pins bit table 1)
     + 4 * bit_value (table_input connected pins bit table 2) + 8 * bit_value (table_input connected pins bit table 3)
 
--- that entry
+-- the value of a LUT: the entry with that number (`SB_LUT4`)
 unfoldable pub lut_value : (ℕ → Bool) → List Bool → (ℕ → Bool) → Table → Bool
 lut_value connected pins bit table = entry_of table.word (entry_number connected pins bit table)
 
--- what at least two of three bits are
+-- the majority of three bits: 1 if at least two of them are 1
 abbrev pub majority : Bool → Bool → Bool → Bool
 majority a b c = (a && b) || ((a && c) || (b && c))
 
--- The value that a register settles to: where its reset acts at once and is 1 it has its set bit, else it stays.
+-- The value to which a register settles: its set bit if it has an asynchronous set or reset that is 1, else the value that it has
+-- (`SB_DFFER` and `SB_DFFES`).
 unfoldable pub settled_bit : (ℕ → Bool) → (ℕ → Bool) → Register → Bool → Bool
 settled_bit connected bit register old = if register.at_once && input_or_0 connected bit register.sr then register.«set» else old
 
@@ -80,12 +81,12 @@ value_of connected state pins bit (copied net) = bit net
 abbrev pub bit_in : List Bool → ℕ → Bool
 bit_in v net = get_or v net false
 
--- whether a net's class has a driver
+-- whether a net's class of joined nets has a driver
 abbrev pub is_connected : Fabric → ℕ → Bool
 is_connected fabric net = is_driven fabric (class_of fabric.joins net)
 
--- One bit for each net is consistent with a state and the input pins' bits where it is the same at both ends of every
--- routing, where each net that is driven has its driver's value, and where each net whose class has no driver is 0.
+-- A list with one bit for each net is consistent with a state and the bits of the input pins if both ends of every routing have the same
+-- bit, each net that is driven has its driver's value, and each net whose class of joined nets has no driver is 0.
 pub record IsConsistent (fabric : Fabric) (state : State) (pins v : List Bool) : Type 0 where
   pub each_net : length v ≡ fabric.nets
   pub joined : (a b : ℕ) → Contains fabric.joins (a, b) → bit_in v a ≡ bit_in v b

@@ -12,7 +12,7 @@ use Rattle.net_extract.specs.declared.pin.GlobalFrom.{GlobalFrom}
 use Rattle.net_extract.specs.declared.pin.GlobalFrom.TheVariants.{Pad, Fabout}
 use Rattle.net_extract.specs.Fabric.{Fabric, Buffer}
 
--- a net that may be missing
+-- a net is among the nets, or is missing
 abbrev pub IsNetIn : ℕ → Option ℕ → Type 0
 IsNetIn nets None = Unit {0}
 IsNetIn nets (Some net) = net < nets
@@ -75,7 +75,7 @@ pub record IsJoinIn (nets : ℕ) (join : ℕ × ℕ) : Type 0 where
   pub first : join.0 < nets
   pub second : join.1 < nets
 
--- all parts
+-- all nets that the parts of a fabric name are among its nets
 pub record HasNetsIn (fabric : Fabric) : Type 0 where
   pub joins : All (IsJoinIn fabric.nets) fabric.joins
   pub buffers : All (IsBufferIn fabric.nets) fabric.buffers

@@ -1,6 +1,7 @@
 // Logic cells.
 
-/// A used logic cell: cell `i` of the logic tile at (x, y). An input is the net of its name in the tile, where there is one.
+/// A used logic cell: cell `i` of the logic tile at (x, y). Each port is the net with the port's name in the tile, or `None` if the tile
+/// has no such net.
 #[derive(Clone, Copy, Debug, PartialEq, Eq)]
 pub struct Lc {
     pub x: u8,
@@ -8,15 +9,15 @@ pub struct Lc {
     pub i: u8,
     /// The entries of the LUT: entry k is the bit of value 2 to the power of k.
     pub lut: u16,
-    /// Whether the cell carries.
+    /// Whether the carry of the cell is on.
     pub carry: bool,
     /// Whether it has a flip-flop.
     pub flip: bool,
-    /// What a reset makes of the flip-flop.
+    /// Whether `lutff_global/s_r` sets the flip-flop; if not, it resets it.
     pub set: bool,
-    /// Whether the cell has a flip-flop whose reset acts at once, without a clock.
+    /// Whether the cell has a flip-flop with an asynchronous set or reset.
     pub at_once: bool,
-    /// Whether the flip-flop takes its value at falling edges.
+    /// Whether the flip-flop takes its value at falling clock edges.
     pub neg: bool,
     /// `lutff_i/in_0` to `lutff_i/in_3`.
     pub ins: [Option<u32>; 4],
@@ -26,7 +27,7 @@ pub struct Lc {
     pub lout: Option<u32>,
     /// `lutff_i/cout`.
     pub cout: Option<u32>,
-    /// The carry out of the cell below in the tile, and `carry_in_mux` for cell 0.
+    /// The carry-in: the carry-out of the cell before in the tile, or `carry_in_mux` for cell 0.
     pub cin: Option<u32>,
     /// `lutff_global/clk`.
     pub clk: Option<u32>,
@@ -36,7 +37,7 @@ pub struct Lc {
     pub sr: Option<u32>,
 }
 
-/// The net `carry_in_mux` of the logic tile at (x, y), which is 1.
+/// The net `carry_in_mux` of the logic tile at (x, y), which `CarryInSet` ties to 1.
 #[derive(Clone, Copy, Debug, PartialEq, Eq)]
 pub struct CarrySet {
     pub x: u8,

@@ -18,7 +18,7 @@ use plane_map::{RowCol, TileKind};
 /// Which bits of a cell are entries 0 to 15 of its LUT.
 const ENTRY_BITS: [usize; 16] = [4, 14, 15, 5, 6, 16, 17, 7, 3, 13, 12, 2, 1, 11, 10, 0];
 
-/// Which bits of a cell enable its carry and its flip-flop, let a reset set, and let it act without a clock.
+/// Which bits of a cell are `CarryEnable`, `DffEnable`, `Set_NoReset` and `AsyncSetReset`.
 const FLAG_BITS: [usize; 4] = [8, 9, 18, 19];
 
 /// The name of the function that lists the bits of cell `i`.
@@ -28,7 +28,7 @@ pub fn cell_name(i: u8) -> Name
     Name::ending_in(b"LC_", i)
 }
 
-/// Where the bits of cell `i` lie in its tile: none where the database hasn't the cell.
+/// Where the bits of cell `i` lie in its tile. The list is empty if the database doesn't have the cell.
 #[tactic(auto, unfolding(crate::specs::Cells::cell_places))]
 pub fn cell_places(db: &ChipDb, i: u8) -> &[RowCol]
     ensures places { result.now ≡ cell_places (database_in db.now) i }
@@ -40,7 +40,7 @@ pub fn cell_places(db: &ChipDb, i: u8) -> &[RowCol]
     }
 }
 
-/// Whether one of some bits is 1 at the tile at (x, y).
+/// Whether at least one bit of a list is 1 at the tile at (x, y).
 pub fn is_one_set(image: &AnyImage, kind: TileKind, x: u8, y: u8, bits: &[RowCol]) -> bool
     requires tile { HasTile image.now kind x y }
     requires in_tile { All (IsBitIn (columns_of kind)) bits.now }
@@ -64,8 +64,8 @@ pub fn lut(image: &AnyImage, x: u8, y: u8, bits: &[RowCol]) -> u16
     number_of(image, x, y, bits, &ENTRY_BITS)
 }
 
-/// The bits that enable the carry and the flip-flop, that let a reset set, and that let it act without a clock, of the cell with
-/// these bits at the tile at (x, y): the first is the bit of value 1.
+/// `CarryEnable`, `DffEnable`, `Set_NoReset` and `AsyncSetReset` of the cell with these bits at the tile at (x, y), as a number: the first
+/// is the bit of value 1.
 #[tactic(auto, unfolding(crate::specs::Cells::flag_bits))]
 pub fn flags(image: &AnyImage, x: u8, y: u8, bits: &[RowCol]) -> u8
     requires tile { HasTile image.now Logic x y }
@@ -75,7 +75,7 @@ pub fn flags(image: &AnyImage, x: u8, y: u8, bits: &[RowCol]) -> u8
     number_of(image, x, y, bits, &FLAG_BITS) as u8
 }
 
-/// The number that some of the bits of a cell make, the first of them the lowest. A bit that isn't there is 0.
+/// The number that some of the bits of a cell form, the first of them the lowest. A bit that is missing is 0.
 #[tactic(auto, unfolding(bit_plane::specs::BitList::word_of))]
 fn number_of(image: &AnyImage, x: u8, y: u8, bits: &[RowCol], numbers: &[usize]) -> u16
     requires tile { HasTile image.now Logic x y }

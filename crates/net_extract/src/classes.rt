@@ -9,7 +9,7 @@ ghost use Rattle.net_extract.specs.Parents.{IsForest, AreParents, merged};
 use crate::on::OnLink;
 use std::alloc::{AllocError, Global};
 
-/// The least net of a net's class. The nets on the way to it get parents that are nearer to it.
+/// The least net of a net's class of joined nets. The nets on the way to it get parents that are nearer to it.
 fn root_of(parents: &mut [u32], net: u32) -> u32
     requires forest { IsForest parents.old }
     requires inside { net < length parents.old }
@@ -28,7 +28,7 @@ fn root_of(parents: &mut [u32], net: u32) -> u32
     at
 }
 
-/// Makes the classes of two nets one.
+/// Merges the classes of joined nets that two nets belong to.
 fn join(parents: &mut [u32], a: u32, b: u32)
     requires forest { IsForest parents.old }
     requires a_inside { a < length parents.old }
@@ -45,7 +45,7 @@ fn join(parents: &mut [u32], a: u32, b: u32)
     }
 }
 
-/// Joins the two nets of each link, where no nets were joined before.
+/// Joins the two nets of each link. No nets are joined before.
 fn join_all(parents: &mut [u32], links: &[OnLink])
     requires forest { IsForest parents.old }
     requires inside { All (IsBelow (length parents.old)) links.now }
@@ -58,7 +58,7 @@ fn join_all(parents: &mut [u32], links: &[OnLink])
     }
 }
 
-/// Makes the least net of its class each net's parent.
+/// Makes each net's parent the least net of its class of joined nets.
 fn name_all(parents: &mut [u32])
     requires { IsForest parents.old }
     ensures { (class : ℕ → ℕ) → AreParents class parents.old → (net : ℕ) → net < length parents.new → slice_index parents.new net ≡ class net }
@@ -68,7 +68,7 @@ fn name_all(parents: &mut [u32])
     }
 }
 
-/// Makes each net's class of the net, where the two nets of each link are joined.
+/// Replaces each net by its class of joined nets, once the two nets of each link are joined.
 fn name_joined(nets: &mut [u32], links: &[OnLink])
     requires inside { All (IsBelow (length nets.old)) links.now }
     requires apart { (net : ℕ) → net < length nets.old → slice_index nets.old net ≡ net }
@@ -78,7 +78,7 @@ fn name_joined(nets: &mut [u32], links: &[OnLink])
     name_all(nets);
 }
 
-/// The numbers of all nets, which are their classes where none are joined.
+/// The numbers of all nets. As long as none are joined, each net is its own class of joined nets.
 fn all_nets(alloc: Global, nets: u32) -> Result<Vec<u32>, AllocError>
     ensures length { IfOk result (λ all. length all.items ≡ nets) }
     ensures apart { IfOk result (λ all. (net : ℕ) → net < nets → slice_index all.items net ≡ net) }
@@ -90,7 +90,7 @@ fn all_nets(alloc: Global, nets: u32) -> Result<Vec<u32>, AllocError>
     Ok(all)
 }
 
-/// The class of each net, where the two nets of each link are joined.
+/// The class of joined nets of each net, once the two nets of each link are joined.
 pub(crate) fn classes(alloc: Global, nets: u32, links: &[OnLink]) -> Result<Vec<u32>, AllocError>
     requires { All (IsBelow nets) links.now }
     ensures length { IfOk result (λ classes. length classes.items ≡ nets) }

@@ -1,28 +1,28 @@
 // What drives nets, and what uses clocks.
 
-/// What drives a net. The order of drivers is the order below, then that of tiles (by row, then by column), then that of `n`, `i`
-/// or `bit`; a `Global` goes by `g`, then by net, and a `Link` by line.
+/// What drives a net. Drivers are ordered by kind, in the order below, then by tile (by row, then by column), then by `n`, `i` or `bit`.
+/// A `Global` is ordered by `g`, then by net, and a `Link` by `line`.
 #[derive(Clone, Copy, Debug, PartialEq, Eq)]
 pub enum Driver {
     /// An input pin without a register, on its `io_n/D_IN_0`.
     Pin { x: u8, y: u8, n: u8 },
-    /// An output pin, or its register, on its `io_n/D_IN_0`.
+    /// The readback of an output pin, on its `io_n/D_IN_0`: the value of the pin or of its register.
     Back { x: u8, y: u8, n: u8 },
-    /// The LUT of a cell without flip-flop, on `lutff_i/out`.
+    /// The LUT of a cell without a flip-flop, on `lutff_i/out`.
     Lut { x: u8, y: u8, i: u8 },
     /// A flip-flop, on `lutff_i/out`.
     Flip { x: u8, y: u8, i: u8 },
     /// The LUT of a cell, on `lutff_i/lout`.
     Lout { x: u8, y: u8, i: u8 },
-    /// The carry of a cell, on `lutff_i/cout`.
+    /// The carry-out of a cell, on `lutff_i/cout`.
     Carry { x: u8, y: u8, i: u8 },
     /// The constant 1 on `carry_in_mux`.
     CarrySet { x: u8, y: u8 },
     /// A bit of a RAM's read register, on `ram/RDATA_bit`.
     Ram { x: u8, y: u8, bit: u8 },
-    /// A global, on one of its nets.
+    /// A global network, on one of its nets.
     Global { g: u8, net: u32 },
-    /// The `.buffer` line of that place in the database, on its destination.
+    /// The buffer with that index among the buffers of the database, on its destination.
     Link { line: u32 },
     /// The register of an input pin, on its `io_n/D_IN_0`.
     PinReg { x: u8, y: u8, n: u8 },

@@ -1,14 +1,14 @@
-// Why the links of an image aren't found.
+// Why the links that an image sets can't be found.
 ghost use Rattle.std.specs.Prelude.{◌≡◌};
 ghost use Rattle.net_extract.specs.declared.fault.LinkFault.TheVariants.{Memory};
 
 use std::alloc::AllocError;
 use thiserror::Error;
 
-/// Why the links that an image sets aren't found.
+/// Why the links that an image sets can't be found.
 #[derive(Clone, Copy, Debug, PartialEq, Eq, Error)]
 pub enum LinkFault {
-    /// The database is of another device than the image.
+    /// The database is for another device than the image.
     #[error("the database is of another device than the image")]
     Device,
     /// Out of memory. It may come in place of any other answer.

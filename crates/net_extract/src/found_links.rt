@@ -15,7 +15,10 @@ use chipdb_reader::ChipDb;
 use ice_image::AnyImage;
 use std::alloc::{AllocError, Global};
 
-/// Finds the links of a database that an image sets.
+/// Finds the links of a database that an image sets, the classes of joined nets, and the nets that are read.
+///
+/// # Errors
+/// `LinkFault::Device` if the database is for another device than the image, and in no other case. `LinkFault::Memory` if memory is out.
 pub fn links(alloc: Global, db: &ChipDb, image: &AnyImage) -> Result<Links, LinkFault>
     ensures links { IfOk result (AreLinks (database_in db.now) (configuration_of image.now)) }
     ensures classes { IfOk result (λ links. (net : ℕ) → IsClassOf (joins_of (database_in db.now) (configuration_of image.now)) net (class_in links net)) }
@@ -29,7 +32,7 @@ pub fn links(alloc: Global, db: &ChipDb, image: &AnyImage) -> Result<Links, Link
     }
 }
 
-/// The same for a database of the image's device.
+/// Finds the links that an image sets, in a database for the image's device.
 fn found(alloc: Global, db: &ChipDb, image: &AnyImage) -> Result<Links, AllocError>
     requires { db.now.chip.device ≡ (configuration_of image.now).layout.device }
     ensures { IfOk result (AreLinks (database_in db.now) (configuration_of image.now)) }
@@ -47,7 +50,7 @@ fn found(alloc: Global, db: &ChipDb, image: &AnyImage) -> Result<Links, AllocErr
     })
 }
 
-/// The places of links.
+/// The indexes of links among the lines of their kind.
 fn places(alloc: Global, links: &[OnLink]) -> Result<Vec<u32>, AllocError>
     ensures { IfOk result (λ places. places.items ≡ map (λ link. link.place) links.now) }
 {

@@ -16,7 +16,7 @@ use chipdb_reader::{ChipDb, Function};
 use ice_image::AnyImage;
 use plane_map::{RowCol, TileBit, TileKind};
 
-/// The bits of the first function of a kind and name, where it is there.
+/// The bits of the first function of a kind and name, or `None` if there is none.
 pub fn function_bits<'a>(db: &'a ChipDb, kind: TileKind, name: &[u8]) -> Option<&'a [RowCol]>
     ensures bits { option_copied result ≡ option_map (λ function. function.bits) (function_named (database_in db.now) kind name.now) }
     ensures in_tile { IfSome result (λ bits. All (IsBitIn (columns_of kind)) bits.now) }
@@ -27,7 +27,7 @@ pub fn function_bits<'a>(db: &'a ChipDb, kind: TileKind, name: &[u8]) -> Option<
     }
 }
 
-/// A bit of a list at the tile at (x, y), and 0 past the last.
+/// Bit `k` of a list of bits at the tile at (x, y); 0 past the end of the list.
 pub fn listed_bit(image: &AnyImage, kind: TileKind, x: u8, y: u8, bits: &[RowCol], k: usize) -> bool
     requires tile { HasTile image.now kind x y }
     requires in_tile { All (IsBitIn (columns_of kind)) bits.now }
@@ -70,7 +70,7 @@ pub fn is_on(db: &ChipDb, image: &AnyImage, kind: TileKind, x: u8, y: u8, name: 
     }
 }
 
-/// Whether some function of a kind, with a name that begins so, is on at the tile at (x, y).
+/// Whether a function of a kind whose name starts with `beginning` is on at the tile at (x, y).
 pub fn is_any_on(
     db: &ChipDb,
     image: &AnyImage,
@@ -90,7 +90,7 @@ pub fn is_any_on(
     false
 }
 
-/// Whether a function of the database is of a kind, has a name that begins so, and is on at the tile at (x, y).
+/// Whether a function of the database is of a kind, has a name that starts with `beginning`, and is on at the tile at (x, y).
 fn begins_and_is_on(
     db: &ChipDb,
     image: &AnyImage,

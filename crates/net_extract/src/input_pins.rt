@@ -1,4 +1,4 @@
-// Input pins and their places.
+// Input pins and their indexes.
 ghost use Rattle.std.specs.Prelude.{◌≡◌, filter, position, not, ◌&&◌, ◌==◌, IfOk};
 ghost use Rattle.net_extract.specs.Pins.{place_among};
 
@@ -6,6 +6,9 @@ use crate::pin::Pin;
 use std::alloc::{AllocError, Global};
 
 /// The input pins among pins.
+///
+/// # Errors
+/// `AllocError` if memory is out, and for no other cause.
 pub fn inputs(alloc: Global, pins: &[Pin]) -> Result<Vec<Pin>, AllocError>
     ensures { IfOk result (λ inputs. inputs.items ≡ filter (λ pin. not pin.output) pins.now) }
 {
@@ -25,14 +28,14 @@ fn is_at(pin: Pin, x: u8, y: u8, n: u8) -> bool
     pin.x == x && pin.y == y && pin.n == n
 }
 
-/// The place of a pin among pins, where it is one of them.
+/// The index of pin `n` of the tile at (x, y) among pins, or `None` if it isn't one of them.
 fn place_in(pins: &[Pin], x: u8, y: u8, n: u8) -> Option<usize>
     ensures { result ≡ position (λ pin. (pin.x == x) && ((pin.y == y) && (pin.n == n))) pins.now }
 {
     pins.iter().position(|pin| is_at(*pin, x, y, n))
 }
 
-/// The place of pin `n` of the tile at (x, y) among pins, or the place behind the last one where it isn't among them.
+/// The index of pin `n` of the tile at (x, y) among pins, or the number of pins if it isn't one of them.
 pub fn place_among(pins: &[Pin], x: u8, y: u8, n: u8) -> usize
     ensures { result ≡ place_among pins.now x y n }
 {

@@ -2,12 +2,12 @@
 //!
 //! The definitions are in specs/: which functions, links and extra bits an image sets, what its nets, cells, RAMs, pins and global
 //! nets are, what drives each net and with which value, how the state changes at an event, and for which cause a database and an
-//! image aren't taken. They say what holds and know no order of evaluation.
+//! image aren't taken. They say what holds, and not in which order it is computed.
 //!
 //! The code reads what is on: [`links`] finds the links that an image sets, the classes of joined nets and the nets that are read,
-//! and [`is_on`], [`is_any_on`] and [`function_bits`] look functions up at a tile. The calls of [`Links`] take no memory.
+//! and [`is_on`], [`is_any_on`] and [`function_bits`] look functions up at a tile. The calls of [`Links`] allocate no memory.
 //!
-//! [`narrow_rams_are_memories`] is a law of the definitions: in each run a used RAM of a narrow mode is a memory of narrow words.
+//! [`narrow_rams_are_memories`] is a law of the definitions: in each run a used RAM in a narrow mode works as a memory of narrow words.
 #![tactic(auto)]
 
 mod cell;

@@ -4,10 +4,10 @@ ghost use Rattle.net_extract.specs.Links.{class_in, is_read_in};
 
 use std::marker::Model;
 
-/// The links of a database that an image sets, the classes of the nets that they join, and the nets that they read.
+/// The links of a database that an image sets, the classes of joined nets, and the nets that are read.
 ///
-/// Contracts see the places of the links, and lists with a class and a mark for each net. They are those of a database and an
-/// image where `AreLinks` says so. No call takes memory.
+/// Contracts see the indexes of the links, and for each net its class and a mark whether it is read. `AreLinks` says that these are what
+/// a database and an image configure. No call allocates memory.
 #[derive(Drop)]
 pub struct Links {
     pub(crate) buffers: Vec<u32>,
@@ -35,21 +35,21 @@ impl Links {
         self.classes.len()
     }
 
-    /// The places of the buffers that are on, among the buffers of the database, rising.
+    /// The indexes of the buffers that are on, among the buffers of the database, in ascending order.
     pub fn buffers(&self) -> &[u32]
         ensures { result.now ≡ self.now.buffers }
     {
         &self.buffers
     }
 
-    /// The places of the routings that are on, among the routings of the database, rising.
+    /// The indexes of the routings that are on, among the routings of the database, in ascending order.
     pub fn routings(&self) -> &[u32]
         ensures { result.now ≡ self.now.routings }
     {
         &self.routings
     }
 
-    /// The class of a net of the database: the least of the nets that are joined to it.
+    /// The class of joined nets that a net of the database belongs to, named by its least net.
     pub fn class_of(&self, net: u32) -> u32
         requires { net < length self.now.classes }
         ensures { result ≡ class_in self.now net }

@@ -7,12 +7,12 @@ ghost use Rattle.net_extract.specs.Luts.{entry_of, entry_differs, uses_input, us
 pub enum LutInputs {
     /// All four.
     All,
-    /// Those that the LUT uses: two of its entries differ whose numbers differ in the bit of that input alone. Another one can't
-    /// change its value.
+    /// Only those that the LUT uses. A LUT uses an input if two of its entries differ whose numbers differ in the bit of that input
+    /// alone. An input that it doesn't use can't change its value.
     Used,
 }
 
-/// Entry `n` of a LUT, and 0 past the last.
+/// Entry `n` of a LUT; 0 past the last entry.
 #[tactic(auto, using(crate::proofs::Entries::entry_within, crate::proofs::Entries::entry_past))]
 fn entry(lut: u16, n: u32) -> bool
     ensures { result ≡ entry_of lut n }
@@ -20,7 +20,7 @@ fn entry(lut: u16, n: u32) -> bool
     n < 16 && (lut >> n) & 1 == 1
 }
 
-/// Whether bit `k` of a number is 0, and the entry of the number differs from that of the number with 1 there.
+/// Whether bit `k` of `n` is 0, and entry `n` differs from the entry whose number has a 1 there instead.
 #[tactic(auto, using(crate::proofs::Entries::clear_bit))]
 fn entry_differs(lut: u16, k: u32, n: u32) -> bool
     requires input { k < 4 }
@@ -43,7 +43,7 @@ fn uses_input(lut: u16, k: u32) -> bool
     false
 }
 
-/// Input `k`, where the LUT uses it.
+/// The net of input `k`, or `None` if the LUT doesn't use it.
 fn used_input(lut: u16, ins: &[Option<u32>; 4], k: u8) -> Option<u32>
     requires { k < 4 }
     ensures { result ≡ used_input lut ins.now k }
@@ -55,7 +55,7 @@ fn used_input(lut: u16, ins: &[Option<u32>; 4], k: u8) -> Option<u32>
     }
 }
 
-/// The inputs that a LUT reads of those of its cell: all of them, or those that it uses, with none in place of another.
+/// The inputs of its cell that a LUT reads: all of them, or only those that it uses, with `None` in place of the others.
 pub fn inputs_read(inputs: LutInputs, lut: u16, ins: &[Option<u32>; 4]) -> [Option<u32>; 4]
     ensures { result ≡ inputs_read inputs lut ins.now }
 {

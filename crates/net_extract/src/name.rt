@@ -5,7 +5,7 @@ ghost use Rattle.net_extract.specs.Nets.{with_number, ending_in};
 use itoa::Buffer;
 use std::marker::Model;
 
-/// A short name, as `lutff_3/in_2` or `ram/RADDR_7`. It takes no memory.
+/// A short name, such as `lutff_3/in_2` or `ram/RADDR_7`. It allocates no memory.
 #[derive(Drop)]
 pub struct Name {
     bytes: [u8; 40],
@@ -21,7 +21,7 @@ impl Model for Name {
 }
 
 impl Name {
-    /// A number between two texts.
+    /// The name with a number between two texts.
     pub fn with_number(before: &[u8], number: u8, after: &[u8]) -> Name
         requires { length before.now + length after.now ≤ 36 }
         ensures name { result ≡ with_number before.now number after.now }
@@ -33,7 +33,7 @@ impl Name {
         name
     }
 
-    /// A number behind a text.
+    /// The name with a number after a text.
     pub fn ending_in(before: &[u8], number: u8) -> Name
         requires { length before.now ≤ 36 }
         ensures name { result ≡ ending_in before.now number }
@@ -44,14 +44,14 @@ impl Name {
         name
     }
 
-    /// The bytes.
+    /// The bytes of the name.
     pub fn bytes(&self) -> &[u8]
         ensures { result.now ≡ self.now }
     {
         &self.bytes[..self.length]
     }
 
-    /// A text.
+    /// The name that is this text.
     fn of(text: &[u8]) -> Name
         requires { length text.now ≤ 40 }
         ensures { result ≡ text.now }
@@ -64,7 +64,7 @@ impl Name {
         name
     }
 
-    /// Adds a text.
+    /// Appends a text.
     fn push(&mut self, text: &[u8])
         requires { length self.old + length text.now ≤ 40 }
         ensures { self.new ≡ self.old ++ text.now }

@@ -15,7 +15,7 @@ use ice_image::AnyImage;
 use plane_map::RowCol;
 use std::alloc::{AllocError, Global};
 
-/// A link that is on: its place among the lines of its kind, and its nets.
+/// A link that is on: its index among the lines of its kind, and its nets.
 #[derive(Clone, Copy, Debug, PartialEq, Eq)]
 pub(crate) struct OnLink {
     pub(crate) place: u32,
@@ -23,7 +23,7 @@ pub(crate) struct OnLink {
     pub(crate) dst: u32,
 }
 
-/// Whether these bits of the tile at (x, y) have these values: the first one that of the lowest bit.
+/// Whether these bits of the tile at (x, y) have these values. The lowest bit of `values` is the value of the first bit.
 fn have_values(image: &AnyImage, x: u8, y: u8, bits: &[RowCol], values: u64) -> bool
     requires few { length bits.now ≤ 64 }
     requires in_tile { All (IsBitOfTile (configuration_of image.now).layout x y) bits.now }
@@ -42,14 +42,17 @@ pub fn is_link_on(db: &ChipDb, image: &AnyImage, link: LinkLine) -> bool
     have_values(image, link.x, link.y, db.bits(link.bits), link.values)
 }
 
-/// A place as it is kept. For one that needs more than 32 bits there is no room.
+/// An index as it is kept, in 32 bits.
+///
+/// # Errors
+/// `AllocError` if the index needs more than 32 bits.
 pub fn place_of(place: usize) -> Result<u32, AllocError>
     ensures { IfOk result (λ kept. kept ≡ place) }
 {
     u32::try_from(place).map_err(|_| AllocError)
 }
 
-/// The links that are on, in their order.
+/// The links that are on, in the order of the lines.
 pub(crate) fn all_on(
     alloc: Global,
     db: &ChipDb,

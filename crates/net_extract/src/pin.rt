@@ -2,14 +2,14 @@
 ghost use Rattle.std.specs.Prelude.{◌≡◌};
 ghost use Rattle.net_extract.specs.Pins.{is_registered};
 
-/// How a pin has its value, or gives it.
+/// How a pin takes in its value, or puts it out.
 #[derive(Clone, Copy, Debug, PartialEq, Eq)]
 pub enum PinKind {
-    /// As it is.
+    /// Directly.
     Plain,
     /// Through a register.
     Registered,
-    /// As it is, and an output can be switched off.
+    /// Directly, with an output enable.
     TriState,
 }
 
@@ -22,13 +22,13 @@ pub struct Pin {
     pub kind: PinKind,
     /// Whether it is an output pin; else it is an input pin.
     pub output: bool,
-    /// Whether it is an output pin whose value can be read in the fabric.
+    /// Whether it is an output pin with a readback: the fabric can read its value on `io_n/D_IN_0`.
     pub back: bool,
     /// `io_n/D_IN_0`.
     pub din: Option<u32>,
     /// `io_n/D_OUT_0`.
     pub dout: Option<u32>,
-    /// `io_n/OUT_ENB`, which switches on a tri-state pin.
+    /// `io_n/OUT_ENB`, the output enable of a tri-state pin.
     pub enable: Option<u32>,
 }
 
@@ -44,7 +44,7 @@ impl Pin {
     }
 }
 
-/// A net of the global `g`, and what gives the global its value.
+/// A net of the global network `g`, and what drives the global network.
 #[derive(Clone, Copy, Debug, PartialEq, Eq)]
 pub struct GlobalNet {
     pub g: u8,
@@ -52,7 +52,7 @@ pub struct GlobalNet {
     pub from: GlobalFrom,
 }
 
-/// What gives a global its value.
+/// What drives a global network.
 #[derive(Clone, Copy, Debug, PartialEq, Eq)]
 pub enum GlobalFrom {
     /// Pin `n` of the io tile at (x, y).

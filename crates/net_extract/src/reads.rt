@@ -27,7 +27,7 @@ fn mark_ends(reads: &mut [bool], links: &[OnLink])
     }
 }
 
-/// Marks what buffers and routings read, where nothing is marked before.
+/// Marks the nets that buffers and routings read. Nothing is marked before.
 fn mark_all(reads: &mut [bool], buffers: &[OnLink], routings: &[OnLink])
     requires buffers { All (IsBelow (length reads.old)) buffers.now }
     requires routings { All (IsBelow (length reads.old)) routings.now }
@@ -38,7 +38,7 @@ fn mark_all(reads: &mut [bool], buffers: &[OnLink], routings: &[OnLink])
     mark_ends(reads, routings);
 }
 
-/// A mark for each net, and none is set.
+/// A mark for each net, none of which is set.
 fn no_marks(alloc: Global, nets: u32) -> Result<Vec<bool>, AllocError>
     ensures length { IfOk result (λ reads. length reads.items ≡ nets) }
     ensures unmarked { IfOk result (λ reads. (net : ℕ) → slice_index_or reads.items net false ≡ false) }

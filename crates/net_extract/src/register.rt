@@ -5,9 +5,9 @@ use crate::driver::ClockUser;
 /// What an input of a table reads.
 #[derive(Clone, Copy, Debug, PartialEq, Eq)]
 pub enum Source {
-    /// A net, where there is one; 0 where there is none, or where nothing drives it.
+    /// A net. The input is 0 if there is no net, or if nothing drives it.
     Net(Option<u32>),
-    /// An input pin, by its place among the input pins.
+    /// An input pin, by its index among the input pins.
     Pin(u32),
 }
 
@@ -20,8 +20,8 @@ pub struct Table {
     pub ins: [Source; 4],
 }
 
-/// A register of one bit: user `user` of a clock at the tile at (x, y). An input has its stated value where it has no net, or a net that
-/// nothing drives.
+/// A register of one bit: user `user` of a clock at the tile at (x, y). An input is unconnected if it has no net, or a net that nothing
+/// drives.
 #[derive(Clone, Copy, Debug, PartialEq, Eq)]
 pub struct Register {
     pub x: u8,
@@ -29,18 +29,18 @@ pub struct Register {
     pub user: ClockUser,
     /// The net that it drives.
     pub out: Option<u32>,
-    /// The clock; without one it has no edge.
+    /// The clock. Without one there are no edges.
     pub clk: Option<u32>,
-    /// Whether it takes its value at falling edges.
+    /// Whether it takes its value at falling clock edges.
     pub neg: bool,
-    /// The enable, 1 where it is unconnected.
+    /// The clock enable; 1 if it is unconnected.
     pub cen: Option<u32>,
-    /// The reset, 0 where it is unconnected.
+    /// The set or reset; 0 if it is unconnected.
     pub sr: Option<u32>,
-    /// What a reset makes of it.
+    /// The value that `sr` gives it: 1 for a set, 0 for a reset.
     pub set: bool,
-    /// Whether the reset acts at once, without a clock.
+    /// Whether `sr` is an asynchronous set or reset.
     pub at_once: bool,
-    /// What it takes at an edge.
+    /// The LUT whose value it takes at a clock edge.
     pub table: Table,
 }

@@ -4,7 +4,7 @@ ghost use Rattle.net_extract.specs.BelongTogether.{is_some_read_in};
 
 use crate::Links;
 
-/// Whether a net is read: no, where it is missing.
+/// Whether a net is read; false if there is no net.
 pub fn is_some_read(links: &Links, net: Option<u32>) -> bool
     requires { IfSome net (λ net. net < length links.now.classes) }
     ensures { result ≡ is_some_read_in links.now net }

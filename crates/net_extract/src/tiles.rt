@@ -10,7 +10,10 @@ use ice_image::AnyImage;
 use plane_map::{DeviceName, TileKind, kind_on};
 use std::alloc::{AllocError, Global};
 
-/// The tiles of a kind that an image has: by rows, and in a row by columns.
+/// The tiles of a kind that an image has, by row, then by column.
+///
+/// # Errors
+/// `AllocError` if memory is out, and for no other cause.
 pub fn tiles_of_image(
     alloc: Global,
     image: &AnyImage,
@@ -53,7 +56,7 @@ fn append_row(
     Ok(())
 }
 
-/// Appends the tile at a place where it is of that kind.
+/// Appends the tile at (x, y) if it is of that kind.
 fn append_place(
     tiles: &mut Vec<TileXy8>,
     device: DeviceName,

@@ -38,7 +38,7 @@ ports-more pins lines k line old new within at read taken =
     ∙ ap (λ l. ports_in pins (take k lines) ++ port_in pins (line_of l)) (sym at)
     ∙ sym (flat_map-more (λ l. port_in pins (line_of l)) lines k [] within)
 
--- the fault of a line behind the ports before it
+-- the fault of a line, given the ports before it
 fault-is : (pins : Package) (enabled : List PinPlace) (lines : List (List ℕ)) (k : ℕ) (line : List ℕ) (ports : List PinName) → line_at lines k ≡ line → ports ≡ ports_in pins (take k lines)
     → fault_at pins enabled lines k ≡ fault_with (k + 1) (cause_of pins enabled ports (line_of line))
 fault-is pins enabled lines k line ports at read =
@@ -72,13 +72,13 @@ refused pins enabled text k line ports (At number cause) within at read fit told
     (λ j before. first_below-clear k j (fault_at pins enabled lines) fit before)
     (fault-is pins enabled lines k line ports at read ∙ told)
 
--- where all lines were taken there is none
+-- if all lines were taken there is none
 pub accepted : (pins : Package) (enabled : List PinPlace) (text : List ℕ) (k : ℕ) → k ≡ length (lines_of text) → first_below k (fault_at pins enabled (lines_of text)) ≡ None
     → pin_fault_of pins enabled text ≡ None
 unfolding pin_fault_of
 accepted pins enabled text k all fit = subst (λ n. first_below n (fault_at pins enabled (lines_of text)) ≡ None) all fit
 
--- and the ports are those of the text
+-- and the ports are the ports of the text
 pub answered : (pins : Package) (text : List ℕ) (k : ℕ) (ports : List PinName) → k ≡ length (lines_of text) → ports ≡ ports_in pins (take k (lines_of text)) → ports ≡ ports_of pins text
 unfolding ports_of
 answered pins text k ports all read =

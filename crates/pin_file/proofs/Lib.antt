@@ -10,7 +10,7 @@ pub mod PackageSteps
 pub mod PortSteps
 -- lines taken one after the other, and the first that is faulty
 pub mod Ends
--- names that can stand in a module
+-- names that can be used in a module
 pub mod SafeNames
 -- the definitions at small texts, worked out by hand
 mod Worked

@@ -23,12 +23,12 @@ pub options-stopped : (left all : List (List ℕ)) (word : List ℕ) (words : Li
     → is_option word ≡ false → left ≡ behind_options false all
 options-stopped left all word words so_far is other = is ∙ sym (options-end word words other) ∙ ap (behind_options false) (sym is) ∙ so_far
 
--- or where no word is left
+-- or if no word is left
 pub options-none : (left all : List (List ℕ)) → behind_options false left ≡ behind_options false all → left ≡ [] → left ≡ behind_options false all
 unfolding behind_options
 options-none left all so_far none = none ∙ ap (behind_options false) (sym none) ∙ so_far
 
--- they go on behind an option
+-- they continue after an option
 pub options-more : (left all next : List (List ℕ)) (word : List ℕ) (words : List (List ℕ)) → behind_options false left ≡ behind_options false all → left ≡ word ∷ words
     → is_option word ≡ true → behind_options false next ≡ behind_options (takes_word word) words → behind_options false next ≡ behind_options false all
 options-more left all next word words so_far is option behind =
@@ -54,7 +54,7 @@ port_line-other all (pin ∷ (word ∷ words)) name is many = rw is refl
 
 -- ---- remarks
 
--- what stands before a remark
+-- what comes before a comment
 pub before-remark : (line : List ℕ) (offset : ℕ) → position begins_remark line ≡ Some offset → take offset line ≡ before_first begins_remark line
 before-remark line offset found =
     let first = position_or_len begins_remark line in

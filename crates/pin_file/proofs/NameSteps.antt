@@ -6,11 +6,11 @@ use Rattle.std.proofs.lemmas.List.{get_or_past, take_all}
 use Rattle.std.proofs.lemmas.List.Sums.{suffix_len-take_yes, suffix_len-take_no}
 use Rattle.pin_file.specs.PortNames.{is_underscore, without_end}
 
--- no digit stands past the end
+-- there is no digit past the end
 pub digit_past : (name : List ℕ) (place : ℕ) → length name ≤ place → is_ascii_digit (get_or name place 0) ≡ false
 digit_past name place past = rw (get_or_past name place 0 past) refl
 
--- how many `_` stand at the end of the first bytes
+-- how many `_` are at the end of the first bytes
 abbrev pub ended : ℕ → List ℕ → ℕ
 ended end bytes = suffix_len is_underscore (take end bytes)
 

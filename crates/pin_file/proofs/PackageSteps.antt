@@ -36,7 +36,7 @@ statement_before-grown lines line n within =
     last_below-same n (λ k. is_statement (line_at (grown lines line) k)) (λ k. is_statement (line_at lines k))
     (λ k below. ap is_statement (line-before lines line k (omega arith)))
 
--- the statement in which a line stands is that of the lines without the last one
+-- the statement that a line belongs to is the last one among the lines before it
 of_package-grown : (name : List ℕ) (lines : List (List ℕ)) (line : List ℕ) (n : ℕ) (found : Option ℕ) → n ≤ length lines → statement_before lines n ≡ found
     → is_of_package name (grown lines line) found ≡ is_of_package name lines found
 of_package-grown name lines line n None within is = refl
@@ -51,7 +51,7 @@ stands_below-grown name lines line n within =
     ap (is_of_package name (grown lines line)) (statement_before-grown lines line n within)
     ∙ of_package-grown name lines line n (statement_before lines n) within refl
 
--- behind a line
+-- after a line
 below-last : (name : List ℕ) (lines : List (List ℕ)) (line : List ℕ) (test : Bool) → is_statement line ≡ test
     → stands_below name (grown lines line) (length lines + 1) ≡ cond test (begins_package name line) (stands_below name lines (length lines))
 unfolding stands_below
@@ -198,7 +198,7 @@ takes-other old new line other named below known places = record {
   places_are = places;
 }
 
--- one that places no pin, or stands below no `.pins` with the package's name
+-- one that gives no place to a pin, or isn't below `.pins` with the package's name
 pub takes-nothing : (old : PinLines) (line : List ℕ) → is_statement line ≡ false
     → ((pin : List ℕ) → (if old.below then place_in_line pin line else None) ≡ None) → TakesLine old line old
 takes-nothing old line other nothing =
@@ -222,7 +222,7 @@ takes-pin old new line pin place other below named still known says places =
 
 -- ---- the end
 
--- the package that is kept is that of the lines
+-- the package that is kept is the package of the lines
 pub kept-is : (name : List ℕ) (lines : List (List ℕ)) (taker : PinLines) → HasTaken name lines taker → kept_in taker.pins ≡ package_in name lines
 unfolding kept_in
 kept-is name lines taker has = λ i. record { known = has.known_is i; place_of = λ pin. has.places_are pin i }
@@ -231,7 +231,7 @@ pub package-is : (name text : List ℕ) (pins : Package) → pins ≡ package_in
 unfolding package_of
 package-is name text pins is = is
 
--- no memory is told for all lines
+-- out of memory is reported for all lines
 pub lack-told : (taker : PinLines) (lines : List (List ℕ)) (r : Result (Unit {0}) AllocError) → IfErr r (λ lack. RefusesLines taken_by refused_with taker lines lack)
 lack-told taker lines (Ok done) = tt
 lack-told taker lines (Err lack) = λ name before more has. tt

@@ -85,7 +85,7 @@ misnamed-is enabled ports place name bytes rest kept is second =
     ∙ ap (λ taken. misnamed_by taken bytes (if has_place place enabled then enable_name bytes ∷ [] else [])) kept.names
     ∙ ap (λ (n : List ℕ). misnamed_by (all_names enabled ports.list.items) n (if has_place place enabled then enable_name n ∷ [] else [])) is
 
--- the same where the code finds the name twice
+-- the same answer if the code finds the name twice
 pub misnamed-both : (enabled : List PinPlace) (ports : Ports) (place : PinPlace) (name one two : List ℕ) (rest : List (List ℕ)) → AreKept enabled ports → one ≡ port_name name → two ≡ one
     → rest ≡ (if has_place place enabled then enable_name one ∷ [] else [])
     → misnamed_by ports.names two rest ≡ is_misnamed enabled ports.list.items (named_at place name)

@@ -1,4 +1,4 @@
--- The names of the ports that a pin file without a faulty line names can stand in a module.
+-- The names of the ports that a faultless pin file names can be used in a module.
 use Rattle.std.proofs.Common.{◌≡◌, ℕ, zero, suc, leb, ◌+◌, ◌-◌, ◌<◌, ◌≤◌, ◌^◌, Bool, true, false, not, ◌&&◌, ◌||◌, List, [], ◌∷◌, ◌++◌, length, take, get_or, append-nil, append_assoc, refl, sym, ap, ◌∙◌, subst, inl, inr, arith}
 use Rattle.std.specs.Prelude.{Option, Some, None, Result, Ok, Err, All, bytes_eq, codes, decimal, if◌then◌else◌}
 use Rattle.std.specs.Char.{is_ascii_digit}
@@ -63,7 +63,7 @@ enable-named name named =
 
 -- ---- own forms
 
--- none of the bytes behind the name is a digit
+-- none of the bytes after the name is a digit
 no_digit : (j : ℕ) → is_ascii_digit (get_or (codes "_en") j 0) ≡ false
 no_digit zero = refl
 no_digit (suc zero) = refl
@@ -204,7 +204,7 @@ safe-ports pins enabled text none =
 front-is : (beginning more : List ℕ) → take (length beginning) (beginning ++ more) ≡ beginning
 front-is beginning more = take-append-le (length beginning) beginning more (omega arith) ∙ take_all (length beginning) beginning (omega arith)
 
--- a beginning with a digit behind it
+-- a beginning with a digit after it
 pub begins-digit : (beginning : List ℕ) (digit : ℕ) (more : List ℕ) → is_ascii_digit digit ≡ true → begins_numbered (beginning ++ digit ∷ more) beginning ≡ true
 begins-digit beginning digit more is =
     and_from (bytes_eq beginning (take (length beginning) (beginning ++ digit ∷ more))) (is_ascii_digit (get_or (beginning ++ digit ∷ more) (length beginning) 0))
@@ -229,7 +229,7 @@ own_form-digit beginning digit more among is = begins-some (beginning ++ digit �
 is_digit : (byte : ℕ) → 48 ≤ byte → byte ≤ 57 → is_ascii_digit byte ≡ true
 is_digit byte low high = and_from (leb 48 byte) (leb byte 57) (le-leb 48 byte low) (le-leb byte 57 high)
 
--- the same of a number in decimal digits
+-- the beginning with a number in decimal digits after it
 own_form-digits : (beginning digits more : List ℕ) → list_any (bytes_eq beginning) own_beginnings ≡ true → 0 < length digits → All (λ byte. (48 ≤ byte) × (byte ≤ 57)) digits
     → has_own_form (beginning ++ (digits ++ more)) ≡ true
 own_form-digits beginning [] more among some are = absurd (omega arith)

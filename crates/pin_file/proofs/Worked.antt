@@ -27,12 +27,12 @@ options : line_of (codes "set_io -nowarn -pullup yes --warn-no-port -pullup_resi
 unfolding line_of plain_line words_of pieces_of behind_options
 options = refl
 
--- the word behind an option is missing
+-- the word after an option is missing
 short : line_of (codes "set_io -pullup led A10") ≡ Unknown
 unfolding line_of plain_line words_of pieces_of behind_options
 short = refl
 
--- an option behind the pin
+-- an option after the pin
 late : line_of (codes "set_io led A10 -nowarn") ≡ Unknown
 unfolding line_of plain_line words_of pieces_of behind_options
 late = refl

@@ -24,12 +24,12 @@ place_or_cause None = Err Pin
 abbrev pub place_in : Package → List ℕ → Result PinPlace PinCause
 place_in pins pin = if pins.known then place_or_cause (pins.place_of pin) else Err PackageCause
 
--- the port of a NAME, where its pin is
+-- the port with that NAME, if its pin has a place
 abbrev pub port_at : List ℕ → Result PinPlace PinCause → List PinName
 port_at name (Ok place) = record { place = place; name = port_name name } ∷ []
 port_at name (Err cause) = []
 
--- the port that a line names, where the package has its pin
+-- the port that a line names, if the package has its pin
 abbrev pub port_in : Package → Line → List PinName
 port_in pins (Port name pin) = port_at name (place_in pins pin)
 port_in pins line = []
@@ -44,31 +44,31 @@ ports_of pins text = ports_in pins (lines_of text)
 
 -- ---- causes
 
--- whether an earlier port is at the place
+-- whether an earlier port is at the same place
 abbrev pub is_repeated : List PinName → PinPlace → Bool
 is_repeated earlier place = has_place place (places_of earlier)
 
--- whether one of the names of a pin's ports is that of an earlier port
+-- whether one of the names of a pin's ports is a name of an earlier port
 abbrev pub is_taken : List PinPlace → List PinName → PinName → Bool
 is_taken enabled earlier port = list_any (has_name (all_names enabled earlier)) (names_of enabled port)
 
--- whether a pin can't have its name
+-- whether a port can't have its name
 abbrev pub is_misnamed : List PinPlace → List PinName → PinName → Bool
 is_misnamed enabled earlier port = not (is_name port.name) || has_own_form port.name || is_taken enabled earlier port
 
--- why a port is refused behind earlier ones
+-- why a port is refused, given the earlier ports
 unfoldable pub port_cause : List PinPlace → List PinName → PinName → Option PinCause
 port_cause enabled earlier port =
     if is_repeated earlier port.place then Some Repeated
     else if is_misnamed enabled earlier port then Some Name
     else None
 
--- the same of the port of a NAME, where its pin is
+-- why a line with that NAME is refused, given the place of its pin and the earlier ports
 abbrev pub pin_cause : List PinPlace → List PinName → List ℕ → Result PinPlace PinCause → Option PinCause
 pin_cause enabled earlier name (Ok place) = port_cause enabled earlier (record { place = place; name = port_name name })
 pin_cause enabled earlier name (Err cause) = Some cause
 
--- the least cause for which a line is faulty behind earlier ports; `enabled` are the places of the pins with a second port
+-- the first cause why a line is faulty, given the earlier ports; `enabled` are the places of the pins with a second port
 abbrev pub cause_of : Package → List PinPlace → List PinName → Line → Option PinCause
 cause_of pins enabled earlier Passed = None
 cause_of pins enabled earlier Unknown = Some Statement
@@ -76,12 +76,12 @@ cause_of pins enabled earlier (Port name pin) = pin_cause enabled earlier name (
 
 -- ---- the first fault
 
--- a line by its number, and what is wrong with it
+-- a line number with what is wrong with that line
 abbrev pub fault_with : ℕ → Option PinCause → Option PinFault
 fault_with line None = None
 fault_with line (Some cause) = Some (At line cause)
 
--- what is wrong with the line of an index, behind the ports of the lines before it
+-- what is wrong with the line at an index, given the ports of the lines before it
 abbrev pub fault_at : Package → List PinPlace → List (List ℕ) → ℕ → Option PinFault
 fault_at pins enabled lines n =
     fault_with (n + 1) (cause_of pins enabled (ports_in pins (take n lines)) (line_of (line_at lines n)))
@@ -90,7 +90,7 @@ fault_at pins enabled lines n =
 unfoldable pub pin_fault_of : Package → List PinPlace → List ℕ → Option PinFault
 pin_fault_of pins enabled text = let lines = lines_of text in first_below (length lines) (fault_at pins enabled lines)
 
--- a fault that is told is that one; that there was no memory may be told in place of any other answer
+-- the reported fault is that one; out of memory may come in place of any answer
 abbrev pub Tells : Option PinFault → PinFault → Type 0
 Tells first (Memory e) = Unit {0}
 Tells first fault = first ≡ Some fault

@@ -1,5 +1,5 @@
--- What was taken of a database that comes in pieces. The clauses of a reader's calls say all that matters of it: a new one stands
--- for an empty text, `feed` adds a piece, and `finish` gives the package of the text.
+-- What a reader has taken of a chip database that comes in pieces. A new reader stands for an empty text, `feed` adds a piece, and `finish`
+-- gives the package of the text.
 use Rattle.std.specs.Prelude.{◌≡◌, ℕ, ◌||◌, List, length, Option, None, if◌then◌else◌}
 use Rattle.std.specs.Prelude.{bytes_eq}
 use Rattle.std.specs.Map.{lookup}
@@ -14,7 +14,7 @@ use Rattle.pin_file.specs.Packages.{Package, package_in, stands_below, begins_pa
 
 -- ---- what is kept
 
--- where the pins that are kept place a pin
+-- the place that is kept for a pin
 abbrev pub place_kept : PackagePins → List ℕ → Option PinPlace
 place_kept pins pin = lookup (λ key. bytes_eq pin key.items) pins.places.entries
 
@@ -24,18 +24,18 @@ kept_in pins = record { known = pins.known; place_of = place_kept pins }
 
 -- ---- lines
 
--- these lines were taken for the package of that name
+-- these lines were taken, for the package with that name
 pub record HasTaken (name : List ℕ) (lines : List (List ℕ)) (taker : PinLines) : Type 0 where
   pub name_is : taker.name.items ≡ name
   pub below_is : taker.below ≡ stands_below name lines (length lines)
   pub known_is : taker.pins.known ≡ (package_in name lines).known
   pub places_are : (pin : List ℕ) → place_kept taker.pins pin ≡ (package_in name lines).place_of pin
 
--- the same as a taker of lines tells it
+-- the lines that a taker has taken for a package
 abbrev pub taken_by : List ℕ → PinLines → List (List ℕ) → Type 0
 taken_by name taker lines = HasTaken name lines taker
 
--- there was no memory, whatever the lines are
+-- the only refusal is out of memory, whatever the lines are
 abbrev pub refused_with : List ℕ → List (List ℕ) → AllocError → Type 0
 refused_with name lines lack = Unit {0}
 
@@ -48,10 +48,10 @@ pub record TakesLine (old : PinLines) (line : List ℕ) (new : PinLines) : Type 
 
 -- ---- texts
 
--- a reader stands for a text and the package of a name: that text was fed for it, or there was no memory
+-- a reader stands for a text and the package with a name if exactly that text was fed for it, or memory was out
 unfoldable pub StandsFor : List ℕ → List ℕ → PinReader → Type 0
 StandsFor name text reader = FeedsTo taken_by refused_with name text reader.lines
 
--- where a reader had no memory, that it hadn't
+-- out of memory, if the reader ran into it
 abbrev pub lack_of : PinReader → Option AllocError
 lack_of reader = refusal_of reader.lines

@@ -1,4 +1,4 @@
--- What a line of a pin file says: in nextpnr's form, but with no word behind PIN.
+-- What a line of a pin file says. The form is that of nextpnr's PCF files (physical constraints), but nothing may follow PIN.
 use Rattle.std.specs.Prelude.{ℕ, Bool, true, false, ◌||◌, List, [], ◌∷◌, map, get_or, codes, bytes_eq, ◌==◌, if◌then◌else◌}
 use Rattle.std.specs.List.{before_first}
 use Rattle.text_lines.specs.Words.{words_of}
@@ -10,7 +10,7 @@ use Rattle.text_lines.specs.declared.words.Separators.TheVariants.{Spaces}
 abbrev pub is_blank : ℕ → Bool
 is_blank byte = (byte == 32) || (byte == 9) || (byte == 11) || (byte == 12) || (byte == 13)
 
--- a blank is as good as a space
+-- each blank counts as a space
 abbrev pub plain_byte : ℕ → ℕ
 plain_byte byte = if is_blank byte then 32 else byte
 
@@ -18,17 +18,17 @@ plain_byte byte = if is_blank byte then 32 else byte
 abbrev pub begins_remark : ℕ → Bool
 begins_remark byte = byte == 35
 
--- a line without `#` and all behind it, and with a space for each blank
+-- a line without `#` and what follows it, and with a space for each blank
 unfoldable pub plain_line : List ℕ → List ℕ
 plain_line line = map plain_byte (before_first begins_remark line)
 
--- the words of a line: blanks part them, and `#` and all behind it doesn't count
+-- the words of a line: blanks separate them, and `#` and what follows it doesn't count
 abbrev pub words_in : List ℕ → List (List ℕ)
 words_in line = words_of Spaces (plain_line line)
 
 -- ---- statements
 
--- What a line says: nothing, or that the port of a name is at a pin. Or it is no line of a pin file.
+-- What a line says: nothing (it is skipped), or that the port NAME is at a pin. Or it isn't a line of a pin file.
 pub data Line : Type 0 where
   Passed : Line
   Port : (name pin : List ℕ) → Line
@@ -38,11 +38,11 @@ pub data Line : Type 0 where
 abbrev pub is_option : List ℕ → Bool
 is_option word = get_or word 0 0 == 45
 
--- the options behind which a word stands that belongs to them
+-- the options that take the next word as their value
 abbrev pub takes_word : List ℕ → Bool
 takes_word word = bytes_eq word (codes "-pullup") || bytes_eq word (codes "-pullup_resistor")
 
--- the words behind the options at the front, where the first word perhaps belongs to an option before it
+-- the words after the options at the front; the flag says whether the first word is the value of an option before it
 unfoldable pub behind_options : Bool → List (List ℕ) → List (List ℕ)
 behind_options belongs [] = []
 behind_options true (word ∷ words) = behind_options false words

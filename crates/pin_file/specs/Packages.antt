@@ -1,5 +1,5 @@
--- The pins of a package, which a chip database lists: below `.pins PACKAGE`, up to the next line that begins with a dot, on lines
--- `PIN X Y PIO`.
+-- The pins of a package, as a chip database lists them: on lines `PIN X Y PIO` below `.pins PACKAGE`, up to the next line that begins with
+-- a dot. Source: Project IceStorm, 'icebox chip database'.
 use Rattle.std.specs.Prelude.{ℕ, Bool, false, ◌&&◌, ◌||◌, List, [], ◌∷◌, length, get_or, codes, bytes_eq, ◌==◌, if◌then◌else◌, Option, Some, None}
 use Rattle.text_lines.specs.Lines.{lines_of, line_at}
 use Rattle.text_lines.specs.Words.{words_of, numbers_of}
@@ -7,7 +7,7 @@ use Rattle.text_lines.specs.declared.words.Separators.TheVariants.{SpacesAndTabs
 use Rattle.place_search.specs.Places.{any_below, last_below, first_below}
 use Rattle.pin_file.specs.declared.place.PinPlace.{PinPlace}
 
--- what is known of a package: whether it is listed, and where its pins are
+-- what is known of a package: whether the database lists it, and where its pins are
 pub record Package : Type 0 where
   pub known : Bool
   pub place_of : List ℕ → Option PinPlace
@@ -38,26 +38,26 @@ abbrev pub place_in_words : List ℕ → List (List ℕ) → Option PinPlace
 place_in_words pin [] = None
 place_in_words pin (word ∷ words) = if bytes_eq word pin then place_by (numbers_of words) else None
 
--- where a line `PIN X Y PIO` places a pin
+-- the place that a line `PIN X Y PIO` gives to a pin
 unfoldable pub place_in_line : List ℕ → List ℕ → Option PinPlace
 place_in_line pin line = if is_statement line || is_remark line then None else place_in_words pin (words_of SpacesAndTabs line)
 
 -- ---- texts
 
--- whether a statement is one of the package, where there is a statement
+-- whether there is a statement at that index, and it is `.pins PACKAGE`
 abbrev pub is_of_package : List ℕ → List (List ℕ) → Option ℕ → Bool
 is_of_package name lines None = false
 is_of_package name lines (Some k) = begins_package name (line_at lines k)
 
--- whether the line of an index stands below `.pins PACKAGE`: whether the last statement before it is that
+-- whether the line at an index is below `.pins PACKAGE`, that is, whether the last statement before it is `.pins PACKAGE`
 unfoldable pub stands_below : List ℕ → List (List ℕ) → ℕ → Bool
 stands_below name lines n = is_of_package name lines (last_below n (λ k. is_statement (line_at lines k)))
 
--- where the line of an index places a pin of the package
+-- the place that the line at an index gives to a pin of the package
 abbrev pub place_given : List ℕ → List (List ℕ) → List ℕ → ℕ → Option PinPlace
 place_given name lines pin n = if stands_below name lines n then place_in_line pin (line_at lines n) else None
 
--- the package as these lines list it: where two lines place a pin the first one counts
+-- the package as these lines list it; if two lines give a place to the same pin, the first one counts
 abbrev pub package_in : List ℕ → List (List ℕ) → Package
 package_in name lines = record {
   known = any_below (length lines) (λ k. begins_package name (line_at lines k));

@@ -1,2 +1,2 @@
--- What contracts within this crate cite, and no public one.
+-- Definitions that only contracts within this crate use.
 pub mod Reading

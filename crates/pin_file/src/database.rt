@@ -1,4 +1,4 @@
-// Lines of a database that list the pins of a package.
+// Lines of a chip database that list the pins of a package.
 ghost use Rattle.std.specs.Prelude.{◌≡◌, ℕ, List, None, Some, bytes_eq, if◌then◌else◌, MatchOption};
 ghost use Rattle.text_lines.specs.declared.words.Separators.TheVariants.{SpacesAndTabs};
 ghost use Rattle.text_lines.specs.Words.{words_of};
@@ -14,14 +14,14 @@ pub(crate) fn is_statement(line: &[u8]) -> bool
     matches!(line, [b'.', ..])
 }
 
-/// Whether the line is a remark.
+/// Whether the line is a comment.
 fn is_remark(line: &[u8]) -> bool
     ensures { result ≡ is_remark line.now }
 {
     matches!(line, [b'#', ..])
 }
 
-/// Whether the line is `.pins` with the package's name.
+/// Whether the line is `.pins PACKAGE` with that package's name.
 #[tactic(auto, unfolding(crate::specs::Packages::begins_package))]
 pub(crate) fn begins_package(name: &[u8], line: &[u8]) -> bool
     ensures { result ≡ begins_package name.now line.now }
@@ -42,7 +42,7 @@ fn is_head(name: &[u8], line: &[u8]) -> bool
     }
 }
 
-/// The pin that a line `PIN X Y PIO` places, and its place: none where the line has another form.
+/// The pin of a line `PIN X Y PIO`, and its place. `None` if the line has another form.
 #[tactic(auto, unfolding(crate::specs::Packages::place_in_line))]
 pub(crate) fn pin_in_line(line: &[u8]) -> Option<(&[u8], PinPlace)>
     ensures { MatchOption result ((pin : List ℕ) → place_in_line pin line.now ≡ None)
@@ -55,7 +55,7 @@ pub(crate) fn pin_in_line(line: &[u8]) -> Option<(&[u8], PinPlace)>
     }
 }
 
-/// The same of a line that is neither a statement nor a remark.
+/// The pin and its place, for a line that is neither a statement nor a comment.
 fn pin_in_words(line: &[u8]) -> Option<(&[u8], PinPlace)>
     ensures { MatchOption result ((pin : List ℕ) → place_in_words pin (words_of SpacesAndTabs line.now) ≡ None)
         (λ found. (pin : List ℕ) → place_in_words pin (words_of SpacesAndTabs line.now) ≡ (if bytes_eq found.0.now pin then Some found.1 else None)) }

@@ -5,10 +5,10 @@ ghost use Rattle.pin_file.specs.declared.fault.PinFault.TheVariants.{Memory};
 use std::alloc::AllocError;
 use thiserror::Error;
 
-/// Why a line of a pin file is refused. Of several causes the first in this list is told.
+/// Why a line of a pin file is refused. If a line has several faults, the one that comes first in this list is reported.
 #[derive(Clone, Copy, Debug, PartialEq, Eq, Error)]
 pub enum PinCause {
-    /// Neither `set_io OPTIONS NAME PIN` nor `set_frequency` and anything.
+    /// The line is neither `set_io OPTIONS NAME PIN` nor a `set_frequency` line.
     #[error("it isn't `set_io NAME PIN`")]
     Statement,
     /// The database doesn't list the package.
@@ -20,13 +20,13 @@ pub enum PinCause {
     /// An earlier line is for the same pin, or for one at the same place.
     #[error("an earlier line names the pin")]
     Repeated,
-    /// What becomes of the name isn't a name of the Verilog subset, or has the form of the names that a module uses itself, or is that
-    /// of an earlier line. The name of the second port of a pin that can be switched off counts too.
+    /// The port's name isn't a name of the Verilog subset, or has the form of the names that a module uses itself, or is the name of a port
+    /// of an earlier line. The same holds for the name of the second port of a pin that can be switched off.
     #[error("the port can't have the name")]
     Name,
 }
 
-/// Why a pin file isn't read.
+/// Why a pin file is refused.
 #[derive(Clone, Copy, Debug, PartialEq, Eq, Error)]
 pub enum PinFault {
     /// The first faulty line, counted from 1, and the first of its causes.

@@ -1,6 +1,6 @@
-//! Pin files: texts that name the ports at the pins of a package.
+//! Pin files: texts that name the ports at the pins of a package (nextpnr's PCF files, as far as they place ports).
 //!
-//! [`PinReader`] takes the text of a chip database and keeps the pins of one package, and [`pin_names`] reads a pin file by them.
+//! [`PinReader`] takes the text of a chip database and keeps the pins of one package. With these, [`pin_names`] reads a pin file.
 #![tactic(auto)]
 
 mod database;

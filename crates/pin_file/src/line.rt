@@ -12,15 +12,15 @@ use text_lines::{Separators, one_word, split_word};
 /// What a line is.
 #[derive(Clone, Copy)]
 pub(crate) enum LineKind<'a> {
-    /// It is passed over.
+    /// It is skipped.
     Passed,
-    /// The name of a port, and its pin.
+    /// It gives the name of a port, and its pin.
     Port { name: &'a [u8], pin: &'a [u8] },
-    /// No line of a pin file.
+    /// It isn't a line of a pin file.
     Unknown,
 }
 
-/// A line without `#` and all behind it, and with a space for each blank.
+/// A line without `#` and what follows it, and with a space for each blank.
 #[tactic(auto, unfolding(crate::specs::Lines::plain_line))]
 pub(crate) fn plain_line(alloc: Global, line: &[u8]) -> Result<Vec<u8>, AllocError>
     ensures { IfOk result (λ plain. plain.items ≡ plain_line line.now) }
@@ -28,7 +28,7 @@ pub(crate) fn plain_line(alloc: Global, line: &[u8]) -> Result<Vec<u8>, AllocErr
     plain_bytes(alloc, before_remark(line))
 }
 
-/// What stands before the first `#`.
+/// What comes before the first `#`.
 fn before_remark(line: &[u8]) -> &[u8]
     ensures { result.now ≡ before_first begins_remark line.now }
 {
@@ -46,7 +46,7 @@ fn remark_in(line: &[u8]) -> Option<usize>
     line.iter().position(|byte| *byte == b'#')
 }
 
-/// Bytes with a space for each blank.
+/// The bytes with a space for each blank.
 fn plain_bytes(alloc: Global, bytes: &[u8]) -> Result<Vec<u8>, AllocError>
     ensures { IfOk result (λ plain. plain.items ≡ map plain_byte bytes.now) }
 {
@@ -57,7 +57,7 @@ fn plain_bytes(alloc: Global, bytes: &[u8]) -> Result<Vec<u8>, AllocError>
     Ok(plain)
 }
 
-/// A space for a blank, and any other byte itself.
+/// A space for a blank, and any other byte unchanged.
 fn plain_byte(byte: u8) -> u8
     ensures { result ≡ plain_byte byte }
 {
@@ -89,7 +89,7 @@ pub(crate) fn line_kind(line: &[u8]) -> LineKind<'_>
     }
 }
 
-/// The words behind the options at the front.
+/// The words after the options at the front.
 fn behind_options(words: &[u8]) -> &[u8]
     ensures { words_of Spaces result.now ≡ behind_options false (words_of Spaces words.now) }
 {
@@ -104,7 +104,7 @@ fn behind_options(words: &[u8]) -> &[u8]
     left
 }
 
-/// The words behind an option, without the one that belongs to it.
+/// The words after an option and its value, if it takes one.
 fn behind_option<'a>(option: &[u8], words: &'a [u8]) -> &'a [u8]
     ensures options { behind_options false (words_of Spaces result.now) ≡ behind_options (takes_word option.now) (words_of Spaces words.now) }
     ensures shorter { length result.now ≤ length words.now }
@@ -126,14 +126,14 @@ fn is_option(word: &[u8]) -> bool
     matches!(word, [b'-', ..])
 }
 
-/// Whether a word behind the option belongs to it.
+/// Whether an option takes the next word as its value.
 fn takes_word(option: &[u8]) -> bool
     ensures { result ≡ takes_word option.now }
 {
     option == b"-pullup".as_slice() || option == b"-pullup_resistor".as_slice()
 }
 
-/// What a line says behind `set_io` and its options.
+/// What a line says after `set_io` and its options.
 fn port_kind(words: &[u8]) -> LineKind<'_>
     ensures { said_by result ≡ port_line (words_of Spaces words.now) }
 {

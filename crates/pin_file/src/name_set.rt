@@ -6,7 +6,7 @@ use indexmap::IndexSet;
 use std::alloc::{AllocError, Global};
 use std::marker::Model;
 
-/// Names in the order in which they came, each once.
+/// Names in the order in which they were added, each once.
 #[derive(Drop)]
 pub(crate) struct NameSet {
     names: IndexSet<Vec<u8>>,
@@ -21,7 +21,7 @@ impl Model for NameSet {
 }
 
 impl NameSet {
-    /// No names. It takes no memory yet.
+    /// A set without names. It takes no memory yet.
     pub(crate) fn new(alloc: Global) -> NameSet
         ensures { result ≡ [] }
     {
@@ -30,7 +30,7 @@ impl NameSet {
         }
     }
 
-    /// Adds a name that isn't there.
+    /// Adds a name that isn't in the set yet.
     pub(crate) fn push(&mut self, name: Vec<u8>) -> Result<(), AllocError>
         requires { has_name self.old name.items ≡ false }
         ensures { OnOk result (self.new ≡ self.old ++ name.items ∷ []) }
@@ -39,7 +39,7 @@ impl NameSet {
         Ok(())
     }
 
-    /// Whether a name is among them.
+    /// Whether a name is in the set.
     pub(crate) fn contains(&self, name: &[u8]) -> bool
         ensures { result ≡ has_name self.now name.now }
     {

@@ -1,4 +1,4 @@
-// The pins of a package, as they are kept.
+// The kept pins of a package.
 ghost use Rattle.std.specs.Prelude.{◌≡◌, ◌||◌, ℕ, List, None, Some, false, bytes_eq, if◌then◌else◌, OnOk};
 ghost use Rattle.place_search.specs.Places.{or_else};
 
@@ -6,7 +6,7 @@ use crate::place::PinPlace;
 use indexmap::IndexMap;
 use std::alloc::{AllocError, Global};
 
-/// The pins of a package: whether the database lists it, and the place of each of its pins.
+/// The pins of a package: whether the database lists the package, and the place of each of its pins.
 #[derive(Drop)]
 pub struct PackagePins {
     known: bool,
@@ -17,7 +17,7 @@ pub struct PackagePins {
 impl PackagePins {
     ghost use Rattle.pin_file.specs.Feeding.{kept_in, place_kept};
 
-    /// No package, and no pins. It takes no memory yet.
+    /// A package that isn't listed so far, without pins. It takes no memory yet.
     pub(crate) fn new(alloc: Global) -> PackagePins
         ensures unknown { result.known ≡ false }
         ensures empty { (pin : List ℕ) → place_kept result pin ≡ None }
@@ -37,7 +37,7 @@ impl PackagePins {
         self.known
     }
 
-    /// The place of a pin of the package: the first that the database lists for it.
+    /// The place of a pin of the package, or `None` if the database gives none. If it gives several, the first.
     #[tactic(auto, unfolding(crate::specs::Feeding::kept_in))]
     pub fn place_of(&self, pin: &[u8]) -> Option<PinPlace>
         ensures { result ≡ (kept_in self.now).place_of pin.now }
@@ -45,14 +45,14 @@ impl PackagePins {
         self.find(pin)
     }
 
-    /// The place that is kept of a pin.
+    /// The kept place of a pin.
     fn find(&self, pin: &[u8]) -> Option<PinPlace>
         ensures { result ≡ place_kept self.now pin.now }
     {
         self.places.get(pin).copied()
     }
 
-    /// The package is listed from now on, if it is here.
+    /// Marks the package as listed, if `here` is set.
     pub(crate) fn list_if(&mut self, here: bool)
         ensures known { self.new.known ≡ (self.old.known || here) }
         ensures places { (pin : List ℕ) → place_kept self.new pin ≡ place_kept self.old pin }
@@ -60,7 +60,7 @@ impl PackagePins {
         self.known = self.known || here;
     }
 
-    /// Gives a pin its place, where it has none.
+    /// Sets the place of a pin, if the pin has none yet.
     pub(crate) fn add(&mut self, pin: &[u8], place: PinPlace) -> Result<(), AllocError>
         ensures known { self.new.known ≡ self.old.known }
         ensures places { OnOk result ((other : List ℕ) → place_kept self.new other
@@ -77,7 +77,7 @@ impl PackagePins {
 ghost use Rattle.std.specs.Prelude.{◌++◌, ◌∷◌, []};
 ghost use Rattle.std.specs.Map.{lookup};
 
-/// Gives a pin that has no place its place.
+/// Sets the place of a pin that has none.
 fn insert(
     places: &mut IndexMap<Vec<u8>, PinPlace>,
     pin: Vec<u8>,

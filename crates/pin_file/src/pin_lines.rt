@@ -1,4 +1,4 @@
-// The lines of a database, one after another.
+// The lines of a chip database, one after the other.
 ghost use Rattle.std.specs.Prelude.{◌≡◌, [], List, ℕ, OnOk, IfOk};
 
 use crate::database::{begins_package, is_statement, pin_in_line};
@@ -10,7 +10,7 @@ use text_lines::{LineTaker, first_line};
 #[derive(Drop)]
 pub(crate) struct PinLines {
     name: Vec<u8>,
-    /// Whether the next line stands below `.pins` with the package's name.
+    /// Whether the next line is below `.pins PACKAGE` with that package's name.
     below: bool,
     pins: PackagePins,
 }
@@ -19,7 +19,7 @@ impl PinLines {
     ghost use Rattle.pin_file.specs.Feeding.{HasTaken, TakesLine, kept_in};
     ghost use Rattle.pin_file.specs.Packages.{package_in};
 
-    /// No line was read.
+    /// A taker that has read no line.
     pub(crate) fn new(alloc: Global, name: &[u8]) -> Result<PinLines, AllocError>
         ensures { IfOk result (HasTaken name.now []) }
     {
@@ -54,7 +54,7 @@ impl PinLines {
         self.pins.list_if(self.below);
     }
 
-    /// Takes the next line, which is no statement and stands below `.pins` with the package's name.
+    /// Takes the next line, which isn't a statement and is below `.pins PACKAGE` with that package's name.
     fn take_pin(&mut self, line: &[u8]) -> Result<(), AllocError>
         requires below { self.old.below ≡ true }
         requires other { is_statement line.now ≡ false }
@@ -66,7 +66,7 @@ impl PinLines {
         }
     }
 
-    /// The pins of the package, all lines being read.
+    /// The pins of the package, after all lines were read.
     pub(crate) fn finish(self) -> PackagePins
         ensures { (name : List ℕ) (lines : List (List ℕ)) → HasTaken name lines self → kept_in result ≡ package_in name lines }
     {

@@ -1,4 +1,4 @@
-// Ports by their pins.
+// Ports with their pins.
 
 use crate::place::PinPlace;
 use vlog_module::Name;

@@ -1,4 +1,4 @@
-// A database of which the pins of a package are read, in pieces.
+// Reads the pins of a package from a chip database that comes in pieces.
 ghost use Rattle.std.specs.Prelude.{◌≡◌, [], List, ℕ, ◌++◌, Err, None, Some, IfOk, MatchResult};
 ghost use Rattle.std.specs.declared.alloc.AllocError.{AllocError as NoMemory};
 
@@ -7,7 +7,7 @@ use crate::pin_lines::PinLines;
 use std::alloc::{AllocError, Global};
 use text_lines::LineFeed;
 
-/// A reader of a database that comes in pieces. It keeps the pins of one package, and the bytes of a line that hasn't ended yet.
+/// Reads a chip database that comes in pieces. It keeps the pins of one package, and the bytes of a line that hasn't ended yet.
 #[derive(Drop)]
 pub struct PinReader {
     lines: LineFeed<PinLines, AllocError>,
@@ -17,7 +17,10 @@ impl PinReader {
     ghost use Rattle.pin_file.specs.Feeding.{StandsFor, kept_in, lack_of};
     ghost use Rattle.pin_file.specs.Packages.{package_of};
 
-    /// A reader for the package of a name, to which nothing was fed.
+    /// A reader for the package with that name; nothing was fed to it yet.
+    ///
+    /// # Errors
+    /// `AllocError` if memory is out, and for no other cause.
     #[tactic(auto, unfolding(crate::specs::Feeding::StandsFor))]
     pub fn new(alloc: Global, name: &[u8]) -> Result<PinReader, AllocError>
         ensures stands { IfOk result (StandsFor name.now []) }
@@ -28,7 +31,10 @@ impl PinReader {
         Ok(PinReader { lines })
     }
 
-    /// Takes the next bytes. Where there was no memory, each later call answers that again.
+    /// Takes the next bytes of the database.
+    ///
+    /// # Errors
+    /// `AllocError` if memory is out, and for no other cause. Each later call returns it again.
     #[tactic(auto, unfolding(crate::specs::Feeding::StandsFor))]
     pub fn feed(&mut self, piece: &[u8]) -> Result<(), AllocError>
         ensures stands { (name text : List ℕ) → StandsFor name text self.old → StandsFor name (text ++ piece.now) self.new }
@@ -38,7 +44,10 @@ impl PinReader {
         self.lines.feed(piece)
     }
 
-    /// The pins of the package. Where there was no memory at an earlier piece, it answers that.
+    /// The pins of the package, after the last piece.
+    ///
+    /// # Errors
+    /// `AllocError` if memory is out, now or in an earlier call, and for no other cause.
     #[tactic(auto, unfolding(crate::specs::Feeding::StandsFor))]
     pub fn finish(self) -> Result<PackagePins, AllocError>
         ensures pins { IfOk result (λ pins. (name text : List ℕ) → StandsFor name text self → kept_in pins ≡ package_of name text) }

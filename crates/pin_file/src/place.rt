@@ -1,6 +1,6 @@
 // Places of pins.
 
-/// The place of a pin: pin `pio` of the io tile at (x, y).
+/// The place of a pin: pad `pio` of the io tile at (x, y).
 #[derive(Clone, Copy, Debug, PartialEq, Eq, Hash)]
 pub struct PinPlace {
     pub x: u32,

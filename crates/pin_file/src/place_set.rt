@@ -7,7 +7,7 @@ use indexmap::IndexSet;
 use std::alloc::{AllocError, Global};
 use std::marker::Model;
 
-/// Places in the order in which they came, each once.
+/// Places in the order in which they were added, each once.
 #[derive(Drop)]
 pub(crate) struct PlaceSet {
     places: IndexSet<PinPlace>,
@@ -23,7 +23,7 @@ impl Model for PlaceSet {
 }
 
 impl PlaceSet {
-    /// No places. It takes no memory yet.
+    /// A set without places. It takes no memory yet.
     pub(crate) fn new(alloc: Global) -> PlaceSet
         ensures { result ≡ [] }
     {
@@ -32,7 +32,7 @@ impl PlaceSet {
         }
     }
 
-    /// Adds a place that isn't there.
+    /// Adds a place that isn't in the set yet.
     pub(crate) fn push(&mut self, place: PinPlace) -> Result<(), AllocError>
         requires { has_place place self.old ≡ false }
         ensures { OnOk result (self.new ≡ self.old ++ place ∷ []) }
@@ -41,7 +41,7 @@ impl PlaceSet {
         Ok(())
     }
 
-    /// Whether a place is among them.
+    /// Whether a place is in the set.
     pub(crate) fn contains(&self, place: PinPlace) -> bool
         ensures { result ≡ has_place place self.now }
     {

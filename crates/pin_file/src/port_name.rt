@@ -6,7 +6,7 @@ ghost use Rattle.pin_file.specs.PortNames.{begins_numbered, enable_name, has_own
 
 use std::alloc::{AllocError, Global};
 
-/// The name that the port of a NAME gets.
+/// The name of the port that a line calls NAME.
 #[tactic(auto, unfolding(crate::specs::PortNames::port_name))]
 pub(crate) fn port_name(alloc: Global, name: &[u8]) -> Result<Vec<u8>, AllocError>
     ensures { IfOk result (λ port. port.items ≡ port_name name.now) }
@@ -15,7 +15,7 @@ pub(crate) fn port_name(alloc: Global, name: &[u8]) -> Result<Vec<u8>, AllocErro
     Vec::from_slice(alloc, without_end(&bytes))
 }
 
-/// Bytes with `_` for each that isn't a letter, a digit or `_`.
+/// The bytes, with `_` for each that isn't a letter, a digit or `_`.
 fn name_bytes(alloc: Global, bytes: &[u8]) -> Result<Vec<u8>, AllocError>
     ensures { IfOk result (λ name. name.items ≡ map name_byte bytes.now) }
 {
@@ -26,7 +26,7 @@ fn name_bytes(alloc: Global, bytes: &[u8]) -> Result<Vec<u8>, AllocError>
     Ok(name)
 }
 
-/// The byte itself where it is a letter, a digit or `_`, and else `_`.
+/// The byte itself if it is a letter, a digit or `_`, else `_`.
 fn name_byte(byte: u8) -> u8
     ensures { result ≡ name_byte byte }
 {
@@ -37,7 +37,7 @@ fn name_byte(byte: u8) -> u8
     }
 }
 
-/// Bytes without the `_` at their end.
+/// The bytes without any `_` at their end.
 fn without_end(bytes: &[u8]) -> &[u8]
     ensures { result.now ≡ without_end bytes.now }
 {
@@ -55,7 +55,7 @@ fn is_underscore(byte: u8) -> bool
     byte == b'_'
 }
 
-/// The name of the second port of a pin whose port has that name.
+/// The name of the second port (output enable) of a pin whose first port has that name.
 pub(crate) fn enable_name(alloc: Global, name: &[u8]) -> Result<Vec<u8>, AllocError>
     ensures { IfOk result (λ second. second.items ≡ enable_name name.now) }
 {
@@ -64,7 +64,7 @@ pub(crate) fn enable_name(alloc: Global, name: &[u8]) -> Result<Vec<u8>, AllocEr
     Ok(second)
 }
 
-/// The beginnings of the names that a module uses itself.
+/// How the names begin that a module uses itself.
 const OWN_BEGINNINGS: [&str; 7] = ["n_", "ff_", "pi_", "po_", "rd_", "mem_", "io_"];
 
 /// Whether a name has the form of a name that a module uses itself.
@@ -75,7 +75,7 @@ pub(crate) fn has_own_form(name: &[u8]) -> bool
     begins_with_one(name, &OWN_BEGINNINGS)
 }
 
-/// Whether a name has one of the beginnings, and a digit behind it.
+/// Whether a name begins with one of these, and a digit follows.
 fn begins_with_one(name: &[u8], beginnings: &[&str]) -> bool
     ensures { result ≡ list_any (λ beginning. begins_numbered name.now beginning.now) beginnings.now }
 {
@@ -84,14 +84,14 @@ fn begins_with_one(name: &[u8], beginnings: &[&str]) -> bool
         .any(|beginning| begins_numbered(name, beginning.as_bytes()))
 }
 
-/// Whether a name has that beginning, and a digit behind it.
+/// Whether a name begins so, and a digit follows.
 fn begins_numbered(name: &[u8], beginning: &[u8]) -> bool
     ensures { result ≡ begins_numbered name.now beginning.now }
 {
     name.starts_with(beginning) && has_digit_at(name, beginning.len())
 }
 
-/// Whether a digit stands at a place.
+/// Whether there is a digit at an index.
 #[tactic(auto, using(crate::proofs::NameSteps::digit_past))]
 fn has_digit_at(name: &[u8], place: usize) -> bool
     ensures { result ≡ is_ascii_digit (get_or name.now place 0) }

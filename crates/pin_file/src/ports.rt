@@ -14,7 +14,7 @@ use crate::refusal::Refusal;
 use std::alloc::{AllocError, Global};
 use vlog_module::{Name, is_name};
 
-/// The ports that the lines so far have given, with their places and the names of all of them, by which they are found.
+/// The ports that the lines so far have given. Their places and all of their names are kept for searches.
 #[derive(Drop)]
 pub(crate) struct Ports {
     list: Vec<PinName>,
@@ -28,7 +28,7 @@ impl Ports {
     ghost use Rattle.pin_file.specs.Lines.{line_of};
     ghost use Rattle.pin_file.specs.inside.Reading.{AreKept, RefusesFor, said_by};
 
-    /// No ports. It takes no memory yet.
+    /// A list without ports. It takes no memory yet.
     pub(crate) fn new(alloc: Global) -> Ports
         ensures kept { (enabled : List Place) → AreKept enabled result }
         ensures empty { result.list.items ≡ [] }
@@ -41,7 +41,7 @@ impl Ports {
         }
     }
 
-    /// The ports, all lines being read.
+    /// The ports, after all lines were read.
     pub(crate) fn finish(self) -> Vec<PinName>
         ensures { result.items ≡ self.list.items }
     {
@@ -86,7 +86,7 @@ impl Ports {
         }
     }
 
-    /// Takes the port of a NAME at a pin.
+    /// Takes the port NAME at a pin.
     fn accept_port(
         &mut self,
         pins: &PackagePins,
@@ -106,7 +106,7 @@ impl Ports {
         }
     }
 
-    /// Takes the port of a NAME at a place.
+    /// Takes the port NAME at a place.
     fn accept_at(
         &mut self,
         enabled: &[PinPlace],
@@ -131,14 +131,14 @@ impl Ports {
         Ok(())
     }
 
-    /// Whether a pin can't have these names.
+    /// Whether a port can't have these names.
     fn is_misnamed(&self, name: &[u8], second: &Option<Vec<u8>>) -> bool
         ensures { result ≡ (not (is_name name.now) || has_own_form name.now || list_any (has_name self.now.names) (name.now ∷ seconds second.now)) }
     {
         !is_name(name) || has_own_form(name) || self.is_taken(name, second)
     }
 
-    /// Whether one of the names is that of a port.
+    /// Whether one of the names is a name of an earlier port.
     fn is_taken(&self, name: &[u8], second: &Option<Vec<u8>>) -> bool
         ensures { result ≡ list_any (has_name self.now.names) (name.now ∷ seconds second.now) }
     {
@@ -195,7 +195,7 @@ fn place_in(pins: &PackagePins, pin: &[u8]) -> Result<PinPlace, PinCause>
     }
 }
 
-/// The name of the second port of a pin, where it is there.
+/// The name of the second port of a pin, if it has one.
 fn second_name(
     alloc: Global,
     enabled: &[PinPlace],
@@ -219,7 +219,7 @@ fn has_place(place: PinPlace, places: &[PinPlace]) -> bool
     places.iter().any(|other| place == *other)
 }
 
-/// Adds names that aren't there.
+/// Adds names that aren't in the set yet.
 fn push_names(names: &mut NameSet, name: Vec<u8>, second: Option<Vec<u8>>) -> Result<(), AllocError>
     requires free { list_any (has_name names.old) (name.items ∷ seconds second) ≡ false }
     requires apart { list_any (has_name (name.items ∷ [])) (seconds second) ≡ false }

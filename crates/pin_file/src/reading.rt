@@ -1,4 +1,4 @@
-// A pin file, read line by line.
+// Reads a pin file line by line.
 ghost use Rattle.std.specs.Prelude.{◌≡◌, ◌++◌, None, IfOk, IfErr, OnOk};
 ghost use Rattle.pin_file.specs.Faults.{Tells, cause_of, fault_with, pin_fault_of, port_in, ports_of};
 ghost use Rattle.pin_file.specs.Feeding.{kept_in};
@@ -15,15 +15,27 @@ use crate::refusal::Refusal;
 use std::alloc::Global;
 use text_lines::first_line;
 
-/// The names that a pin file gives to ports at the pins of a package, in the order of its lines, or its first faulty line.
-/// `enabled` are the places of the design's pins that can be switched off: they have a second port, with `_en` behind the name.
+/// Reads a pin file: the names that it gives to ports at the pins of a package, in the order of its lines. `enabled` are the places of the
+/// design's pins that can be switched off. Such a pin has a second port, whose name ends in `_en`.
 ///
-/// A line is `set_io OPTIONS NAME PIN`, with no word behind PIN. A line whose first word is `set_frequency` is passed over, as an empty
-/// one is. `#` begins a remark. The options begin with `-`, and a word belongs to each of `-pullup` and `-pullup_resistor`. In a port's
-/// name `_` stands for each byte of NAME that isn't a letter, a digit or `_`, and `_` at the end is left out.
+/// A line is `set_io OPTIONS NAME PIN`, and nothing may follow PIN. A line whose first word is `set_frequency` is skipped, and so is an
+/// empty one. `#` begins a comment. Options begin with `-`; `-pullup` and `-pullup_resistor` take the next word as their value. In the name
+/// of a port `_` stands for each byte of NAME that isn't a letter, a digit or `_`, and any `_` at its end is dropped.
 ///
 /// # Errors
-/// `PinFault::At` for the first faulty line, with the least of its causes; `PinFault::Memory` where memory is out.
+/// `PinFault::At` with the first faulty line and the first of its causes. `PinFault::Memory` if memory is out; it may come in place of any
+/// other answer.
+///
+/// # Example
+/// ```ignore
+/// use pin_file::{PinReader, pin_names};
+///
+/// let mut reader = PinReader::new(alloc, b"tq144")?;
+/// reader.feed(database)?; // the bytes of the chip database, whole or in pieces
+/// let pins = reader.finish()?;
+/// let ports = pin_names(alloc, b"set_io led[3] 96\n", &pins, &[])?;
+/// // ports[0].name is `led_3`, and ports[0].place the place of pin 96
+/// ```
 pub fn pin_names(
     alloc: Global,
     text: &[u8],
@@ -46,7 +58,7 @@ pub fn pin_names(
     Ok(ports.finish())
 }
 
-/// Takes the next line, which has that number.
+/// Takes the next line, which is line `number` of the file.
 fn take_line(
     ports: &mut Ports,
     number: u64,

@@ -1,11 +1,11 @@
-// Why a line isn't taken.
+// Why a line is refused.
 ghost use Rattle.std.specs.Prelude.{◌≡◌};
 ghost use Rattle.pin_file.specs.declared.refusal.Refusal.TheVariants.{Memory};
 
 use crate::fault::PinCause;
 use std::alloc::AllocError;
 
-/// Why a line isn't taken: its cause, or out of memory.
+/// Why a line is refused: its cause, or out of memory.
 #[derive(Clone, Copy)]
 pub(crate) enum Refusal {
     Cause(PinCause),

@@ -1,4 +1,4 @@
--- What the search of places below a bound tells where it finds nothing, or something.
+-- What the search of places below a bound says if it finds nothing, or something.
 use Rattle.std.proofs.Common.{◌≡◌, ℕ, zero, suc, ◌<◌, Bool, true, false, refl, ap, ◌∙◌, subst, inl, inr, arith}
 use Rattle.std.specs.Prelude.{Option, Some, None}
 use Rattle.std.proofs.lemmas.Bool.{cases_lt, or_parts}
@@ -18,7 +18,7 @@ or_else-other None other none = none
 pub or_else-neither : {A : Type 0} (first other : Option A) → or_else first other ≡ None → (first ≡ None) × (other ≡ None)
 or_else-neither first other none = (or_else-first first other none, or_else-other first other none)
 
--- where nothing is found no place gives anything
+-- if nothing is found, no place gives anything
 pub first_below-clear : {A : Type 0} (n k : ℕ) (given : ℕ → Option A) → first_below n given ≡ None → k < n → given k ≡ None
 unfolding first_below
 first_below-clear zero k given none within = absurd (omega arith)
@@ -30,7 +30,7 @@ first_below-clear (suc n) k given none within =
 
 -- ---- whether any place passes
 
--- where none is said to pass none does
+-- if none is said to pass, none does
 pub any_below-clear : (n k : ℕ) (test : ℕ → Bool) → any_below n test ≡ false → k < n → test k ≡ false
 unfolding any_below
 any_below-clear zero k test none within = absurd (omega arith)
@@ -52,7 +52,7 @@ or_here-here (Some earlier) passes here none = absurd cc
 or_here-here None true here none = absurd cc
 or_here-here None false here none = refl
 
--- where no place is found none passes
+-- if no place is found, none passes
 pub least_below-clear : (n k : ℕ) (test : ℕ → Bool) → least_below n test ≡ None → k < n → test k ≡ false
 unfolding least_below
 least_below-clear zero k test none within = absurd (omega arith)

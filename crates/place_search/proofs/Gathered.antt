@@ -1,4 +1,4 @@
--- Lists that the places below a bound give, one after the other: how they grow, and what stands in them.
+-- Lists that the places below a bound give, one after the other: how they grow, and what they contain.
 use Rattle.std.proofs.Common.{◌≡◌, ℕ, zero, suc, ◌+◌, ◌*◌, ◌<◌, ◌≤◌, List, ◌++◌, length, map, append_assoc, append-nil, refl, sym, ap, ◌∙◌, subst, inl, inr, arith, length-append}
 use Rattle.std.specs.List.{flat_map, All, Contains}
 use Rattle.std.proofs.lemmas.Bool.{cases_lt}

@@ -36,7 +36,7 @@ any_below-at (suc n) k test lt here =
       | inr before ↦ rw (any_below-at n k test (omega arith) here) refl
     ]
 
--- where some place passes, here is one
+-- if some place passes, here is one
 pub any_below-place : (n : ℕ) (test : ℕ → Bool) → any_below n test ≡ true → (k : ℕ) × (k < n) × (test k ≡ true)
 unfolding any_below
 any_below-place zero test some = absurd cc
@@ -110,7 +110,7 @@ unfolding last_below
 last_below-same zero test other same = refl
 last_below-same (suc n) test other same = rw (last_below-same n test other (λ k lt. same k (omega arith)), same n (omega arith)) refl
 
--- a place that passes, with none behind it that does, is the greatest one
+-- a place that passes, with none after it that does, is the greatest one
 pub last_below-is : (n k : ℕ) (test : ℕ → Bool) → k < n → test k ≡ true → ((j : ℕ) → k < j → j < n → test j ≡ false) → last_below n test ≡ Some k
 unfolding last_below
 last_below-is zero k test lt here none = absurd (omega arith)
@@ -122,7 +122,7 @@ last_below-is (suc n) k test lt here none =
       | inr before ↦ rw (none n (omega arith) (omega arith)) (last_below-is n k test (omega arith) here (λ j above below. none j above (omega arith)))
     ]
 
--- the greatest place that passes is below the bound, passes, and has none behind it that does
+-- the greatest place that passes is below the bound, passes, and has none after it that does
 pub last_below-place : (n k : ℕ) (test : ℕ → Bool) → last_below n test ≡ Some k → (k < n) × (test k ≡ true) × ((j : ℕ) → k < j → j < n → test j ≡ false)
 unfolding last_below
 last_below-place zero k test is = absurd cc

@@ -55,11 +55,11 @@ distinct-list (x ∷ xs) d = (occurs-apart x xs (grind (arith, nat_tests)), dist
 occurs-below : (n : ℕ) (xs : List ℕ) → are_below n xs ≡ true → (q : ℕ) → occurs q xs ≡ true → q < n
 occurs-below n xs b q o = let found = occurs-get_or q xs o in omega (arith, get_or-below n xs b found.0 found.1, found.2)
 
--- different numbers below a number are at most so many
+-- there are at most n different numbers below n
 distinct-length : (n : ℕ) (xs : List ℕ) → are_distinct xs ≡ true → are_below n xs ≡ true → length xs ≤ n
 distinct-length n xs d b = length-le_from_distinct_below xs n (distinct-list xs d) (λ q h. occurs-below n xs b q (sym (occurs-list_any q xs) ∙ h))
 
--- where they are so many, each number below it occurs
+-- if there are exactly n of them, each number below n occurs
 all-occur : (n : ℕ) (xs : List ℕ) → length xs ≡ n → are_distinct xs ≡ true → are_below n xs ≡ true → (m : ℕ) → m < n → (o : Bool) → occurs m xs ≡ o → o ≡ true
 all-occur n xs l d b m h true e = refl
 all-occur n xs l d b m h false e =

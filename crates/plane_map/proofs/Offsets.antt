@@ -5,7 +5,7 @@ use Rattle.std.proofs.lemmas.Bool.Decides.{nat_tests}
 use Rattle.plane_map.specs.Layout.{are_distinct, are_below, are_places}
 use Rattle.plane_map.proofs.Entries.{get_or-distinct, get_or-below, get_or-onto}
 
--- a list of so many different numbers, each below a number
+-- a list of a given number of different entries, each below a bound
 pub record ArePlaces (entries : List ℕ) (count bound : ℕ) : Type 0 where
   pub count_is : length entries ≡ count
   pub are_different : are_distinct entries ≡ true
@@ -24,7 +24,7 @@ entry-same entries count bound s a b ha hb e = get_or-distinct entries s.are_dif
 pub entry-below : (entries : List ℕ) (count bound : ℕ) → ArePlaces entries count bound → (a : ℕ) → a < count → get_or entries a 0 < bound
 entry-below entries count bound s a h = get_or-below bound entries s.are_low a (omega (arith, s.count_is))
 
--- and where the bound is their count, each number below it is one of them
+-- and if the bound is their count, each number below it is one of them
 pub entry-onto : (entries : List ℕ) (count : ℕ) → ArePlaces entries count count → (n : ℕ) → n < count → (a : ℕ) × (a < count) × (get_or entries a 0 ≡ n)
 entry-onto entries count s n h = get_or-onto count entries s.count_is s.are_different s.are_low n h
 
@@ -32,7 +32,7 @@ entry-onto entries count s n h = get_or-onto count entries s.count_is s.are_diff
 abbrev pub column : List ℕ → List ℕ → Bool → Bool → ℕ → ℕ
 column sides pads side end col = if side then get_or sides col 0 else if end then get_or pads col 0 else col
 
--- a column that a tile has: one of the io tile's in an edge, where the column of tiles is wide enough for them, and one of
+-- a column that a tile has: one of the io tile's in an edge, if the column of tiles is wide enough for them, and one of
 -- the column of tiles elsewhere
 abbrev pub FitsColumn : Bool → Bool → ℕ → ℕ → Type 0
 FitsColumn true end width col = (col < 18) × (18 ≤ width)
@@ -134,7 +134,7 @@ quarter top right = (if top then 1 else 0) + (if right then 2 else 0)
 pub quarter-below : (top right : Bool) → quarter top right < 4
 quarter-below top right = grind arith
 
--- a quarter tells the halves
+-- a quarter determines the halves
 pub quarter-same : (top right top' right' : Bool) → quarter top right ≡ quarter top' right' → (top ≡ top') × (right ≡ right')
 quarter-same top right top' right' e = grind arith
 

@@ -58,7 +58,7 @@ pub py_of-is : (layout : Layout) → IsLayout layout → (bit : TileBit) → IsP
 py_of-is layout s bit h =
     height-is layout.pad_rows (are_pad_rows layout s) (is_end layout.device bit.y) (is_top layout.device bit.y && layout.flip) (16 * from_end layout.device bit.y) bit.row h.row_in
 
--- a bank tells the halves
+-- a bank determines the halves
 pub bank-halves : (layout : Layout) → IsLayout layout → (x y x' y' : ℕ) → bank_of layout x y ≡ bank_of layout x' y'
     → (is_top layout.device y ≡ is_top layout.device y') × (is_right layout.device x ≡ is_right layout.device x')
 bank-halves layout s x y x' y' e =

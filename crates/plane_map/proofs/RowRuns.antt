@@ -110,7 +110,8 @@ px_in layout x end col =
     let column = if is_side layout.device x then slice_index layout.side_columns col else if end then slice_index layout.pad_columns col else col in
     if is_right layout.device x && not (is_side layout.device x) && (if end then layout.pad_mirror else layout.mirror) then start_of layout u + width_of layout u - 1 - column else start_of layout u + column
 
--- where a tile has a bit, one has a bit in the same column of each other row of bits that is in an end row of tiles as well, or in none
+-- If a tile has a bit, some tile has a bit in the same column of each other row of bits that is in an end row of tiles too, or not in one
+-- either.
 pub column-mate : (layout : Layout) → IsLayout layout → (at : Place) (py : ℕ) → py < cram_height layout.device → nat_lt at.py 16 ≡ nat_lt py 16
     → (bit : TileBit) → IsTileBit layout.device bit → place_of layout bit ≡ at → (other : TileBit) × IsTileBit layout.device other × (place_of layout other ≡ record { bank = at.bank; px = at.px; py = py })
 unfolding place_of

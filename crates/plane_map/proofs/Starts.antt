@@ -32,7 +32,7 @@ start_in-past widths n (suc m) h later =
       | inr before ↦ omega (arith, start_in-past widths n m h (omega arith), get_or_past widths m 0 (omega arith))
     ]
 
--- zeros behind the last one change nothing
+-- zeros after the last one change nothing
 slice-padded : (xs : List ℕ) (m u : ℕ) → slice_index (xs ++ replicate m 0) u ≡ slice_index xs u
 slice-padded xs m u =
     elim (cases_lt u (length xs)) [
@@ -52,7 +52,7 @@ unfolding start_in
 start_in-padded xs m zero = refl
 start_in-padded xs m (suc u) = omega (arith, start_in-padded xs m u, slice-padded xs m u)
 
--- there are as many starts as columns
+-- there is one start for each column
 pub starts-length : (widths : List ℕ) (n : ℕ) → length (starts_below widths n) ≡ n
 unfolding starts_below
 starts-length widths zero = refl

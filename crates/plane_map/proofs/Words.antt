@@ -28,7 +28,7 @@ bram_height-le L384 = lit≤ tt
 bram_height-le K1 = lit≤ tt
 bram_height-le K8 = lit≤ tt
 
--- a lower tile of a RAM stands in a column of RAM
+-- a lower tile of a RAM is in a column of RAM
 pub lower-column : (device : DeviceName) (x y : ℕ) → kind_of device x y ≡ Some RamB → (x ≡ ram_column device) ⊎ (x + ram_column device ≡ last_x device)
 unfolding kind_of
 lower-column device x y h = grind (arith, nat_tests)

@@ -1,4 +1,4 @@
--- The words for the devices in texts.
+-- The words for the devices in texts: those of `.device` in Project IceStorm, 'iCE40 ASCII format'.
 use Rattle.std.specs.Prelude.{ℕ, List, bytes_eq, codes, if◌then◌else◌, Option, Some, None}
 use Rattle.plane_map.specs.declared.device.DeviceName.{DeviceName}
 use Rattle.plane_map.specs.declared.device.DeviceName.TheVariants.{L384, K1, K8}
@@ -17,11 +17,11 @@ device_named word =
     else if bytes_eq word (device_word K8) then Some K8
     else None
 
--- the device, where it has databases
+-- the device, if it has chip databases
 abbrev pub with_database : Option DeviceName → Option DeviceName
 with_database None = None
 with_database (Some device) = if has_database device then Some device else None
 
--- the device that a word names in a database, and wherever a database is needed
+-- the device that a word names in a chip database, and wherever a chip database is needed
 abbrev pub database_device_named : List ℕ → Option DeviceName
 database_device_named word = with_database (device_named word)

@@ -13,7 +13,7 @@ device_number K8 = 8
 abbrev pub is_same_device : DeviceName → DeviceName → Bool
 is_same_device a b = device_number a == device_number b
 
--- whether there are databases of its fabric: those of an LP384 aren't read
+-- whether chip databases of it are read: none of an LP384 is
 abbrev pub has_database : DeviceName → Bool
 has_database L384 = false
 has_database K1 = true

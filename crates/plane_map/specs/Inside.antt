@@ -1,4 +1,4 @@
--- What the fields of a layout stand for.
+-- The layout that the fields of a `Layout` of the code represent.
 use Rattle.std.specs.Prelude.{◌≡◌, ℕ, zero, suc, ◌-◌, ◌++◌, List, [], ◌∷◌, take, replicate}
 use Rattle.plane_map.specs.declared.layout.Layout.TheInside.{Inside}
 use Rattle.plane_map.specs.Layout.{Layout, IsLayout, half_width, start_in}
@@ -23,7 +23,7 @@ laid_out a = record {
   ram_flip = a.ram_flip;
 }
 
--- the fields keep a layout: the widths end with zeros, and the starts are those of the widths
+-- the fields keep a layout: zeros fill up the widths, and the starts are computed from the widths
 pub record IsInside (a : Inside) : Type 0 where
   pub layout : IsLayout (laid_out a)
   pub padded : take (half_width a.device) a.widths ++ replicate (17 - half_width a.device) 0 ≡ a.widths

@@ -1,5 +1,7 @@
 -- Which tiles a device has, and where a layout puts each of their bits in the device's planes: closed formulas over the
--- grid. The standard layouts are this project's own tables; other layouts come from layout files. The grid is counted from
+-- grid. Project IceStorm documents the tiles and their sizes ('LP/HX 1K overview', 'LOGIC Tile', 'IO Tile', 'RAM Tile') and the banks and
+-- planes ('Bitstream File Format Documentation').
+-- The standard layouts are this project's own tables; other layouts come from layout files. The grid is counted from
 -- its left bottom corner. The side edges are its left and its right edge, the end edges its bottom and its top row. A formula
 -- needs only how far a column of tiles is from its side edge, and a row of tiles from its end edge.
 use Rattle.std.specs.Prelude.{◌≡◌, ◌≢◌, ℕ, zero, suc, ◌+◌, ◌-◌, ◌*◌, ◌/◌, ◌%◌, ◌<◌, Bool, true, false, ◌&&◌, ◌||◌, List, [], ◌∷◌, slice_index, nat_lt, nat_le, not, ◌==◌, if◌then◌else◌, Option, Some, None, length}
@@ -25,8 +27,8 @@ grid_height L384 = 10
 grid_height K1 = 18
 grid_height K8 = 34
 
--- the left one of the two columns of RAM, as far from the left edge as the other from the right one: the edge itself, which has
--- io tiles alone, where the device has no RAM
+-- The left one of the two columns of RAM; the right one is equally far from the right edge. It is 0 if the device has no RAM: column 0
+-- is the edge, which has io tiles only.
 abbrev pub ram_column : DeviceName → ℕ
 ram_column L384 = 0
 ram_column K1 = 3
@@ -48,8 +50,8 @@ is_side device x = (x == 0) || (x == last_x device)
 abbrev pub is_end : DeviceName → ℕ → Bool
 is_end device y = (y == 0) || (y == last_y device)
 
--- The tile at a place of the grid. Corners have none, other places of the edge are io, a column of RAM has lower tiles
--- at odd y and upper ones at even y, and all others are logic.
+-- The kind of the tile at a position of the grid. Corners have no tile, all other positions on the edge have io tiles, a column of RAM
+-- has lower tiles at odd y and upper ones at even y, and all other positions have logic tiles.
 unfoldable pub kind_of : DeviceName → ℕ → ℕ → Option TileKind
 kind_of device x y =
     if nat_le (grid_width device) x || nat_le (grid_height device) y then None
@@ -65,12 +67,12 @@ columns_of Logic = 54
 columns_of RamB = 42
 columns_of RamT = 42
 
--- how many columns of bits the tile at a place has, and 0 where there is none
+-- how many columns of bits a tile has, and 0 if there is none
 abbrev pub columns_in : Option TileKind → ℕ
 columns_in None = 0
 columns_in (Some kind) = columns_of kind
 
--- the same by its place
+-- how many columns of bits the tile at a position of the grid has, and 0 if there is none
 abbrev pub columns_at : DeviceName → ℕ → ℕ → ℕ
 columns_at device x y = columns_in (kind_of device x y)
 
@@ -98,7 +100,7 @@ cram_height L384 = 80
 cram_height K1 = 144
 cram_height K8 = 272
 
--- how many columns and rows of bits each of the four RAM planes has: none where the device has no RAM
+-- how many columns and rows of bits each of the four RAM planes has: 0 if the device has no RAM
 abbrev pub bram_width : DeviceName → ℕ
 bram_width L384 = 0
 bram_width K1 = 64
@@ -123,8 +125,8 @@ pub record IsInBram (device : DeviceName) (at : Place) : Type 0 where
 
 -- ---- layouts
 
--- How a device lays out its bits: which columns and rows of bits those of its tiles take, and which bank each quarter of its
--- grid has.
+-- How a device lays out its bits: which columns and rows of its planes the bits of its tiles take, and in which bank the bits of each
+-- quarter of its grid are.
 pub record Layout : Type 0 where
   pub device : DeviceName
   -- how many columns of bits each column of tiles takes, from the side edge inwards
@@ -175,7 +177,7 @@ abbrev pub occurs : ℕ → List ℕ → Bool
 occurs n [] = false
 occurs n (x ∷ xs) = (n == x) || occurs n xs
 
--- whether no entry stands twice
+-- whether no entry occurs twice
 abbrev pub are_distinct : List ℕ → Bool
 are_distinct [] = true
 are_distinct (x ∷ xs) = not (occurs x xs) && are_distinct xs
@@ -185,11 +187,11 @@ abbrev pub are_below : ℕ → List ℕ → Bool
 are_below n [] = true
 are_below n (x ∷ xs) = nat_lt x n && are_below n xs
 
--- whether a list has so many different entries, each below a bound: a permutation where both numbers are the same
+-- whether a list has exactly `count` entries, all different and each below a bound: a permutation if both numbers are equal
 abbrev pub are_places : ℕ → ℕ → List ℕ → Bool
 are_places count bound entries = (length entries == count) && are_distinct entries && are_below bound entries
 
--- What a layout has to fulfil, so that no two bits have one place: its lists have the lengths and the numbers that they need.
+-- What a layout has to fulfil, so that no two bits lie at one place: its lists have the lengths and the numbers that they need.
 pub record IsLayout (layout : Layout) : Type 0 where
   pub widths : are_widths layout.device layout.widths ≡ true
   pub side_columns : are_places 18 18 layout.side_columns ≡ true
@@ -213,7 +215,7 @@ standard_side_columns = 17 ∷ 16 ∷ 15 ∷ 14 ∷ 13 ∷ 12 ∷ 11 ∷ 10 ∷ 
 unfoldable pub standard_pad_columns : List ℕ
 standard_pad_columns = 23 ∷ 25 ∷ 26 ∷ 27 ∷ 16 ∷ 17 ∷ 18 ∷ 19 ∷ 20 ∷ 14 ∷ 32 ∷ 33 ∷ 34 ∷ 35 ∷ 36 ∷ 37 ∷ 4 ∷ 5 ∷ []
 
--- their rows of bits
+-- the rows of bits of the io tiles of the bottom and the top row
 unfoldable pub standard_pad_rows : List ℕ
 standard_pad_rows = 0 ∷ 1 ∷ 3 ∷ 2 ∷ 4 ∷ 5 ∷ 7 ∷ 6 ∷ 8 ∷ 9 ∷ 11 ∷ 10 ∷ 12 ∷ 13 ∷ 15 ∷ 14 ∷ []
 
@@ -221,7 +223,7 @@ standard_pad_rows = 0 ∷ 1 ∷ 3 ∷ 2 ∷ 4 ∷ 5 ∷ 7 ∷ 6 ∷ 8 ∷ 9 ∷ 
 unfoldable pub standard_banks : List ℕ
 standard_banks = 0 ∷ 1 ∷ 2 ∷ 3 ∷ []
 
--- the layout of a device where no other is given
+-- the layout that a device has if no other is given
 abbrev pub standard_layout : DeviceName → Layout
 standard_layout device = record {
   device = device;
@@ -270,16 +272,16 @@ width_of layout u = slice_index layout.widths u
 abbrev pub start_of : Layout → ℕ → ℕ
 start_of layout u = start_in layout.widths u
 
--- Which column of bits of its column of tiles a bit takes, counted from the side edge, or from the inner end where the tile
--- is mirrored: an io tile has a list of them, and any other tile has them in order.
+-- Which column of bits of its column of tiles a bit takes, counted from the side edge, or from the inner end if the tile is
+-- mirrored: an io tile has a list of its columns, and any other tile has its columns in order.
 abbrev pub column_of : Layout → TileBit → ℕ
 column_of layout bit =
     if is_side layout.device bit.x then slice_index layout.side_columns bit.col
     else if is_end layout.device bit.y then slice_index layout.pad_columns bit.col
     else bit.col
 
--- whether the columns of bits of a tile are counted from the inner end of its column of tiles, and not from the side edge:
--- those of the right half may be, except in the edge itself
+-- whether the columns of bits of a tile are counted from the inner end of its column of tiles, and not from the side edge, as in
+-- the right half without the right edge, if the layout says so
 abbrev pub is_mirrored : Layout → ℕ → ℕ → Bool
 is_mirrored layout x y =
     is_right layout.device x && not (is_side layout.device x) && (if is_end layout.device y then layout.pad_mirror else layout.mirror)
@@ -305,7 +307,7 @@ unfoldable pub place_of : Layout → TileBit → Place
 place_of layout bit = record { bank = bank_of layout bit.x bit.y; px = px_of layout bit; py = py_of layout bit }
 
 -- Which RAM of its bank a lower tile is: counted from the bottom in the bottom half, and in the top half from the top, or from
--- the lowest of that half.
+-- the lowest RAM of that half.
 abbrev pub ram_of : Layout → ℕ → ℕ
 ram_of layout y =
     let last = last_y layout.device in

@@ -1,4 +1,4 @@
--- Bits that lie side by side in one row of a plane: those in which a row of a tile lies, and those of a word of a RAM.
+-- Runs: bits that lie side by side in one row of a plane. A row of a tile lies in a run, and so does a word of a RAM.
 use Rattle.std.specs.Prelude.{◌||◌, ◌≡◌, ℕ, ◌+◌, ◌-◌, ◌*◌, ◌<◌, ◌≤◌, true, if◌then◌else◌}
 use Rattle.plane_map.specs.declared.tile.Place.{Place}
 use Rattle.plane_map.specs.declared.device.DeviceName.{DeviceName}
@@ -6,11 +6,11 @@ use Rattle.plane_map.specs.declared.tile.Run.{Run}
 use Rattle.plane_map.specs.declared.tile.TileRuns.{TileRuns}
 use Rattle.plane_map.specs.Layout.{Layout, columns_at, from_side, is_end, is_mirrored, is_side, start_of, width_of, bank_of, ram_of, py_of}
 
--- where bit k of a run of so many bits lies
+-- where bit k of a run of `count` bits lies
 abbrev pub run_place : Run → ℕ → ℕ → Place
 run_place run count k = record { bank = run.bank; px = if run.backwards then run.px + count - 1 - k else run.px + k; py = run.py }
 
--- a run of so many bits in the planes of four banks, of a number that a word of 64 bits holds
+-- a run of `count` bits, 1 to 64, lies in the planes of the four banks
 pub record IsRunIn (width height count : ℕ) (run : Run) : Type 0 where
   pub bank_in : run.bank < 4
   pub some : 0 < count
@@ -18,11 +18,12 @@ pub record IsRunIn (width height count : ℕ) (run : Run) : Type 0 where
   pub columns_in : run.px + count ≤ width
   pub row_in : run.py < height
 
--- How many bits the runs have in which the rows of a tile lie. In an end row the 18 columns of an io tile are some of 42 bits.
+-- How many bits the runs have in which the rows of a tile lie. In the bottom and the top row the 18 columns of an io tile are some of 42
+-- bits.
 abbrev pub run_length : DeviceName → ℕ → ℕ → ℕ
 run_length device x y = if is_side device x then 18 else if is_end device y then 42 else columns_at device x y
 
--- their first column of bits: they end with their column of tiles where the tile is mirrored, and begin with it elsewhere
+-- their first column of bits: they end where their column of tiles ends if the tile is mirrored, or else begin where it begins
 abbrev pub run_start : Layout → ℕ → ℕ → ℕ
 run_start layout x y =
     let u = from_side layout.device x in

@@ -20,7 +20,7 @@ pub(crate) fn px_of(layout: &Layout, bit: TileBit) -> u32
     start + turned(mirrored, layout.width(distance), column_of(layout, bit))
 }
 
-/// The column of bits that a bit of a tile takes, counted from the start of its column of tiles, or from its end where the tile is mirrored.
+/// The column of bits that a bit of a tile takes, counted from the start of its column of tiles, or from its end if the tile is mirrored.
 fn column_of(layout: &Layout, bit: TileBit) -> u32
     requires { IsTileBit layout.now.device bit }
     ensures { result ≡ column_of layout.now bit }
@@ -35,7 +35,7 @@ fn column_of(layout: &Layout, bit: TileBit) -> u32
     }
 }
 
-/// A column of bits of a column of tiles, counted from the other side where the tile is mirrored.
+/// A column of bits of a column of tiles, counted from the other side if the tile is mirrored.
 pub(crate) fn turned(mirrored: bool, width: u32, column: u32) -> u32
     requires { column < width }
     ensures value { result ≡ (if mirrored then width - 1 - column else column) }

@@ -10,23 +10,23 @@ use bit_plane::{Bits, Plane};
 /// A device by its name.
 #[derive(Clone, Copy, Debug, PartialEq, Eq)]
 pub enum DeviceName {
-    /// LP384, a grid of 8 by 10 without RAM.
+    /// iCE40 LP384: a grid of 8 by 10, without RAM.
     L384,
-    /// HX1K, a grid of 14 by 18.
+    /// iCE40 HX1K: a grid of 14 by 18.
     K1,
-    /// HX8K, a grid of 34 by 34.
+    /// iCE40 HX8K: a grid of 34 by 34.
     K8,
 }
 
 impl DeviceName {
-    /// Whether it is the same device as another.
+    /// Whether both are one device.
     pub fn is_same(self, other: DeviceName) -> bool
         ensures { result ≡ is_same_device self other }
     {
         self == other
     }
 
-    /// Whether there are databases of its fabric: those of an LP384 aren't read.
+    /// Whether chip databases of it are read: none of an LP384 is.
     pub fn has_database(self) -> bool
         ensures { result ≡ has_database self }
     {
@@ -80,7 +80,7 @@ impl DeviceName {
         }
     }
 
-    /// How many columns of bits each of the four RAM planes has, and 0 where there is no RAM.
+    /// How many columns of bits each of the four RAM planes has, or 0 if the device has no RAM.
     pub fn bram_columns(self) -> u32
         ensures { result ≡ bram_width self }
     {
@@ -91,7 +91,7 @@ impl DeviceName {
         }
     }
 
-    /// How many rows of bits each of the four RAM planes has, and 0 where there is no RAM.
+    /// How many rows of bits each of the four RAM planes has, or 0 if the device has no RAM.
     pub fn bram_rows(self) -> u32
         ensures { result ≡ bram_height self }
     {
@@ -101,7 +101,7 @@ impl DeviceName {
         }
     }
 
-    /// The left of the two columns of RAM, and 0 where there is none.
+    /// The left of the two columns of RAM, or 0 if the device has no RAM.
     pub(crate) fn left_ram_column(self) -> u32
         ensures { result ≡ ram_column self }
     {
@@ -138,7 +138,7 @@ pub trait Device {
     /// How many rows of tiles there are.
     const GRID_H: usize;
 
-    /// The left of the two columns of RAM, and 0 where there is none.
+    /// The left of the two columns of RAM, or 0 if the device has no RAM.
     const RAM_COLUMN: usize;
 
     /// The device's name.
@@ -160,7 +160,7 @@ pub trait Device {
     ghost bram_height_is: { Self.Bram.HEIGHT ≡ bram_height NAME };
 }
 
-/// The device LP384.
+/// The iCE40 LP384.
 pub struct Lp384;
 
 impl Device for Lp384 {
@@ -203,7 +203,7 @@ impl Device for Lp384 {
     ghost bram_height_is = { refl };
 }
 
-/// The device HX1K.
+/// The iCE40 HX1K.
 pub struct Hx1k;
 
 impl Device for Hx1k {
@@ -246,7 +246,7 @@ impl Device for Hx1k {
     ghost bram_height_is = { refl };
 }
 
-/// The device HX8K.
+/// The iCE40 HX8K.
 pub struct Hx8k;
 
 impl Device for Hx8k {

@@ -16,7 +16,7 @@ impl DeviceName {
         }
     }
 
-    /// The device that a word names.
+    /// The device that a word names, or `None`.
     pub fn named(word: &[u8]) -> Option<DeviceName>
         ensures { result ≡ device_named word.now }
     {
@@ -31,7 +31,7 @@ impl DeviceName {
         }
     }
 
-    /// The device that a word names in a database, and wherever a database is needed.
+    /// The device that a word names in a chip database, and wherever a chip database is needed: `None` for the LP384.
     pub fn named_with_database(word: &[u8]) -> Option<DeviceName>
         ensures { result ≡ database_device_named word.now }
     {

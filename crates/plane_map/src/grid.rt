@@ -6,7 +6,7 @@ use crate::device::DeviceName;
 use crate::layout::Layout;
 use crate::tile::TileKind;
 
-/// The tile of a device at a place of the grid: none at a corner or outside.
+/// The kind of the tile at a position of a device's grid, or `None` at a corner or outside of the grid.
 #[tactic(auto, unfolding(crate::specs::Layout::kind_of))]
 pub fn kind_on(device: DeviceName, x: u32, y: u32) -> Option<TileKind>
     ensures kind { result ≡ kind_of device x y }
@@ -22,7 +22,7 @@ pub fn kind_on(device: DeviceName, x: u32, y: u32) -> Option<TileKind>
     }
 }
 
-/// The tile at a place of the grid that is on no edge.
+/// The kind of the tile at a position of the grid that is on no edge.
 fn inner_kind(device: DeviceName, x: u32, y: u32) -> TileKind
     requires { x < grid_width device }
     ensures { result ≡ (if (x == ram_column device) || (x + ram_column device == last_x device) then (if y % 2 == 1 then TileKind.RamB else TileKind.RamT) else TileKind.Logic) }
@@ -109,7 +109,7 @@ pub(crate) fn end_distance(device: DeviceName, y: u32) -> u32
     }
 }
 
-/// Which RAM of its bank a lower tile of a row is.
+/// Which RAM of its bank a lower tile in a row of tiles is.
 pub(crate) fn ram_at(layout: &Layout, y: u32) -> u32
     requires inner { 1 ≤ y }
     requires inside { y + 3 ≤ grid_height layout.now.device }

@@ -32,7 +32,7 @@ const PAD_ROWS: [u8; 16] = [0, 1, 3, 2, 4, 5, 7, 6, 8, 9, 11, 10, 12, 13, 15, 14
 #[derive(Clone, Copy)]
 pub struct Layout {
     device: DeviceName,
-    /// How many columns of bits each column of tiles takes, from the side edge inwards; 0 past the last one of a half.
+    /// How many columns of bits each column of tiles takes, from the side edge inwards; 0 after the last one of a half.
     widths: [u16; 17],
     /// How many columns of bits the columns of tiles before each one take.
     starts: [u16; 17],
@@ -61,7 +61,7 @@ impl Model for Layout {
 }
 
 impl Layout {
-    /// The layout of a device where no other is given.
+    /// The layout that a device has if no other is given.
     pub fn standard(device: DeviceName) -> Layout
         ensures { result ≡ standard_layout device }
     {
@@ -112,20 +112,20 @@ impl Layout {
         // No other bit of a word lies there.
         ensures only { (other : WordBit) → IsWordBit self.now.device other → word_place_of self.now other ≡ result
             → other ≡ record { x = x; y = y; word = word; bit = bit } }
-        // Each place of the RAM planes is that of a bit of a word.
+        // At each place of the RAM planes lies a bit of a word.
         ensures onto { (at : Place) → IsInBram self.now.device at → (word_bit : WordBit) × IsWordBit self.now.device word_bit × (word_place_of self.now word_bit ≡ at) }
     {
         place_of_word(self, WordBit { x, y, word, bit })
     }
 
-    /// Where the rows of the tile at (x, y) lie in the configuration planes: none where there is no tile.
+    /// Where the rows of the tile at (x, y) lie in the configuration planes, or `None` if there is no tile.
     pub fn tile_runs(&self, x: u8, y: u8) -> Option<TileRuns>
         ensures { MatchOption result (columns_at self.now.device x y ≡ 0) (AreRunsOf self.now x y) }
     {
         tile_runs_on(self, x, y)
     }
 
-    /// The run in which a row of a tile lies, from the `tile_runs` of its tile.
+    /// The run in which a row of a tile lies, by the answer of `tile_runs` for its tile.
     pub fn run_of_row(&self, runs: TileRuns, row: u8) -> Run
         requires row { row < 16 }
         requires runs { AreRunsOf self.now runs.x runs.y runs }
@@ -141,7 +141,7 @@ impl Layout {
         run_of_row(self, runs, row)
     }
 
-    /// Which bits of their runs the 18 columns of a tile are, where it is an io tile; of other tiles column c is bit c.
+    /// For an io tile, which bits of its runs the 18 columns are. `None` for any other tile, of which column c is bit c of the run.
     pub fn io_columns(&self, runs: TileRuns) -> Option<&[u8; 18]>
         requires { AreRunsOf self.now runs.x runs.y runs }
         ensures order { MatchOption result ((row col : ℕ) → column_of self.now (record { x = runs.x; y = runs.y; row = row; col = col }) ≡ col)
@@ -171,7 +171,7 @@ impl Layout {
         run_of_word(self, x, y, word)
     }
 
-    /// The row of tiles whose bits lie in row `py` of the configuration plane of a bank, and which of its tiles' rows.
+    /// The row of tiles whose bits lie in row `py` of the configuration plane of a bank, and which row of each of these tiles.
     pub fn tile_row_at(&self, bank: u8, py: u16) -> TileRow
         requires bank { bank < 4 }
         requires row { py < cram_height self.now.device }
@@ -183,7 +183,7 @@ impl Layout {
         tile_row_on(self, bank, py)
     }
 
-    /// The one bit of a tile that lies at a place of the configuration planes: none at an extra bit.
+    /// The one bit of a tile that lies at a place of the configuration planes, or `None` if the place is that of an extra bit.
     pub fn owner_of(&self, at: Place) -> Option<TileBit>
         requires { IsInCram self.now.device at }
         ensures owner { MatchOption result (IsExtraBit self.now at) (λ bit. IsTileBit self.now.device bit × (place_of self.now bit ≡ at)) }
@@ -273,7 +273,7 @@ impl Layout {
         }
     }
 
-    /// The quarter of the grid that has a bank.
+    /// The quarter of the grid whose bits are in a bank.
     pub(crate) fn quarter(&self, bank: u8) -> u8
         requires { bank < 4 }
         ensures in_grid { result < 4 }
@@ -307,7 +307,7 @@ impl Layout {
     }
 }
 
-/// The first index at which an entry stands.
+/// The first index of an entry.
 fn index_of(entries: &[u8], entry: u32) -> Option<usize>
     ensures { MatchOption result ((k : ℕ) → k < length entries.now → slice_index entries.now k ≢ entry)
         (λ index. (index < length entries.now) × (slice_index entries.now index ≡ entry)) }

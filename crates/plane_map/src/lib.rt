@@ -1,4 +1,5 @@
-//! Where each bit of a tile, and each bit of a word of a RAM, lies in the planes of its device.
+//! Where each bit of a tile, and each bit of a word of a RAM, lies in the configuration planes (CRAM) and RAM planes (BRAM) of its device:
+//! an iCE40 HX1K, HX8K or LP384.
 #![tactic(auto)]
 
 mod columns;

@@ -24,7 +24,7 @@ pub(crate) fn run_of_word(layout: &Layout, x: u8, y: u8, word: u8) -> Run
     }
 }
 
-/// The row of tiles that lies in a row of bits of a bank's plane.
+/// The row of tiles whose bits lie in a row of a bank's plane, and which row of each of these tiles.
 pub(crate) fn tile_row_on(layout: &Layout, bank: u8, py: u16) -> TileRow
     requires bank { bank < 4 }
     requires row { py < cram_height layout.now.device }

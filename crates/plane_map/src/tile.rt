@@ -1,6 +1,6 @@
 // The tiles of a device, and places in its planes.
 
-/// What stands at a place of the grid.
+/// What kind of tile is at a position of the grid.
 #[derive(Clone, Copy, Debug, PartialEq, Eq)]
 pub enum TileKind {
     /// Input and output pads; 18 columns.
@@ -58,7 +58,7 @@ pub struct Run {
 }
 
 /// Where the rows of the tile at (x, y) lie in the configuration planes: each in a run of its own, and all runs in the same
-/// columns. Bit 0 of a run lies in its first column, or in its last one where it runs backwards.
+/// columns. Bit 0 of a run lies in its first column, or in its last one if it runs backwards.
 #[derive(Clone, Copy, Debug, PartialEq, Eq)]
 pub struct TileRuns {
     pub x: u8,
@@ -66,14 +66,14 @@ pub struct TileRuns {
     pub bank: u8,
     /// The first column of each run.
     pub px: u16,
-    /// How many bits each run has. An io tile of an end row has fewer columns, which are some of them.
+    /// How many bits each run has. An io tile of the bottom or the top row has only 18 columns, which are some of the bits of a run.
     pub length: u8,
     pub backwards: bool,
     /// Whether it is an io tile, whose columns have an order of their own.
     pub is_io: bool,
 }
 
-/// A row of each tile of a row of tiles.
+/// One row of bits of all tiles at row `y` of the grid.
 #[derive(Clone, Copy, Debug, PartialEq, Eq)]
 pub struct TileRow {
     pub y: u8,

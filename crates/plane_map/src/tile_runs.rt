@@ -10,7 +10,7 @@ use crate::place::tile_width;
 use crate::rows::py_of;
 use crate::tile::{Run, TileBit, TileKind, TileRuns};
 
-/// Where the rows of the tile at (x, y) lie: none where there is no tile.
+/// Where the rows of the tile at (x, y) lie, or `None` if there is no tile.
 pub(crate) fn tile_runs_on(layout: &Layout, x: u8, y: u8) -> Option<TileRuns>
     ensures { MatchOption result (columns_at layout.now.device x y ≡ 0) (AreRunsOf layout.now x y) }
 {
@@ -20,7 +20,7 @@ pub(crate) fn tile_runs_on(layout: &Layout, x: u8, y: u8) -> Option<TileRuns>
     }
 }
 
-/// Where the rows of the tile at (x, y) lie, which is of that kind.
+/// Where the rows of the tile at (x, y) lie, which has this kind.
 fn runs_of(layout: &Layout, kind: TileKind, x: u8, y: u8) -> TileRuns
     requires layout { IsLayout layout.now }
     requires there { kind_of layout.now.device x y ≡ Some kind }
@@ -41,7 +41,7 @@ fn runs_of(layout: &Layout, kind: TileKind, x: u8, y: u8) -> TileRuns
     }
 }
 
-/// How many bits the runs of a tile of that kind have.
+/// How many bits the runs of a tile of this kind have.
 fn run_length(device: DeviceName, kind: TileKind, x: u8) -> u8
     ensures { (y : ℕ) → kind_of device x y ≡ Some kind → result ≡ run_length device x y }
 {
@@ -52,7 +52,8 @@ fn run_length(device: DeviceName, kind: TileKind, x: u8) -> u8
     }
 }
 
-/// The first column of runs of that length, which end with their column of tiles where they run backwards, and else begin with it.
+/// The first column of runs of this length. They end where their column of tiles ends if they run backwards, or else begin where it
+/// begins.
 fn run_start(layout: &Layout, column: u32, length: u8, backwards: bool) -> u16
     requires column { column < half_width layout.now.device }
     requires fits { length ≤ width_of layout.now column }

@@ -9,7 +9,7 @@ use Rattle.vlog_plan.specs.Numbered.{numbered}
 use Rattle.vlog_plan.specs.Run.{with_input}
 use Rattle.port_names.specs.Renamed.{renamed_values}
 
--- names are the same after it exactly where they are the same before
+-- names are the same after it exactly if they are the same before
 pub record KeepsApart (to : List ℕ → List ℕ) : Type 0 where
   pub same : (a b : List ℕ) → bytes_eq (to a) (to b) ≡ bytes_eq a b
 

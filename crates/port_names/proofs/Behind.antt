@@ -1,4 +1,4 @@
--- A name with `_en` behind it is a name.
+-- A name with `_en` after it is a name.
 use Rattle.std.proofs.Common.{◌≡◌, ℕ, Bool, true, false, List, [], ◌∷◌, refl, sym, ap, ◌∙◌}
 use Rattle.std.specs.Prelude.{bytes_eq, codes, not, ◌==◌}
 use Rattle.std.specs.List.{list_all, list_any}

@@ -94,7 +94,7 @@ all-found before (one ∷ uses) all =
     (λ used is. in-between before here rest (used_name used) is) uses
     (all-found before uses (All-tail (λ used. has_name (before ++ names_of (declared_by used)) (used_name used) ≡ true) one uses all))))
 
--- what all items declare: what those before one do, it itself, and those behind it
+-- what all items declare: what the items before one declare, what it declares itself, and what the items after it declare
 declared-apart : (m : Parts) (i : ℕ) (d : Item) → i < length m.items
     → declared_names m ≡ (names_of (scope_of m.ports (take i m.items)).declared ++ names_by (uses_of (get_or m.items i d))) ++ names_by (flat_map uses_of (drop (i + 1) m.items))
 declared-apart m i d within =

@@ -63,7 +63,7 @@ right-own (Majority a b c) =
     All-append UseOwn (atom_uses a ++ atom_uses b) (atom_uses c) (both-own a b) (atom-own c)
 right-own (Choose reset set target) = All-cons UseOwn (Takes sort.Wire reset) (Chooses reset set target ∷ []) nothing (All-single UseOwn (Chooses reset set target) nothing)
 
--- the name that an item declares has such a form, where it declares one
+-- the name that an item declares has such a form, if it declares one
 abbrev IsOwnItem : Item → Type 0
 IsOwnItem (RegisterItem name start) = IsOwn name
 IsOwnItem (Word name start) = IsOwn name

@@ -107,7 +107,7 @@ renamed-run renaming m whole fresh events =
     ∙ map-same (renamed_entry (exchanged renaming)) (entry_renamed renaming) (module_run m events)
     (All-weaker (HasNames m) (λ entry. renamed_entry (exchanged renaming) entry ≡ entry_renamed renaming entry) (exchanged-entry renaming m whole fresh) (module_run m events) (run-names m events))
 
--- ---- where only ports are renamed
+-- ---- if only ports are renamed
 
 stay : {A : Type 0} (renaming : List (List ℕ × List ℕ)) (entries : List (List ℕ × A)) → All (λ name. new_name renaming name ≡ name) (names_of entries) → renamed_values (new_name renaming) entries ≡ entries
 stay renaming [] all = refl

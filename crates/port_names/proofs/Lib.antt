@@ -24,7 +24,7 @@ pub mod Own
 pub mod DeclaredOwn
 -- lists in which items are apart, and names that are looked up in them
 pub mod Lists
--- a name with `_en` behind it
+-- a name with `_en` after it
 pub mod Behind
 -- the names that a pin file gives
 pub mod PinFileNames

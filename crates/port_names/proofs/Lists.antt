@@ -38,7 +38,7 @@ module _ {A : Type 0} (R : A → A → Type 0) where
   apart-behind [] ys apart = apart
   apart-behind (x ∷ xs) ys apart = apart-behind xs ys apart.1
 
-  -- where all that items give is apart
+  -- if all that items give is distinct
   pub parts-apart : {X : Type 0} (f : X → List A) (xs : List X) → AreApart R (flat_map f xs) → AreApart (PartsDiffer R f) xs
   parts-apart f [] apart = tt
   parts-apart f (x ∷ xs) apart =
@@ -89,7 +89,7 @@ has_name-none (first ∷ names) name away =
     rw (All-head (λ other. bytes_eq other name ≡ false) first names away)
     (has_name-none names name (All-tail (λ other. bytes_eq other name ≡ false) first names away))
 
--- what comes behind has no such name
+-- what comes after has no such name
 pub value_in-only : {A : Type 0} (first second : List (List ℕ × A)) (name : List ℕ) → All (λ (entry : List ℕ × A). bytes_eq entry.0 name ≡ false) second
     → value_in (first ++ second) name ≡ value_in first name
 value_in-only [] [] name away = refl

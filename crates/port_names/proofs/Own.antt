@@ -1,4 +1,4 @@
--- The names of a written module have a form that no name of a pin file has: a beginning of their own and a digit behind it.
+-- The names of a written module have a form that no name of a pin file has: a beginning of their own and a digit after it.
 use Rattle.std.proofs.Common.{◌≡◌, ℕ, zero, suc, ◌+◌, ◌/◌, ◌%◌, ◌<◌, true, false, List, [], ◌∷◌, ◌++◌, get_or, refl, subst, arith, inl, inr, mod-lt}
 use Rattle.std.specs.Prelude.{codes, decimal, ◌==◌}
 use Rattle.std.specs.Char.{is_ascii_digit}

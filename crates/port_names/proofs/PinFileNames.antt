@@ -67,7 +67,7 @@ given-cases (port ∷ named) pin =
       ]
     ]
 
--- a name with `_en` behind it is another one
+-- a name with `_en` after it is another name
 longer : (name : List ℕ) → name ≡ enable_name_behind name → ⊥
 longer name same = absurd (omega (arith, ap length same, length-append name (codes "_en")))
 
@@ -171,7 +171,7 @@ module _ (pins : List Pin) (named : List PinName) where
           ]
         ]
 
-    -- no two new names are the same, where no two pins have one name
+    -- no two new names are the same, if no two pins have one name
     pub new-apart : AreApart (λ (a b : Pin). Differ (port_name a) (port_name b)) pins → IsDistinct bytes_eq (new_names (port_renaming named pins))
     unfolding port_renaming
     new-apart apart =

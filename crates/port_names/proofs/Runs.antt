@@ -246,7 +246,7 @@ taken-renamed to apart entry target memory address taken =
     ∙ (elim (value_in entry.memories memory) as (λ found. option_map (λ (words : List ℕ). let one : List ℕ × ℕ = (to target, taken (get_or words (atoms_value (readable entry) address) 0)) in one) found
     ≡ option_map (named_so to) (option_map (λ (words : List ℕ). let one : List ℕ × ℕ = (target, taken (get_or words (atoms_value (readable entry) address) 0)) in one) found)) [ Some words ↦ refl | None ↦ refl ])
 
--- where something is given, it is what is given under the old names
+-- if something is given, it is what is given under the old names
 where-renamed : {A : Type 0} (one two : Bool) (to : A → A) (first second : Option A) → one ≡ two → first ≡ option_map to second → cond one first None ≡ option_map to (cond two second None)
 where-renamed one two to first second same is =
     ap₂ (λ b x. cond b x None) same is ∙ (elim two as (λ b. cond b (option_map to second) None ≡ option_map to (cond b second None)) [ true ↦ refl | false ↦ refl ])

@@ -51,7 +51,7 @@ enable-there pin switched =
     subst (λ (b : Bool). Contains (port_of pin ∷ (if b then enable_port pin ∷ [] else [])) (enable_port pin)) (sym switched) (1, omega arith, refl)
 
 module _ (named : List PinName) where
-  -- a name that no port of a pin has isn't exchanged with those of the pin
+  -- a name that no port of a pin has isn't replaced with the names of the pin
   away-pin : (name : List ℕ) (pin : Pin) → All (λ (port : Port). bytes_eq port.name name ≡ false) (pin_ports pin)
       → All (λ (entry : List ℕ × List ℕ). bytes_eq entry.0 name ≡ false) (pin_renaming named pin)
   away-pin name pin all = old-pin (λ other. bytes_eq other name ≡ false) pin (given_name named pin) all

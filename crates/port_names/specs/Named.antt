@@ -20,11 +20,11 @@ use Rattle.port_names.specs.Renamed.{renamed}
 abbrev pub place_of : Pin → PinPlace
 place_of pin = record { x = pin.x; y = pin.y; pio = pin.n }
 
--- the places of the pins that have a second port
+-- the places of the pins that have a second port, their output enable: the tri-state outputs
 abbrev pub switched_places : List Pin → List PinPlace
 switched_places pins = map place_of (filter is_tri_state pins)
 
--- The named ports are those of a pin file that has no fault, for the package that was chosen and for these pins.
+-- The named ports come from a pin file that has no fault, for the package that was chosen and for these pins.
 pub record AreAccepted (pins : List Pin) (named : List PinName) : Type 0 where
   pub chosen : Package
   pub text : List ℕ
@@ -33,7 +33,7 @@ pub record AreAccepted (pins : List Pin) (named : List PinName) : Type 0 where
 
 -- ---- names
 
--- the name that is given for the place of a pin
+-- the first name that is given for the place of a pin, if there is one
 abbrev pub given_name : List PinName → Pin → Option (List ℕ)
 given_name named pin = option_map (λ port. port.name) (find (λ port. is_place (place_of pin) port.place) named)
 
@@ -42,7 +42,7 @@ abbrev pub port_by : Pin → Option (List ℕ) → List ℕ
 port_by pin (Some name) = name
 port_by pin None = port_name pin
 
--- the name of the port that tells whether a pin is switched on: the one that is given with `_en` behind it, or else its own
+-- the name of the port that is a pin's output enable: the one that is given with `_en` after it, or else its own
 abbrev pub enable_by : Pin → Option (List ℕ) → List ℕ
 enable_by pin (Some name) = enable_name_behind name
 enable_by pin None = enable_name pin
@@ -62,13 +62,13 @@ abbrev pub named_pin_ports : List PinName → Pin → List Port
 named_pin_ports named pin =
     record { name = named_port named pin; output = pin.output } ∷ (if is_tri_state pin then record { name = named_enable named pin; output = true } ∷ [] else [])
 
--- those of all pins
+-- the ports of all pins
 unfoldable pub named_ports : List PinName → List Pin → List Port
 named_ports named pins = flat_map (named_pin_ports named) pins
 
 -- ---- the renaming
 
--- the own names of a pin's ports, each with the one that it gets
+-- the names of a pin's ports, each with its new name
 abbrev pub renaming_by : Pin → Option (List ℕ) → List (List ℕ × List ℕ)
 renaming_by pin None = []
 renaming_by pin (Some name) =
@@ -77,7 +77,7 @@ renaming_by pin (Some name) =
 abbrev pub pin_renaming : List PinName → Pin → List (List ℕ × List ℕ)
 pin_renaming named pin = renaming_by pin (given_name named pin)
 
--- those of all pins; a pin that isn't named keeps its names
+-- the names of the ports of all pins, each with its new name; a pin that isn't named keeps its names
 unfoldable pub port_renaming : List PinName → List Pin → List (List ℕ × List ℕ)
 port_renaming named pins = flat_map (pin_renaming named) pins
 

@@ -19,17 +19,17 @@ use Rattle.pin_file.specs.declared.pin_name.PinName.{PinName}
 use Rattle.port_names.specs.Named.{AreAccepted, named_module, named_ports}
 use Rattle.port_names.specs.Matching.{MatchesNamed}
 
--- A module has the ports of the pins, by the names that are given. The fabric has exactly one run for each list of events, and the module
--- runs as it does: at the start and after each event the two hold the same values.
+-- A module has the ports of the pins, with the names that the pin file gives. The fabric has exactly one run for each list of events, and
+-- the module runs as it does: at the start and after each event the two hold the same values.
 pub record RunsNamed (named : List PinName) (db : Database) (image : Configuration) (made : Parts) : Type 0 where
   pub ports : made.ports ≡ named_ports named (fabric_of db image).pins
   pub one_run : (events : List Event) → ExactlyOne (IsRun (fabric_of db image) events)
   pub alike : (events : List Event) (entries : List Entry) → IsRun (fabric_of db image) events entries
       → AllZip (MatchesNamed named (fabric_of db image)) entries (module_run made (map module_event events))
 
--- Where a database and an image aren't refused, nor a pin file for their pins, the module that is written for them in the write order with
--- the names of the pin file is well-formed, and it runs as their fabric, whichever inputs LUTs read. What is read of a text is fit, and it
--- has fewer nets.
+-- If neither a database and an image nor a pin file for their pins is refused, the module that is written for them in the write order, with
+-- the names of the pin file, is well-formed and runs as their fabric, whichever inputs LUTs read. A database that was read from a text is
+-- fit, and has fewer nets than the bound.
 abbrev pub NamedIsFabric : List PinName → LutInputs → Database → Configuration → Type 0
 NamedIsFabric named inputs db image =
     IsFit db → db.chip.nets ≤ 2 ^ 64 → design_fault inputs db image ≡ None → AreAccepted (fabric_of db image).pins named

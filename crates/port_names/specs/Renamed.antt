@@ -1,4 +1,4 @@
--- A module under other names: each name that a renaming lists has its new name, wherever it stands.
+-- A module under other names: each old name of a renaming is replaced by its new name, wherever it occurs.
 use Rattle.std.specs.Prelude.{ℕ, List, map, unwrap_or}
 use Rattle.vlog_module.specs.declared.atoms.Atom.{Atom}
 use Rattle.vlog_module.specs.declared.atoms.Atom.TheVariants.{Bit, Whole, Part}
@@ -18,7 +18,7 @@ use Rattle.vlog_plan.specs.Entries.{Entry}
 abbrev pub new_name : List (List ℕ × List ℕ) → List ℕ → List ℕ
 new_name renaming name = unwrap_or (value_in renaming name) name
 
--- ---- the parts of a module, where each name becomes another
+-- ---- the parts of a module, with each name replaced
 
 abbrev pub renamed_atom : (List ℕ → List ℕ) → Atom → Atom
 renamed_atom to (Bit bit) = Bit bit
@@ -74,7 +74,7 @@ renamed_parts to m = record {
   items = map (renamed_item to) m.items;
 }
 
--- ---- what a module holds, where each name becomes another
+-- ---- what a module holds, with each name replaced
 
 abbrev pub renamed_values : {A : Type 0} → (List ℕ → List ℕ) → List (List ℕ × A) → List (List ℕ × A)
 renamed_values to entries = map (λ entry. (to entry.0, entry.1)) entries
@@ -91,10 +91,10 @@ renamed_entry to entry = record {
 
 -- ---- by a renaming
 
--- the module with the new names
+-- the module with the new names of a renaming
 abbrev pub renamed : List (List ℕ × List ℕ) → Parts → Parts
 renamed renaming m = renamed_parts (new_name renaming) m
 
--- what it holds, with the new names
+-- what a module holds, with the new names of a renaming
 abbrev pub entry_renamed : List (List ℕ × List ℕ) → Entry → Entry
 entry_renamed renaming entry = renamed_entry (new_name renaming) entry

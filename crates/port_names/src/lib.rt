@@ -1,7 +1,7 @@
-//! Modules whose ports have other names, and the names that a pin file gives to the ports of a design's module.
+//! Modules whose ports get other names, and the names that a pin file gives to the ports of a design's module.
 //!
-//! A renaming is a list of old names, each with its new one. It is fresh for a module where the new names are apart, and none of them
-//! is declared in the module or is itself exchanged. Then the module with the new names is well-formed, and runs as the module does. The
+//! A renaming is a list of old names, each with its new one. It is fresh for a module if the new names are distinct, and none of them is
+//! declared in the module or is itself an old name. Then the module with the new names is well-formed, and runs as the module does. The
 //! clause of [`renaming_keeps_runs`] is the law about it.
 //!
 //! [`name_ports`] takes the module that is written for a design, and makes the module whose ports have the names of a pin file. The clause

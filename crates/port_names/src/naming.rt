@@ -10,7 +10,7 @@ use pin_file::{PinName, PinPlace};
 use std::alloc::{AllocError, Global};
 use vlog_module::Name;
 
-/// The first port at a place.
+/// The first port at a place, in the order of the pin file.
 fn port_at(named: &[PinName], place: PinPlace) -> Option<&PinName>
     ensures { option_map (λ port. port.now) result ≡ find (λ port. is_place place port.place) named.now }
 {
@@ -19,7 +19,7 @@ fn port_at(named: &[PinName], place: PinPlace) -> Option<&PinName>
     })
 }
 
-/// A name with `_en` behind it.
+/// A name with `_en` after it.
 #[tactic(auto, using(crate::proofs::Behind::behind_named))]
 fn enable_name_behind(alloc: Global, name: &Name) -> Result<Name, AllocError>
     ensures { IfOk result (λ made. made ≡ enable_name_behind name.now) }
@@ -29,7 +29,7 @@ fn enable_name_behind(alloc: Global, name: &Name) -> Result<Name, AllocError>
     Name::new(alloc, &bytes)
 }
 
-/// Adds the own names of a pin's ports, each with the one that it gets by this name.
+/// Appends the names that a pin's ports have, each with the new name that it gets from `name`.
 fn append_names(
     alloc: Global,
     pin: &Pin,
@@ -49,7 +49,7 @@ fn append_names(
     Ok(())
 }
 
-/// Adds the names of a pin's ports, where its place is named.
+/// Appends the names that a pin's ports have, each with its new name, if the pin file names the pin's place.
 fn append_pin(
     alloc: Global,
     pin: &Pin,
@@ -64,7 +64,7 @@ fn append_pin(
     }
 }
 
-/// The own names of the ports of pins, each with the one that it gets.
+/// The names of the ports that the pin file names, each with its new name.
 #[tactic(auto, unfolding(crate::specs::Named::port_renaming))]
 pub(crate) fn port_renaming(
     alloc: Global,

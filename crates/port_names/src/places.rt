@@ -20,14 +20,14 @@ pub(crate) fn place_of(pin: &Pin) -> PinPlace
     }
 }
 
-/// Whether a pin has a second port: whether it is an output that can be switched off.
+/// Whether a pin has a second port, its output enable: whether it is a tri-state output.
 pub(crate) fn is_tri_state(pin: &Pin) -> bool
     ensures { result ≡ is_tri_state pin.now }
 {
     pin.output && pin.kind == PinKind::TriState
 }
 
-/// The places of those of the pins that have a second port.
+/// The places of the pins that have a second port, among these pins.
 fn places_among(alloc: Global, pins: &[Pin]) -> Result<Vec<PinPlace>, AllocError>
     ensures { IfOk result (λ places. places.items ≡ switched_places pins.now) }
 {
@@ -40,10 +40,10 @@ fn places_among(alloc: Global, pins: &[Pin]) -> Result<Vec<PinPlace>, AllocError
     Ok(places)
 }
 
-/// The places of the pins of a design that have a second port, by tile and number: those of outputs that can be switched off.
+/// The places of the pins of a design that have a second port, their output enable, by tile and number. These are the tri-state outputs.
 ///
 /// # Errors
-/// `AllocError` where memory is out, and for no other cause.
+/// `AllocError` if memory is out, and for no other cause.
 pub fn switched_places(alloc: Global, design: &Design) -> Result<Vec<PinPlace>, AllocError>
     ensures { IfOk result (λ places. places.items ≡ switched_places design.now.parts.pins.items) }
 {

@@ -1,4 +1,4 @@
-// Modules with new names, which are exchanged in place.
+// Modules with new names, which are put in place of the old ones.
 ghost use Rattle.std.specs.Prelude.{◌≡◌, IfOk, OnOk, map};
 ghost use Rattle.std.specs.List.{list_any};
 ghost use Rattle.port_names.specs.Fresh.{IsFresh};
@@ -9,7 +9,10 @@ use crate::renaming::Renaming;
 use std::alloc::{AllocError, Global};
 use vlog_module::{Atom, Atoms, Item, Lut, Module, Name, Port, Right};
 
-/// The module with new names: each old name of a pair is exchanged for the new one, wherever it stands.
+/// The module with new names: the old name of each pair is replaced by the new one, wherever it occurs.
+///
+/// # Errors
+/// `AllocError` if memory is out, and for no other cause.
 pub fn rename_ports(
     alloc: Global,
     module: Module,
@@ -25,7 +28,7 @@ pub fn rename_ports(
     Ok(Module::of(name, ports, items))
 }
 
-/// Exchanges the names of ports.
+/// Replaces the names of ports.
 fn rename_all_ports(renaming: &Renaming, ports: &mut [Port]) -> Result<(), AllocError>
     ensures { OnOk result (ports.new ≡ map (renamed_port (given_by renaming.now)) ports.old) }
 {
@@ -35,14 +38,14 @@ fn rename_all_ports(renaming: &Renaming, ports: &mut [Port]) -> Result<(), Alloc
     Ok(())
 }
 
-/// Exchanges the name of a port.
+/// Replaces the name of a port.
 fn rename_port(renaming: &Renaming, port: &mut Port) -> Result<(), AllocError>
     ensures { OnOk result (port.new ≡ renamed_port (given_by renaming.now) port.old) }
 {
     renaming.rename(&mut port.name)
 }
 
-/// Exchanges the names in items.
+/// Replaces the names in items.
 fn rename_items(renaming: &Renaming, items: &mut [Item]) -> Result<(), AllocError>
     ensures { OnOk result (items.new ≡ map (renamed_item (given_by renaming.now)) items.old) }
 {
@@ -52,7 +55,7 @@ fn rename_items(renaming: &Renaming, items: &mut [Item]) -> Result<(), AllocErro
     Ok(())
 }
 
-/// Exchanges the names in an item.
+/// Replaces the names in an item.
 fn rename_item(renaming: &Renaming, item: &mut Item) -> Result<(), AllocError>
     ensures { OnOk result (item.new ≡ renamed_item (given_by renaming.now) item.old) }
 {
@@ -153,7 +156,7 @@ fn rename_item(renaming: &Renaming, item: &mut Item) -> Result<(), AllocError>
     }
 }
 
-/// Exchanges two names.
+/// Replaces two names.
 fn rename_two(renaming: &Renaming, one: &mut Name, other: &mut Name) -> Result<(), AllocError>
     ensures one { OnOk result (one.new ≡ given_by renaming.now one.old) }
     ensures other { OnOk result (other.new ≡ given_by renaming.now other.old) }
@@ -162,7 +165,7 @@ fn rename_two(renaming: &Renaming, one: &mut Name, other: &mut Name) -> Result<(
     renaming.rename(other)
 }
 
-/// Exchanges the names with which an item reads or writes a memory.
+/// Replaces the names with which an item reads or writes a memory.
 fn rename_access(
     renaming: &Renaming,
     clock: &mut Name,
@@ -183,7 +186,7 @@ fn rename_access(
     rename_atoms(renaming, address)
 }
 
-/// Exchanges the names in the value of a wire.
+/// Replaces the names in the right-hand side of a wire.
 fn rename_right(renaming: &Renaming, right: &mut Right) -> Result<(), AllocError>
     ensures { OnOk result (right.new ≡ renamed_right (given_by renaming.now) right.old) }
 {
@@ -201,14 +204,14 @@ fn rename_right(renaming: &Renaming, right: &mut Right) -> Result<(), AllocError
     }
 }
 
-/// Exchanges the names in a table.
+/// Replaces the names in a LUT.
 fn rename_lut(renaming: &Renaming, lut: &mut Lut) -> Result<(), AllocError>
     ensures { OnOk result (lut.new ≡ renamed_lut (given_by renaming.now) lut.old) }
 {
     rename_atoms(renaming, &mut lut.ins)
 }
 
-/// Exchanges the names in a list of atoms. A list that names nothing with a new name stays as it is; others are made anew.
+/// Replaces the names in a list of atoms. A list in which no name has a new one stays as it is; any other list is made anew.
 fn rename_atoms(renaming: &Renaming, atoms: &mut Atoms) -> Result<(), AllocError>
     ensures { OnOk result (atoms.new ≡ renamed_atoms (given_by renaming.now) atoms.old) }
 {
@@ -218,7 +221,7 @@ fn rename_atoms(renaming: &Renaming, atoms: &mut Atoms) -> Result<(), AllocError
     Ok(())
 }
 
-/// Whether an atom of a list has a name that has a new one.
+/// Whether a list has an atom whose name has a new one.
 fn names_listed(renaming: &Renaming, atoms: &Atoms) -> bool
     ensures { result ≡ list_any (has_listed renaming.now) atoms.now }
 {
@@ -230,7 +233,7 @@ fn names_listed(renaming: &Renaming, atoms: &Atoms) -> bool
     false
 }
 
-/// Whether an atom has a name that has a new one.
+/// Whether the name of an atom has a new one.
 fn names_one(renaming: &Renaming, atom: &Atom) -> bool
     ensures { result ≡ has_listed renaming.now atom.now }
 {
@@ -241,7 +244,7 @@ fn names_one(renaming: &Renaming, atom: &Atom) -> bool
     }
 }
 
-/// The atoms of a list with new names.
+/// A list of atoms with new names.
 fn atoms_renamed(renaming: &Renaming, atoms: &Atoms) -> Result<Atoms, AllocError>
     ensures { IfOk result (λ done. done ≡ renamed_atoms (given_by renaming.now) atoms.now) }
 {
@@ -252,7 +255,7 @@ fn atoms_renamed(renaming: &Renaming, atoms: &Atoms) -> Result<Atoms, AllocError
     Ok(renamed)
 }
 
-/// An atom with new names.
+/// An atom with its new name.
 fn atom_renamed(renaming: &Renaming, atom: &Atom) -> Result<Atom, AllocError>
     ensures { IfOk result (λ done. done ≡ renamed_atom (given_by renaming.now) atom.now) }
 {
@@ -266,7 +269,7 @@ fn atom_renamed(renaming: &Renaming, atom: &Atom) -> Result<Atom, AllocError>
     }
 }
 
-/// Exchanges the name of an atom.
+/// Replaces the name of an atom.
 fn rename_atom(renaming: &Renaming, atom: &mut Atom) -> Result<(), AllocError>
     ensures { OnOk result (atom.new ≡ renamed_atom (given_by renaming.now) atom.old) }
 {

@@ -1,4 +1,4 @@
-// The new names of names.
+// Old names, and the new names that they get.
 ghost use Rattle.std.specs.Prelude.{◌≡◌, List, ℕ, ◌++◌, ◌∷◌, [], None, bytes_eq, is_some, IfOk, OnOk};
 ghost use Rattle.std.specs.Map.{lookup};
 
@@ -6,7 +6,7 @@ use indexmap::IndexMap;
 use std::alloc::{AllocError, Global};
 use vlog_module::Name;
 
-/// Names, each with its new name. A name that is added twice keeps its first one.
+/// Old names, each with its new name. An old name that is added twice keeps its first new name.
 #[derive(Drop)]
 pub(crate) struct Renaming {
     by_name: IndexMap<Vec<u8>, Name>,
@@ -18,7 +18,7 @@ impl Renaming {
     ghost use Rattle.port_names.specs.Fresh.{AreNames};
     ghost use Rattle.vlog_module.specs.Names.{IsName};
 
-    /// The renaming of these pairs of an old name and its new one.
+    /// The renaming with these pairs of an old name and its new one.
     pub(crate) fn of(alloc: Global, pairs: &[(Name, Name)]) -> Result<Renaming, AllocError>
         ensures lists { IfOk result (λ renaming. Lists renaming pairs.now) }
         ensures named { OnOk result (AreNames pairs.now) }
@@ -33,7 +33,7 @@ impl Renaming {
         Ok(renaming)
     }
 
-    /// Adds a name with its new one.
+    /// Adds an old name with its new one.
     fn add(&mut self, pair: &(Name, Name)) -> Result<(), AllocError>
         ensures lists { (pairs : List (List ℕ × List ℕ)) → Lists self.old pairs → OnOk result (Lists self.new (pairs ++ pair.now ∷ [])) }
         ensures old_named { IsName pair.now.0 }
@@ -49,7 +49,7 @@ impl Renaming {
         insert(&mut self.by_name, key, name)
     }
 
-    /// Where what is made for new names lies.
+    /// The allocator from which the memory for new names comes.
     pub(crate) fn alloc(&self) -> Global {
         self.alloc
     }
@@ -61,7 +61,7 @@ impl Renaming {
         self.by_name.get(name.bytes()).is_some()
     }
 
-    /// The new name of a name, and a copy of the name where it has none.
+    /// The new name of a name, or a copy of the name if it has none.
     pub(crate) fn given(&self, name: &Name) -> Result<Name, AllocError>
         ensures { IfOk result (λ given. given ≡ given_by self.now name.now) }
     {
@@ -71,7 +71,7 @@ impl Renaming {
         }
     }
 
-    /// Exchanges a name for its new one, where it has one.
+    /// Replaces a name by its new one, if it has one.
     pub(crate) fn rename(&self, name: &mut Name) -> Result<(), AllocError>
         ensures { OnOk result (name.new ≡ given_by self.now name.old) }
     {
@@ -82,7 +82,7 @@ impl Renaming {
     }
 }
 
-/// Gives a name that has no new one its new name.
+/// Gives a new name to a name that has none yet.
 fn insert(by_name: &mut IndexMap<Vec<u8>, Name>, key: Vec<u8>, name: Name) -> Result<(), AllocError>
     requires { lookup (λ other. bytes_eq key.items other.items) by_name.old.entries ≡ None }
     ensures { OnOk result (by_name.new.entries ≡ by_name.old.entries ++ (key, name) ∷ []) }

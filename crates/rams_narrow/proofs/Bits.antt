@@ -40,7 +40,7 @@ with_bit-other n bit b =
     ∙ ap (λ h. h / 2 ^ b) (half n bit) in
     ap (λ r. r % 2 == 1) moved
 
--- The number so far has the highest k of so many bits.
+-- The number so far has the highest k bits of all.
 pub record HasBits (count : ℕ) (bit : ℕ → Bool) (k n : ℕ) : Type 0 where
   pub small : n < 2 ^ k
   pub each : (b : ℕ) → b < k → bit_at n b ≡ bit (count - k + b)
@@ -73,7 +73,7 @@ all_bits count bit k n past within has b less =
 
 -- ---- places of bits
 
--- a bit of the narrow word of high part 0 stands so far from the end that each other narrow word has one
+-- from a bit of the narrow word of high part 0, the bit of each other narrow word is still inside the word
 pub high-inside : (mode high b : ℕ) → mode < 4 → high < share mode → b < 16 → b % share mode ≡ 0 → b + high < 16
 high-inside zero high b few less inside even = let least : high < 1 = less in omega (arith, least, inside)
 high-inside (suc zero) high b few less inside even = let least : high < 2 = less in let by : b % 2 ≡ 0 = even in omega (arith, least, inside, by)

@@ -1,22 +1,24 @@
--- Narrow words of a RAM: its words have 16 bits, and hold narrow words of 16, 8, 4 or 2 bits in modes 0 to 3.
+-- Narrow words of a block RAM (`SB_RAM40_4K`; READ_MODE and WRITE_MODE 0 to 3): a word has 16 bits, and holds narrow words of 16, 8, 4 or 2
+-- bits in modes 0 to 3.
 use Rattle.std.specs.Prelude.{ℕ, ◌+◌, ◌*◌, ◌/◌, ◌%◌, ◌^◌, Bool, false, ◌==◌, if◌then◌else◌}
 
 -- how many narrow words share a word
 abbrev pub share : ℕ → ℕ
 share mode = 2 ^ mode
 
--- A narrow word has a high part, a number below the share. Its bit d is bit `share * d + high` of the word: the narrow words of a word
--- have one bit each in turn.
+-- The narrow words of a word have one bit each in turn: bit d of a narrow word is bit `share * d + high` of the word. `high` is its high
+-- part, a number below the share.
 
--- bit b of a word in which the narrow word of that high part is put
+-- bit b of a word after the narrow word `high` is put into it
 abbrev pub put_bit : ℕ → (ℕ → Bool) → ℕ → (ℕ → Bool) → ℕ → Bool
 put_bit mode word high value b = if b % share mode == high then value (b / share mode) else word b
 
--- bit b of what is got of the narrow word of that high part: its bit d stands at `share * d`, and 0 elsewhere
+-- bit b of the narrow word `high`, got from a word: its bit d is at `share * d`, and all other bits are 0
 abbrev pub got_bit : ℕ → (ℕ → Bool) → ℕ → ℕ → Bool
 got_bit mode word high b = if b % share mode == 0 then word (b + high) else false
 
--- bit d of the narrow word at an address among 256 words: the low eight bits of the address choose the word, the others are the high part
+-- bit d of the narrow word at an address among 256 words: the low eight bits of the address choose the word, the bits above them are the
+-- high part
 abbrev pub narrow_bit : ℕ → (ℕ → ℕ → Bool) → ℕ → ℕ → Bool
 narrow_bit mode words address d = words (address % 256) (share mode * d + address / 256)
 

@@ -1,15 +1,15 @@
 //! Narrow words of a RAM: each word of 16 bits holds 1, 2, 4 or 8 of them in modes 0 to 3.
 //!
-//! A narrow word is told by its mode and by its high part, a number below the count of those that share a word. They have one bit each
-//! in turn: in mode 1 the narrow word of high part 0 has the bits 0, 2, 4 and so on, that of high part 1 the bits 1, 3, 5 and so on.
+//! A narrow word is known by its mode and its high part, which is below the number of narrow words in a word. They have one bit each in
+//! turn: in mode 1 the narrow word of high part 0 has the bits 0, 2, 4 and so on, and that of high part 1 the bits 1, 3, 5 and so on.
 //!
-//! No call takes memory, and none refuses.
+//! No call takes memory or can fail.
 #![tactic(auto)]
 
 ghost use Rattle.std.specs.Prelude.{◌≡◌, ℕ, ◌+◌, ◌*◌, ◌/◌, ◌^◌, ◌<◌, ◌≤◌, length, get_or};
 ghost use Rattle.rams_narrow.specs.Narrow.{share, bit_at, put_bit, got_bit, narrow_bit};
 
-/// How many narrow words share a word.
+/// How many narrow words a word holds.
 fn share(mode: u8) -> u8
     requires mode { mode < 4 }
     ensures is { result ≡ share mode }
@@ -31,7 +31,7 @@ fn bit_at(number: u16, b: u8) -> bool
     (number >> b) % 2 == 1
 }
 
-/// Bit `b` of `word` in which the narrow word of high part `high` is put.
+/// Bit `b` of `word` after the narrow word `high` is put into it.
 fn put_bit(mode: u8, word: u16, high: u8, value: u16, b: u8) -> bool
     requires mode { mode < 4 }
     requires few { b < 16 }
@@ -45,7 +45,7 @@ fn put_bit(mode: u8, word: u16, high: u8, value: u16, b: u8) -> bool
     }
 }
 
-/// Bit `b` of what is got of the narrow word of high part `high`.
+/// Bit `b` of the narrow word `high` as `get` gives it.
 fn got_bit(mode: u8, word: u16, high: u8, b: u8) -> bool
     requires mode { mode < 4 }
     requires high { high < share mode }
@@ -59,7 +59,7 @@ fn got_bit(mode: u8, word: u16, high: u8, b: u8) -> bool
     }
 }
 
-/// The word in which the narrow word of high part `high` is put.
+/// The word with `value` put into it as its narrow word of high part `high`.
 pub fn put(mode: u8, word: u16, high: u8, value: u16) -> u16
     requires mode { mode < 4 }
     requires high { high < share mode }
@@ -73,7 +73,7 @@ pub fn put(mode: u8, word: u16, high: u8, value: u16) -> u16
     result
 }
 
-/// The narrow word of high part `high` with its bits where that of high part 0 has them, and 0 elsewhere.
+/// The narrow word of high part `high`, got from the word. Its bits are at the places of those of high part 0, and all other bits are 0.
 pub fn get(mode: u8, word: u16, high: u8) -> u16
     requires mode { mode < 4 }
     requires high { high < share mode }
@@ -86,7 +86,7 @@ pub fn get(mode: u8, word: u16, high: u8) -> u16
     result
 }
 
-/// The narrow word at an address of 256 words. The low eight bits of the address choose the word, the others are the high part.
+/// The narrow word at an address of 256 words. The low eight bits of the address choose the word, the bits above them are the high part.
 pub fn narrow(mode: u8, words: &[u16], address: u16) -> u16
     requires mode { mode < 4 }
     requires words { length words.now ≡ 256 }

@@ -33,7 +33,7 @@ IOB_0.PINTYPE_5 B5[0]
 1 2
 ";
 
-/// The bits by which that cell inverts its lowest input and leads to the output pin. The buffer from the input pin is off.
+/// The bits by which that cell inverts its lowest input and drives the output pin. The buffer from the input pin is off.
 pub const INVERTER: [SampleBit; 13] = [
     (0, 1, 0, 0),
     (0, 2, 0, 0),
@@ -50,7 +50,7 @@ pub const INVERTER: [SampleBit; 13] = [
     (1, 1, 1, 43),
 ];
 
-/// What a text says, where it isn't too long and says a database.
+/// The database of a text, or `None` if the text is too long or no database.
 pub fn database(alloc: Global, text: &[u8]) -> Option<ChipDb>
     ensures { IfSome result (λ db. DbMeans text.now (database_in db)) }
 {

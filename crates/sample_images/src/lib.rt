@@ -1,4 +1,4 @@
-//! Images and chip databases of a 1k for the tests of the crates above: no part of the program.
+//! Images and chip databases of the HX1K for the tests of the crates above: no part of the program.
 //!
 //! A test names the bits of an image by numbers, and a database by its text.
 #![tactic(auto)]

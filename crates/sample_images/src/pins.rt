@@ -2,7 +2,7 @@
 
 use crate::images::SampleBit;
 
-/// An inverter with a flip-flop, to a pin whose register has the same clock and whose value can be read.
+/// An inverter with a flip-flop that drives a pin. The pin's register has the same clock, and the pin can be read back.
 pub const REGISTERED_OUTPUT: &[u8] = b".device 1k 14 18 6
 .logic_tile_bits 54 16
 LC_0 B0[36] B0[37] B0[38] B0[39] B0[40] B0[41] B0[42] B0[43] B0[44] B0[45] B1[36] B1[37] B1[38] B1[39] B1[40] B1[41] B1[42] B1[43] B1[44] B1[45]

@@ -15,7 +15,7 @@ same_bits xs ys = (slice_eq-Decides booleans_Decides xs ys (pointwise beq xs ys)
 pub pointwise-same : (xs : List Bool) → pointwise beq xs xs ≡ true
 pointwise-same xs = (slice_eq-Decides booleans_Decides xs xs (pointwise beq xs xs) refl).1 refl
 
--- a test that tells whether bits are equal
+-- the test whether bits are equal
 pub pointwise-told : (result : Bool) (xs ys : List Bool) → IsTrue result ↔ (xs ≡ ys) → result ≡ pointwise beq xs ys
 pointwise-told result xs ys tells =
     let both = slice_eq-Decides booleans_Decides xs ys (pointwise beq xs ys) refl in

@@ -1,7 +1,7 @@
--- What is left of a list where its first items are dropped.
+-- The rest of a list after its first items are dropped.
 use Rattle.std.proofs.Common.{◌≡◌, ℕ, zero, suc, ◌+◌, ◌<◌, ◌≤◌, List, [], ◌∷◌, length, get_or, drop, ap, arith, length-drop}
 
--- an item is left: the list has it at that place, and the rest is what is left behind it
+-- if an item is left, the list has it at that place, and the rest is what follows it
 pub drop_cons : {A : Type 0} (xs : List A) (k : ℕ) (d x : A) (more : List A) → drop k xs ≡ x ∷ more → (k < length xs) × (get_or xs k d ≡ x) × (more ≡ drop (k + 1) xs)
 drop_cons [] zero d x more left = absurd cc
 drop_cons [] (suc k) d x more left = absurd cc
@@ -15,6 +15,6 @@ drop_cons (first ∷ xs) (suc k) d x more left =
 pub drop_none : {A : Type 0} (xs : List A) (k : ℕ) → drop k xs ≡ [] → length xs ≤ k
 drop_none xs k none = omega (arith, length-drop k xs, ap length none)
 
--- the same within the list: this is its end
+-- if nothing is left and the place is within the list, it is the end of the list
 pub drop_end : {A : Type 0} (xs : List A) (k : ℕ) → drop k xs ≡ [] → k ≤ length xs → k ≡ length xs
 drop_end xs k none within = omega (arith, drop_none xs k none)

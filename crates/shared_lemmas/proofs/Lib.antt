@@ -10,9 +10,9 @@ pub mod Bits
 pub mod Bytes
 -- lists that are joined, or made of another list item by item
 pub mod Lists
--- what is left of a list where its first items are dropped
+-- the rest of a list after its first items are dropped
 pub mod Cuts
--- what stands in a list that grew at its end
+-- the items of a list that grew at its end
 pub mod Pushes
 -- searches of a list, and of the numbers below a bound
 pub mod Searches

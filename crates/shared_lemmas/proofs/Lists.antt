@@ -10,12 +10,12 @@ use Rattle.std.proofs.lemmas.List.Elements.{All-nil, All-cons, All-head, All-tai
 pub append-nothing : {A : Type 0} (xs more : List A) → more ≡ [] → xs ≡ xs ++ more
 append-nothing xs more none = sym (ap (λ list. xs ++ list) none ∙ append-nil xs)
 
--- where two lists join to an empty one, both are empty
+-- if two lists join to an empty one, both are empty
 pub append_empty : {A : Type 0} (xs ys : List A) → xs ++ ys ≡ [] → (xs ≡ []) × (ys ≡ [])
 append_empty [] ys none = (refl, none)
 append_empty (x ∷ xs) ys none = absurd cc
 
--- what holds where two others do
+-- what holds if two others do
 pub All-both : {A : Type 0} (P Q R : A → Type 0) → ((x : A) → P x → Q x → R x) → (xs : List A) → All P xs → All Q xs → All R xs
 All-both P Q R both [] first second = All-nil R
 All-both P Q R both (x ∷ xs) first second =
@@ -36,7 +36,7 @@ map-every one two same (x ∷ xs) = rw (same x, map-every one two same xs) refl
 pub flat_map-push : {A B : Type 0} (given : A → List B) (xs : List A) (x : A) → flat_map given (xs ++ x ∷ []) ≡ flat_map given xs ++ given x
 flat_map-push given xs x = flat_map-append given xs (x ∷ []) ∙ ap (λ last. flat_map given xs ++ last) (append-nil (given x))
 
--- the same of the first items of a list
+-- what one more item gives, for the first items of a list
 pub flat_map-more : {A B : Type 0} (given : A → List B) (xs : List A) (k : ℕ) (d : A) → k < length xs → flat_map given (take (k + 1) xs) ≡ flat_map given (take k xs) ++ given (get_or xs k d)
 flat_map-more given xs k d within = ap (flat_map given) (take_more xs k d within) ∙ flat_map-push given (take k xs) (get_or xs k d)
 

@@ -10,7 +10,7 @@ eqb-turned a b =
       | inr other ↦ ne_eqb a b other ∙ sym (ne_eqb b a (λ same. other (sym same)))
     ]
 
--- any other number is below the next bound where it is below this one
+-- a number other than n is below n + 1 exactly if it is below n
 pub ltb-next : (k n : ℕ) → k ≢ n → nat_lt k (n + 1) ≡ nat_lt k n
 ltb-next k n other =
     elim (cases_lt k n) [

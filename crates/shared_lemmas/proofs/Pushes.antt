@@ -1,4 +1,4 @@
--- What stands in a list that grew at its end.
+-- The items of a list that grew at its end.
 use Rattle.std.proofs.Common.{◌≡◌, ℕ, zero, suc, ◌<◌, List, [], ◌∷◌, ◌++◌, length, refl, arith}
 use Rattle.std.specs.Prelude.{Some, slice_get}
 

@@ -26,11 +26,11 @@ some_or_none (suc n) test =
       ]
     ]
 
--- the first item that passes stands within the list, or at its end
+-- the first item that passes is within the list, or the search ends at the end of the list
 pub position_or_len-within : {A : Type 0} (test : A → Bool) (xs : List A) → position_or_len test xs ≤ length xs
 position_or_len-within test xs = prefix_len-le-length (λ x. not (test x)) xs
 
--- where no item passes, the first that does stands at the end
+-- if no item passes, the search for the first one ends at the end of the list
 pub position_or_len-none : {A : Type 0} (test : A → Bool) (xs : List A) → position test xs ≡ None → position_or_len test xs ≡ length xs
 position_or_len-none test xs none =
     let bound : position_or_len test xs ≤ length xs = position_or_len-within test xs in

@@ -2,7 +2,7 @@
 use Rattle.std.proofs.Common.{◌≡◌, Bool, true, false, ◌&&◌, ◌||◌, if◌then◌else◌, refl, sym}
 use Rattle.std.proofs.lemmas.Bool.{and_parts, or_parts}
 
--- two tests are one where each passes if the other does
+-- two tests are equal if each passes when the other does
 pub same_test : (a b : Bool) → (a ≡ true → b ≡ true) → (b ≡ true → a ≡ true) → a ≡ b
 same_test true b there back = sym (there refl)
 same_test false true there back = back refl
@@ -30,7 +30,7 @@ and_none true true = refl
 and_none true false = refl
 and_none false b = refl
 
--- a test that is asked for only where another passes
+-- a test that is made only if another passes
 pub if_both : (a b : Bool) → (if a then b else false) ≡ true → (a ≡ true) × (b ≡ true)
 if_both true b both = (refl, both)
 if_both false b both = absurd cc

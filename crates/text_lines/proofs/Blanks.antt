@@ -54,7 +54,7 @@ trimmed-take_blank line end some within blank =
     let split : take end line ≡ take (end - 1) line ++ (get_or line (end - 1) 0 ∷ []) = rw last at (take_more line (end - 1) 0 (omega arith)) in
     rw split (sym (trimmed-blank (take (end - 1) line) (get_or line (end - 1) 0) blank))
 
--- and where that byte is no blank
+-- and if that byte is no blank
 pub trimmed-take_kept : (line : List ℕ) (end : ℕ) → 0 < end → end ≤ length line → is_blank (get_or line (end - 1) 0) ≡ false → trimmed (take end line) ≡ take end line
 trimmed-take_kept line end some within inner =
     let last : end - 1 + 1 ≡ end = omega arith in

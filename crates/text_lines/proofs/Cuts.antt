@@ -21,13 +21,13 @@ fail_before test bytes = λ k d lt.
     let here : get_or (take end bytes) k d ≡ get_or bytes k d = get_or-take end bytes k d below in
     ap test here ∙ fails_before_first test bytes k d below
 
--- where the end is that of the text, no byte passes
+-- if the end is the end of the text, no byte passes
 pub fail_whole : (test : ℕ → Bool) (bytes : List ℕ) → length bytes ≤ position_or_len test bytes → All (λ byte. test byte ≡ false) bytes
 fail_whole test bytes le =
     let all : take (position_or_len test bytes) bytes ≡ bytes = take_all (position_or_len test bytes) bytes le in
     rw all at (fail_before test bytes)
 
--- a text is what stands before its first byte that passes, that byte, and what stands after it
+-- a text is what comes before its first byte that passes, that byte, and what comes after it
 pub cut_at : (test : ℕ → Bool) (bytes : List ℕ) → position_or_len test bytes < length bytes
     → bytes ≡ take (position_or_len test bytes) bytes ++ (get_or bytes (position_or_len test bytes) 0 ∷ drop (position_or_len test bytes + 1) bytes)
 cut_at test bytes lt = split_at_first test bytes 0 lt
@@ -36,7 +36,7 @@ cut_at test bytes lt = split_at_first test bytes 0 lt
 pub passes_at_end : (test : ℕ → Bool) (bytes : List ℕ) → position_or_len test bytes < length bytes → test (get_or bytes (position_or_len test bytes) 0) ≡ true
 passes_at_end test bytes lt = passes_at_first test bytes 0 lt
 
--- where no element passes, the first place that passes is the end
+-- if no element passes, the first place that passes is the end
 pub position_or_len-none : (test : ℕ → Bool) (bytes : List ℕ) → position test bytes ≡ None → position_or_len test bytes ≡ length bytes
 position_or_len-none test bytes none =
     let bound : position_or_len test bytes ≤ length bytes = prefix_len-le-length (λ byte. not (test byte)) bytes in

@@ -1,4 +1,4 @@
--- What was taken and what is kept of a text that comes in pieces, behind a piece more.
+-- What was taken and what is kept of a text that comes in pieces, after one more piece.
 use Rattle.std.proofs.Common.{◌≡◌, ℕ, ◌<◌, ◌⊎◌, inl, inr, refl, false, ◌==◌, List, [], ◌∷◌, ◌++◌, length, sym, ap, subst, ◌∙◌, append_assoc, arith}
 use Rattle.std.proofs.lemmas.List.{append-nil, nil_from_length}
 use Rattle.std.proofs.lemmas.Bool.{cases_lt}
@@ -37,7 +37,7 @@ module _ {Setting T : Type 0} (has_taken : Setting → T → List (List ℕ) →
     taken = has.taken;
   }
 
-  -- the kept bytes and those behind them were taken as lines
+  -- the kept bytes and those after them were taken as lines
   pub front-takes : (before after : T) (text bytes kept : List ℕ) → HasWholeLines (kept ++ bytes) → TakesLines has_taken before after (lines_of (kept ++ bytes)) → HasFront has_taken setting text before kept
       → HasFront has_taken setting (text ++ bytes) after []
   front-takes before after text bytes kept whole takes has =
@@ -48,7 +48,7 @@ module _ {Setting T : Type 0} (has_taken : Setting → T → List (List ℕ) →
         taken = subst (λ (ls : List (List ℕ)). has_taken setting after ls) (sym lines) (takes setting (lines_of has.front) has.taken);
       }
 
-  -- the same where nothing is kept, or where there are no lines
+  -- the lines of the bytes were taken; nothing was kept before them, or there are none
   pub front-lines : (before after : T) (text bytes kept : List ℕ) → (kept ≡ []) ⊎ (bytes ≡ []) → HasWholeLines bytes → TakesLines has_taken before after (lines_of bytes) → HasFront has_taken setting text before kept
       → HasFront has_taken setting (text ++ bytes) after kept
   front-lines before after text bytes kept (inl empty) whole takes has =
@@ -71,7 +71,7 @@ module _ {Setting T : Type 0} (has_taken : Setting → T → List (List ℕ) →
       subst (λ (ls : List (List ℕ)). has_taken setting after ls) (sym all) (takes setting (lines_of has.front) has.taken)
 
 module _ {Setting T R : Type 0} (has_taken : Setting → T → List (List ℕ) → Type 0) (refuses : Setting → List (List ℕ) → R → Type 0) (setting : Setting) where
-  -- one of the lines that the kept bytes and those behind them make is refused
+  -- one of the lines that the kept bytes and those after them make is refused
   pub front-refuses : (taker : T) (text bytes kept more : List ℕ) (refusal : R) → HasWholeLines (kept ++ bytes) → RefusesLines has_taken refuses taker (lines_of (kept ++ bytes)) refusal
       → HasFront has_taken setting text taker kept → refuses setting (lines_of (text ++ bytes ++ more)) refusal
   front-refuses taker text bytes kept more refusal whole refused has =
@@ -86,7 +86,7 @@ module _ {Setting T R : Type 0} (has_taken : Setting → T → List (List ℕ) �
       ∙ sym (append_assoc (lines_of front) (lines_of line) (lines_of more)) in
       subst (λ (ls : List (List ℕ)). refuses setting ls refusal) (sym all) (refused setting (lines_of front) (lines_of more) has.taken)
 
-  -- one of the lines is refused, where nothing is kept or there are none
+  -- one of the lines is refused, if nothing is kept or there are none
   pub front-refuses_lines : (taker : T) (text bytes kept more : List ℕ) (refusal : R) → (kept ≡ []) ⊎ (bytes ≡ []) → HasWholeLines bytes → RefusesLines has_taken refuses taker (lines_of bytes) refusal
       → HasFront has_taken setting text taker kept → refuses setting (lines_of (text ++ bytes ++ more)) refusal
   front-refuses_lines taker text bytes kept more refusal (inl empty) whole refused has =
@@ -116,7 +116,7 @@ pub not-empty : (text : List ℕ) → (length text == 0) ≡ false → 0 < lengt
 not-empty [] some = absurd cc
 not-empty (byte ∷ bytes) some = omega arith
 
--- behind the end of a line nothing is kept, and where the line hasn't ended the piece has no line
+-- after the end of a line nothing is kept, and if the line hasn't ended the piece has no line
 pub none_kept : (end kept now lines : List ℕ) → (0 < length end → now ≡ []) → (length end ≡ 0 → now ≡ kept) → (length end ≡ 0 → 0 < length kept → lines ≡ []) → (now ≡ []) ⊎ (lines ≡ [])
 none_kept end kept now lines empty same going_on =
     elim (cases_lt 0 (length end)) [
@@ -132,13 +132,13 @@ pub piece-is : (text piece end lines unended : List ℕ) → piece ≡ end ++ li
 piece-is text piece end lines unended parts =
     append_assoc (text ++ end) lines unended ∙ append_assoc text end (lines ++ unended) ∙ ap (λ t. text ++ t) (sym (append_assoc end lines unended)) ∙ ap (λ t. text ++ t) (sym parts)
 
--- the same where more follows, behind its end
+-- the parts of a piece if more follows, after its end
 pub behind-end : (text piece end lines unended more : List ℕ) → piece ≡ end ++ lines ++ unended → text ++ end ++ (lines ++ unended ++ more) ≡ text ++ piece ++ more
 behind-end text piece end lines unended more parts =
     sym (append_assoc (text ++ end) (lines ++ unended) more)
     ∙ ap (λ t. t ++ more) (sym (append_assoc (text ++ end) lines unended) ∙ piece-is text piece end lines unended parts)
 
--- and behind its lines
+-- and after its lines
 pub behind-lines : (text piece end lines unended more : List ℕ) → piece ≡ end ++ lines ++ unended → text ++ end ++ lines ++ (unended ++ more) ≡ text ++ piece ++ more
 behind-lines text piece end lines unended more parts =
     sym (append_assoc (text ++ end ++ lines) unended more) ∙ ap (λ t. t ++ more) (piece-is text piece end lines unended parts)

@@ -54,7 +54,7 @@ leads-word word digits number leads some all =
     let whole : take digits word ≡ word = take_all digits word (omega arith) in
     sym (ap number_of whole) ∙ digits-number word digits number leads.has some
 
--- where all are digits, so is each
+-- if all are digits, so is each
 digit_at : (word : List ℕ) (i : ℕ) → i < length word → list_all is_ascii_digit word ≡ true → is_ascii_digit (get_or word i 0) ≡ true
 digit_at word i lt all =
     elim (cases_Bool (is_ascii_digit (get_or word i 0))) [
@@ -74,7 +74,7 @@ number-parts word is =
     let size = and_parts (nat_lt 0 (length word)) (nat_le (length word) 9) parts.0 in
     record { some = ltb-true 0 (length word) size.0; few = leb-true (length word) 9 size.1; all = parts.1 }
 
--- Digits in front of a byte that is none are as many as stand at the front.
+-- The digits before the first byte that is no digit are all digits at the front.
 leads-as_many : (text word rest : List ℕ) (end digits number : ℕ) → text ≡ word ++ (end ∷ rest) → IsNumber word → is_ascii_digit end ≡ false → Leads text digits number → digits ≡ length word
 leads-as_many text word rest end digits number is word_is other leads =
     let long : length text ≡ length word + suc (length rest) = ap length is ∙ length-append word (end ∷ rest) in
@@ -112,7 +112,7 @@ leads-other word digits number leads fails =
       | inr other ↦ rw other refl
     ]
 
--- and a byte stands behind them
+-- and a byte follows them
 pub leads-before : (end : ℕ) (text : List ℕ) (digits number : ℕ) (rest : List ℕ) → Leads text digits number → 0 < digits → digits < length text → get_or text digits 0 ≡ end
     → rest ≡ take (length text - (digits + 1)) (drop (digits + 1) text) → StartsWithNumber end text number rest
 leads-before end text digits number rest leads some lt here is =
@@ -132,7 +132,7 @@ number-some word number is =
       | inr other ↦ absurd (cc (rw other at is))
     ]
 
--- where a number stands before that byte, it is found
+-- if a number comes before that byte, it is found
 pub leads-found : (end : ℕ) (text : List ℕ) (digits number other : ℕ) (rest : List ℕ) → Leads text digits number → is_ascii_digit end ≡ false → StartsWithNumber end text other rest
     → (0 < digits) × (digits < length text) × (get_or text digits 0 ≡ end)
 leads-found end text digits number other rest leads no_digit starts =

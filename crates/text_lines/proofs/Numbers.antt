@@ -58,7 +58,7 @@ with_number-empty (Some first) (Some rest) some = absurd cc
 with_number-empty (Some first) None some = absurd cc
 with_number-empty None rest some = absurd cc
 
--- there are as many numbers as words
+-- there is one number for each word
 pub length-numbers_of : (words : List (List ℕ)) (numbers : List ℕ) → numbers_of words ≡ Some numbers → length words ≡ length numbers
 unfolding numbers_of
 length-numbers_of [] [] is = refl
@@ -73,13 +73,13 @@ no_first-nothing words none x xs some =
     let same : Some [] ≡ Some (x ∷ xs) = sym numbers_of-nothing ∙ (rw none at some) in
     absurd cc
 
--- nor is there one where the first word writes none
+-- nor is there one if the first word writes none
 pub no_first-word : (words rest : List (List ℕ)) (word : List ℕ) → words ≡ word ∷ rest → number_of word ≡ None → (x : ℕ) (xs : List ℕ) → numbers_of words ≢ Some (x ∷ xs)
 no_first-word words rest word is none x xs some =
     let missing : numbers_of words ≡ None = numbers_of-none words rest word is none in
     absurd cc
 
--- where the rest has not these numbers, the whole has none that end with them
+-- if the rest hasn't these numbers, the whole has none that end with them
 pub no_rest : (first : ℕ) (rest : Option (List ℕ)) (numbers : List ℕ) → rest ≢ Some numbers → (x : ℕ) → with_number (Some first) rest ≢ Some (x ∷ numbers)
 no_rest first (Some rest) numbers other x some = other cc
 no_rest first None numbers other x some = absurd cc

@@ -21,7 +21,7 @@ pub record IsWord (s : Separators) (word : List ℕ) : Type 0 where
   pub some : 0 < length word
   pub free : IsUnparted s word
 
--- where the first separator stands, or how long the line is
+-- the offset of the first separator, or the length of the line if there is none
 abbrev pub end_of : Separators → List ℕ → ℕ
 end_of s line = position_or_len (is_separator s) line
 
@@ -95,7 +95,7 @@ pub from_word-inner : (s : Separators) (byte : ℕ) (bytes : List ℕ) → is_se
 unfolding from_word
 from_word-inner s byte bytes inner = rw inner refl
 
--- a line from its first word on has the same words
+-- a line and its rest from its first word on have the same words
 pub words_of-from_word : (s : Separators) (line : List ℕ) → words_of s (from_word s line) ≡ words_of s line
 unfolding words_of pieces_of from_word
 words_of-from_word s [] = refl
@@ -105,7 +105,7 @@ words_of-from_word s (byte ∷ bytes) =
       | inr inner ↦ ap (words_of s) (from_word-inner s byte bytes inner)
     ]
 
--- where a line has a word, the first byte of it is no separator
+-- if a line has a word, its first byte is no separator
 from_word-starts : (s : Separators) (line : List ℕ) (byte : ℕ) (bytes : List ℕ) → from_word s line ≡ byte ∷ bytes → is_separator s byte ≡ false
 unfolding from_word
 from_word-starts s [] byte bytes is = absurd cc
@@ -184,7 +184,7 @@ starts_late s (byte ∷ bytes) line is some at_front =
     let positive : 0 < cond (not (is_separator s byte)) (1 + end_of s bytes) 0 = rw inner (omega arith) in
     omega arith
 
--- the first word of a line is that of a text that is the line from its first word on, cut at the first separator
+-- the first word of a line is cut, at the first separator, from the line from its first word on
 pub words_of-cut : (s : Separators) (line rest : List ℕ) → rest ≡ from_word s line → 0 < length rest → words_of s line ≡ take (end_of s rest) rest ∷ words_of s (drop (end_of s rest) rest)
 words_of-cut s line [] is some = absurd (omega arith)
 words_of-cut s line (byte ∷ bytes) is some =
@@ -200,7 +200,7 @@ length-from_word s (byte ∷ bytes) =
       | inr inner ↦ rw inner (omega arith)
     ]
 
--- what stands behind the first word is shorter than the line
+-- what follows the first word is shorter than the line
 pub length-behind : (s : Separators) (line rest : List ℕ) → rest ≡ from_word s line → 0 < length rest → length (drop (end_of s rest) rest) < length line
 length-behind s line rest is some =
     let within : length rest ≤ length line = omega (arith, length-from_word s line, ap length is) in
@@ -218,7 +218,7 @@ first_word-starts s byte bytes inner none =
     let cut : byte ∷ take_while (λ (b : ℕ). not (is_separator s b)) bytes ≡ [] = rw inner at whole in
     absurd (cc cut)
 
--- where there is no first word, nothing is left from it on
+-- if there is no first word, nothing is left from it on
 from_word-nothing : (s : Separators) (line : List ℕ) → first_word s line ≡ [] → from_word s line ≡ []
 unfolding from_word
 from_word-nothing s [] none = refl
@@ -228,7 +228,7 @@ from_word-nothing s (byte ∷ bytes) none =
       | inr inner ↦ rw inner (first_word-starts s byte bytes inner (rw inner at none))
     ]
 
--- nothing stands behind no word
+-- nothing follows if there is no word
 pub behind_no_word : (s : Separators) (line : List ℕ) → first_word s line ≡ [] → behind_word s line ≡ []
 behind_no_word s line none = rw (none, from_word-nothing s line none) refl
 

@@ -50,7 +50,7 @@ at_lf : (bytes rest : List ℕ) → is_at_lf (bytes ++ (10 ∷ []) ++ rest) ≡ 
 at_lf [] rest = refl
 at_lf (byte ∷ bytes) rest = refl
 
--- the lines of a text are the same before either of two others
+-- a text gives the same lines before each of two others
 same-cond : (b : Bool) (one other one' other' more : List (List ℕ)) → one' ≡ one ++ more → other' ≡ other ++ more → cond b one' other' ≡ cond b one other ++ more
 same-cond true one other one' other' more first second = first
 same-cond false one other one' other' more first second = second
@@ -103,14 +103,14 @@ whole-at_lf text end some within is =
     let same : take end text ≡ take (end - 1) text ++ (10 ∷ []) = sym (ap (λ n. take n text) place) ∙ parts in
     subst HasWholeLines (sym same) (whole-ended (take (end - 1) text))
 
--- the same behind other bytes
+-- any bytes, and then a text up to one of its LF
 pub whole-behind : (kept text : List ℕ) (place : ℕ) → place < length text → get_or text place 0 ≡ 10 → HasWholeLines (kept ++ take (place + 1) text)
 whole-behind kept text place within is =
     let parts : take (place + 1) text ≡ take place text ++ (10 ∷ []) = take_more text place 0 within ∙ ap (λ byte. take place text ++ (byte ∷ [])) is in
     let same : kept ++ take (place + 1) text ≡ kept ++ take place text ++ (10 ∷ []) = ap (λ end. kept ++ end) parts ∙ sym (append_assoc kept (take place text) (10 ∷ [])) in
     subst HasWholeLines (sym same) (whole-ended (kept ++ take place text))
 
--- as many lines have ended as in both parts
+-- the number of ended lines is the sum of those in both parts
 pub ended-append : (first second : List ℕ) → ended_lines (first ++ second) ≡ ended_lines first + ended_lines second
 ended-append [] second = omega arith
 ended-append (byte ∷ first) second = omega (arith, ended-append first second)
@@ -123,11 +123,11 @@ ended-none (byte ∷ bytes) free =
     let none : ended_lines bytes ≡ 0 = ended-none bytes (All-tail (λ byte. (byte == 10) ≡ false) byte bytes free) in
     rw inner (omega (arith, none))
 
--- the same where LF is at no place
+-- no line has ended if LF is at no place
 pub ended-nowhere : (bytes : List ℕ) → position (λ byte. byte == 10) bytes ≡ None → ended_lines bytes ≡ 0
 ended-nowhere bytes none = ended-none bytes (fail_whole (λ byte. byte == 10) bytes (omega (arith, position_or_len-none (λ byte. byte == 10) bytes none)))
 
--- one byte more behind which no line ends
+-- one more byte, after which no line ends
 pub ended-from : (text : List ℕ) (end : ℕ) → 0 < end → end ≤ length text → (get_or text (end - 1) 0 == 10) ≡ false → ended_lines (drop end text) ≡ 0 → ended_lines (drop (end - 1) text) ≡ 0
 ended-from text end some within other none =
     let place : suc (end - 1) ≡ end = omega arith in
@@ -135,7 +135,7 @@ ended-from text end some within other none =
     let tail : ended_lines (drop (suc (end - 1)) text) ≡ 0 = ap (λ n. ended_lines (drop n text)) place ∙ none in
     ap ended_lines parts ∙ rw other (omega (arith, tail))
 
--- one text behind the other
+-- one text after the other
 pub whole-then : (first second : List ℕ) → HasWholeLines first → HasWholeLines second → HasWholeLines (first ++ second)
 whole-then first second one other =
     let both : lines_of (first ++ second) ≡ lines_of first ++ lines_of second = one.lines second in
@@ -149,7 +149,7 @@ whole-then first second one other =
       count = omega (arith, ended-append first second, one.count, other.count, ap length both, length-append (lines_of first) (lines_of second));
     }
 
--- ---- texts cut behind their last LF
+-- ---- texts cut after their last LF
 
 -- an empty text
 pub cut-none : IsCut [] [] []

@@ -79,7 +79,7 @@ words_of_tabs : words_of SpacesAndTabs (codes " a \tb\tc ") ≡ codes "a" ∷ co
 unfolding words_of pieces_of
 words_of_tabs = refl
 
--- the first word, and what stands behind it with its spaces
+-- the first word, and what follows it, spaces included
 first_word_some : first_word Spaces (codes "  ab  c ") ≡ codes "ab"
 unfolding from_word
 first_word_some = refl
@@ -118,7 +118,7 @@ number_of_letter : number_of (codes "1a") ≡ None
 unfolding number_of
 number_of_letter = refl
 
--- the numbers of all words, and none where one of them is no number
+-- the numbers of all words; none if one of them is no number
 numbers_of_two : numbers_of (codes "12" ∷ codes "3" ∷ []) ≡ Some (12 ∷ 3 ∷ [])
 unfolding numbers_of number_of
 numbers_of_two = refl

@@ -14,7 +14,7 @@ use Rattle.text_lines.proofs.Cuts.{fail_before, fail_whole, cut_at, passes_at_en
 abbrev pub is_lf : ℕ → Bool
 is_lf byte = byte == 10
 
--- where the first LF stands, or how long the text is
+-- the offset of the first LF, or the length of the text if there is none
 abbrev pub lf_place : List ℕ → ℕ
 lf_place text = position_or_len is_lf text
 
@@ -33,7 +33,7 @@ cond-cons : (b : Bool) (byte : ℕ) (one other : List ℕ) → byte ∷ cond b o
 cond-cons true byte one other = refl
 cond-cons false byte one other = refl
 
--- the same by the place of the last byte
+-- a line without a CR at its end, by the place of its last byte
 pub chomped-is : (line : List ℕ) → chomped line ≡ cond (get_or line (length line - 1) 0 == 13) (take (length line - 1) line) line
 chomped-is [] = refl
 chomped-is (byte ∷ []) = refl
@@ -90,20 +90,20 @@ whole_lines_of-last byte (next ∷ bytes) free =
     let inner : (byte == 10) ≡ false = All-head (λ byte. is_lf byte ≡ false) byte (next ∷ bytes) free in
     rw inner (ap (with_byte byte) (whole_lines_of-last next bytes (All-tail (λ byte. is_lf byte ≡ false) byte (next ∷ bytes) free)))
 
--- a text is its bytes before the first LF, LF, and the bytes behind it
+-- a text is its bytes before the first LF, LF, and the bytes after it
 cut_at_lf : (text : List ℕ) → lf_place text < length text → text ≡ take (lf_place text) text ++ (10 ∷ drop (lf_place text + 1) text)
 cut_at_lf text lt =
     let is : get_or text (lf_place text) 0 ≡ 10 = eqb-true (get_or text (lf_place text) 0) 10 (passes_at_end is_lf text lt) in
     cut_at is_lf text lt ∙ ap (λ byte. take (lf_place text) text ++ (byte ∷ drop (lf_place text + 1) text)) is
 
--- a first line that LF ends, where it ends at the place e
+-- a first line that LF ends, if its length is e
 pub first_line-ended : (text : List ℕ) (e : ℕ) → e ≡ lf_place text → e < length text → lines_of text ≡ chomped (take e text) ∷ lines_of (take (length text - (e + 1)) (drop (e + 1) text))
 first_line-ended text e is lt =
     let within : lf_place text < length text = omega arith in
     let step = lines_of-lf (take (lf_place text) text) (drop (lf_place text + 1) text) (fail_before is_lf text) in
     rw (take_rest text (e + 1), is) (ap lines_of (cut_at_lf text within) ∙ step)
 
--- the same with its end
+-- the first whole line, if its length is e
 pub whole_line-ended : (text : List ℕ) (e : ℕ) → e ≡ lf_place text → e < length text → whole_lines_of text ≡ take (e + 1) text ∷ whole_lines_of (take (length text - (e + 1)) (drop (e + 1) text))
 whole_line-ended text e is lt =
     let within : lf_place text < length text = omega arith in
@@ -118,7 +118,7 @@ unfolding lines_of
 first_line-whole [] full le = absurd cc
 first_line-whole (byte ∷ bytes) full le = lines_of-last byte bytes (fail_whole is_lf (byte ∷ bytes) le)
 
--- the same with its end, of which it has none
+-- a first whole line that no LF ends is the whole text
 pub whole_line-whole : (text : List ℕ) → (length text == 0) ≡ false → length text ≤ lf_place text → whole_lines_of text ≡ text ∷ whole_lines_of []
 unfolding whole_lines_of
 whole_line-whole [] full le = absurd cc

@@ -1,8 +1,8 @@
--- The lines of a text. LF ends a line, and a CR just before it belongs to the end; the last line perhaps has no LF, and a
--- CR is then a byte of it.
+-- The lines of a text. LF ends a line, and a CR just before it belongs to the end. The last line needs no LF; a CR at its end is then a
+-- byte of it. Source: Project IceStorm, 'iCE40 ASCII format'; that a CR may come before LF is this project's choice.
 use Rattle.std.specs.Prelude.{ℕ, Bool, false, ◌&&◌, ◌||◌, List, [], ◌∷◌, get_or, ◌==◌, if◌then◌else◌}
 
--- the pieces with a byte put before the first of them
+-- puts a byte in front of the first piece
 abbrev pub with_byte : ℕ → List (List ℕ) → List (List ℕ)
 with_byte byte [] = (byte ∷ []) ∷ []
 with_byte byte (piece ∷ pieces) = (byte ∷ piece) ∷ pieces
@@ -27,7 +27,7 @@ whole_lines_of (byte ∷ bytes) =
     if byte == 10 then (byte ∷ []) ∷ whole_lines_of bytes
     else with_byte byte (whole_lines_of bytes)
 
--- the line of an index, counted from 0, and an empty one past the last
+-- the line at an index, counted from 0; an empty line if the index is past the last one
 abbrev pub line_at : List (List ℕ) → ℕ → List ℕ
 line_at lines index = get_or lines index []
 
@@ -35,7 +35,7 @@ line_at lines index = get_or lines index []
 abbrev pub is_blank : ℕ → Bool
 is_blank byte = (byte == 32) || (byte == 9)
 
--- a byte before what is left of those after it; a blank goes too where nothing is left
+-- puts a byte in front of the trimmed rest; a blank is dropped if the rest is empty
 abbrev pub before_rest : ℕ → List ℕ → List ℕ
 before_rest byte [] = if is_blank byte then [] else byte ∷ []
 before_rest byte (next ∷ rest) = byte ∷ next ∷ rest

@@ -7,12 +7,12 @@ abbrev pub ended_lines : List ℕ → ℕ
 ended_lines [] = 0
 ended_lines (byte ∷ bytes) = (if byte == 10 then 1 else 0) + ended_lines bytes
 
--- LF has ended all lines of a text, so that they come first whatever follows it
+-- LF has ended every line of the text, so whatever follows it begins a new line
 pub record HasWholeLines (text : List ℕ) : Type 0 where
   pub lines : (rest : List ℕ) → lines_of (text ++ rest) ≡ lines_of text ++ lines_of rest
   pub count : ended_lines text ≡ length (lines_of text)
 
--- a text cut behind its last LF: the lines that have ended, and the bytes of a line that hasn't
+-- a text cut after its last LF: the lines that have ended, and the bytes of a line that hasn't
 pub record IsCut (text front unended : List ℕ) : Type 0 where
   pub parts : text ≡ front ++ unended
   pub whole : HasWholeLines front

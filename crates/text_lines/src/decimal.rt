@@ -4,8 +4,8 @@ ghost use Rattle.std.specs.Char.{is_ascii_digit};
 ghost use Rattle.text_lines.specs.Words.{number_of};
 ghost use Rattle.text_lines.specs.Numbers.{Leads, StartsWithNumber};
 
-/// The number that a word of one to nine decimal digits writes, the most significant first: none of any other word.
-/// Leading zeros count as digits.
+/// The number that a word of one to nine decimal digits writes, the most significant digit first. `None` for any other word. Leading zeros
+/// count as digits.
 pub fn number(word: &[u8]) -> Option<u32>
     ensures is { result ≡ number_of word.now }
     ensures small { IfSome result (λ value. value < 1000000000) }
@@ -18,8 +18,8 @@ pub fn number(word: &[u8]) -> Option<u32>
     }
 }
 
-/// The number at the front of a text where that byte stands right behind its one to nine digits, and what stands behind the
-/// byte.
+/// The number at the front of a text, and what follows the byte `end`. `None` if the text doesn't begin with one to nine digits and then
+/// that byte.
 pub fn number_before(end: u8, text: &[u8]) -> Option<(u32, &[u8])>
     ensures is { MatchOption result
         (is_ascii_digit end ≡ false → (number : ℕ) (rest : List ℕ) → StartsWithNumber end text.now number rest → ⊥)
@@ -41,7 +41,7 @@ struct Leading {
     digits: usize,
 }
 
-/// The number that the digits at the front of a text write, at most nine of them. It looks at each of them once.
+/// The number that the digits at the front of a text write, at most nine of them. It looks at each digit once.
 fn leading_number(text: &[u8]) -> Leading
     ensures { Leads text.now result.digits result.number }
 {

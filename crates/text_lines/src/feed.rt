@@ -1,4 +1,4 @@
-// The lines of a text that comes in pieces, and what takes them.
+// Feeds a text in pieces to a consumer of lines.
 ghost use Rattle.std.specs.Prelude.{◌≡◌, ℕ, ◌+◌, ◌<◌, ◌≤◌, ◌++◌, [], List, length, vec_len, Some, None, Err, IfOk, IfErr, OnOk};
 ghost use Rattle.std.specs.Option.{ForNone};
 ghost use Rattle.text_lines.specs.Lines.{lines_of};
@@ -8,34 +8,37 @@ ghost use Rattle.text_lines.specs.Feeding.{TakesLines, RefusesLines, HasFront, S
 use crate::pieces::cut_piece;
 use std::alloc::{AllocError, Global};
 
-/// What takes the lines of a text, in their order.
+/// A consumer of the lines of a text, which come in their order.
 pub trait LineTaker: Sized + Drop {
     /// Why a line is refused.
     type Refusal: Copy;
 
-    /// What contracts see beside a taker, as the choices under which it reads.
+    /// What contracts know besides the taker, for example the options under which it reads.
     ghost Setting: { Type 0 };
 
-    /// In a setting, a taker has taken these lines.
+    /// In a setting, the taker has taken these lines.
     ghost has_taken: { Setting → Self → List (List ℕ) → Type 0 };
 
-    /// In a setting, a text of these lines is refused so.
+    /// In a setting, a text of these lines is refused with this refusal.
     ghost refuses: { Setting → List (List ℕ) → Self.Refusal → Type 0 };
 
     /// What holds of a taker until it refuses.
     ghost is_ready: { Self → Type 0 };
 
-    /// How many bytes count towards the most that it takes.
+    /// How many bytes count towards the taker's limit.
     ghost fed: { Self → ℕ };
 
-    /// The most that it takes.
+    /// The most bytes that it takes.
     ghost MOST: { ℕ };
 
-    /// The refusal where there is no memory, which may come in place of any other answer.
+    /// The refusal for out of memory, which may come in place of any other answer.
     fn out_of_memory(e: AllocError) -> Self::Refusal
         ensures { (setting : Setting) (lines : List (List ℕ)) → refuses setting lines result };
 
-    /// Takes the lines of a text behind those before.
+    /// Takes the lines of a text, which follow the lines taken before.
+    ///
+    /// # Errors
+    /// The refusal of the first line that the taker refuses, or `out_of_memory`.
     fn take_lines(&mut self, text: &[u8]) -> Result<(), Self::Refusal>
         requires ready { is_ready self.old }
         requires room { fed self.old + length text.now ≤ MOST }
@@ -45,19 +48,19 @@ pub trait LineTaker: Sized + Drop {
         ensures refused { IfErr result (RefusesLines has_taken refuses self.old (lines_of text.now)) };
 }
 
-/// A text that comes in pieces, of which each line goes to a taker once it has ended. Of the bytes of a piece only those are copied
-/// that end the line whose beginning is kept, or begin a line that hasn't ended.
+/// Feeds a text in pieces to a taker, each line once it has ended. Of each piece it copies only the bytes that end the line kept so far,
+/// and those that begin a line that hasn't ended.
 #[derive(Drop)]
 pub struct LineFeed<T, R> {
     taker: T,
-    /// With what the taker refused, or that there was no memory. Behind it nothing is taken.
+    /// The refusal of the taker, or out of memory. After it nothing more is taken.
     refusal: Option<R>,
-    /// The bytes behind the last LF.
+    /// The bytes after the last LF.
     kept: Vec<u8>,
 }
 
 impl<T: LineTaker> LineFeed<T, T::Refusal> {
-    /// A feed to which nothing was fed. It takes no memory.
+    /// A feed that has been given nothing yet. It takes no memory.
     pub fn new(alloc: Global, taker: T) -> Self
         ensures stands { (setting : T.Setting) → T.has_taken setting taker [] → StandsFor T.has_taken T.refuses setting [] result }
         ensures taker { taker_of result ≡ taker }
@@ -71,8 +74,11 @@ impl<T: LineTaker> LineFeed<T, T::Refusal> {
         }
     }
 
-    /// Takes the next bytes. It refuses exactly where the taker refuses a line that has ended, or where there is no memory. That
-    /// refusal stays, whatever follows, and each later call answers it again.
+    /// Takes the next bytes.
+    ///
+    /// # Errors
+    /// The taker's refusal of a line that has ended, or `out_of_memory`. The refusal stays, whatever follows: each later call returns it
+    /// again.
     pub fn feed(&mut self, piece: &[u8]) -> Result<(), T::Refusal>
         requires ready { ForNone (refusal_of self.old) (T.is_ready (taker_of self.old)) }
         requires room { ForNone (refusal_of self.old) (fed_with T.fed self.old + length piece.now ≤ T.MOST) }
@@ -98,7 +104,10 @@ impl<T: LineTaker> LineFeed<T, T::Refusal> {
         }
     }
 
-    /// The taker behind the last line, whether or not LF ends it, or the refusal.
+    /// The taker after the last line, whether or not LF ends that line.
+    ///
+    /// # Errors
+    /// The refusal that an earlier call returned, the taker's refusal of the last line, or `out_of_memory`.
     pub fn finish(self) -> Result<T, T::Refusal>
         requires ready { ForNone (refusal_of self) (T.is_ready (taker_of self)) }
         requires room { ForNone (refusal_of self) (fed_with T.fed self ≤ T.MOST) }
@@ -122,7 +131,7 @@ impl<T: LineTaker> LineFeed<T, T::Refusal> {
     }
 }
 
-/// Takes a piece behind the kept bytes.
+/// Takes a piece that follows the kept bytes.
 fn take_piece<T: LineTaker>(
     taker: &mut T,
     kept: &mut Vec<u8>,
@@ -143,7 +152,7 @@ fn take_piece<T: LineTaker>(
     keep::<T>(kept, cut.unended)
 }
 
-/// Takes the line whose beginning is kept, with the bytes that end it. Where there are none it hasn't ended.
+/// Takes the line whose beginning is kept, together with the bytes that end it. If `end` is empty, the line hasn't ended.
 fn take_kept<T: LineTaker>(taker: &mut T, kept: &mut Vec<u8>, end: &[u8]) -> Result<(), T::Refusal>
     requires ready { T.is_ready taker.old }
     requires room { T.fed taker.old + vec_len kept.old + length end.now ≤ T.MOST }
@@ -166,7 +175,7 @@ fn take_kept<T: LineTaker>(taker: &mut T, kept: &mut Vec<u8>, end: &[u8]) -> Res
     Ok(())
 }
 
-/// Keeps bytes more.
+/// Appends bytes to those that are kept.
 fn keep<T: LineTaker>(kept: &mut Vec<u8>, bytes: &[u8]) -> Result<(), T::Refusal>
     ensures kept { OnOk result (kept.new.items ≡ kept.old.items ++ bytes.now) }
     ensures refused { IfErr result (λ refusal. (setting : T.Setting) (lines : List (List ℕ)) → T.refuses setting lines refusal) }
@@ -177,7 +186,7 @@ fn keep<T: LineTaker>(kept: &mut Vec<u8>, bytes: &[u8]) -> Result<(), T::Refusal
     }
 }
 
-/// Takes the last line, whose beginning is kept and which the text ends, where there is one.
+/// Takes the last line, which the end of the text ends. Its beginning is kept, if there is such a line.
 fn take_last<T: LineTaker>(taker: T, kept: &[u8]) -> Result<T, T::Refusal>
     requires ready { T.is_ready taker }
     requires room { T.fed taker + length kept.now ≤ T.MOST }

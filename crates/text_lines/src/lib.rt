@@ -1,9 +1,8 @@
 //! Lines, words and decimal numbers of a text in bytes.
 //!
-//! A line ends with LF, the last one perhaps with the end of the text; a CR just before LF belongs to the end, and any
-//! other CR is a byte of its line. Spaces part words, and tabs and CRs too where the caller asks for it. A number is one to nine
-//! decimal digits. A text may come in pieces, each of which is cut where lines end. Nothing here takes memory: lines and words
-//! are parts of the text itself.
+//! A line ends with LF; the last one may end with the text instead. A CR just before LF belongs to the end, and any other CR is a byte of
+//! its line. Spaces separate words, and so do tabs and CRs if the caller asks for it. A number is one to nine decimal digits. A text may
+//! come in pieces, and each piece is cut where lines end. Only `LineFeed` takes memory: lines and words are parts of the text itself.
 #![tactic(auto)]
 
 mod decimal;

@@ -10,13 +10,13 @@ use memchr::memchr;
 pub struct FirstLine<'a> {
     /// The line without its end.
     pub content: &'a [u8],
-    /// The line with its end, LF or CR LF, where it has one.
+    /// The line with its end, LF or CR LF, if it has one.
     pub whole: &'a [u8],
     /// The text after the line and its end.
     pub rest: &'a [u8],
 }
 
-/// The first line: none of an empty text.
+/// The first line of a text, or `None` if the text is empty.
 pub fn first_line<'a>(text: &'a [u8]) -> Option<FirstLine<'a>>
     ensures lines { MatchOption result (text.now ≡ [])
         (λ line. lines_of text.now ≡ line.content.now ∷ lines_of line.rest.now) }
@@ -27,7 +27,7 @@ pub fn first_line<'a>(text: &'a [u8]) -> Option<FirstLine<'a>>
     first_line_near(text, 0)
 }
 
-/// The same. It is found in less time where LF stands behind that many bytes.
+/// The first line of a text, or `None` if the text is empty. It is found faster if LF comes after exactly `len` bytes.
 pub fn first_line_near<'a>(text: &'a [u8], len: usize) -> Option<FirstLine<'a>>
     ensures lines { MatchOption result (text.now ≡ [])
         (λ line. lines_of text.now ≡ line.content.now ∷ lines_of line.rest.now) }
@@ -72,7 +72,7 @@ pub fn is_blank(byte: u8) -> bool
     byte == b' ' || byte == b'\t'
 }
 
-/// A line that LF ended, without the CR that belongs to its end.
+/// A line that LF ended, without a CR at its end.
 fn without_cr(line: &[u8]) -> &[u8]
     ensures { result.now ≡ (if get_or line.now (length line.now - 1) 0 == 13
         then take (length line.now - 1) line.now else line.now) }
@@ -83,7 +83,7 @@ fn without_cr(line: &[u8]) -> &[u8]
     }
 }
 
-/// How many bytes stand before the first LF, or in all where there is none. The guess is tried first.
+/// How many bytes come before the first LF; all of them if there is no LF. The guess is tried first.
 fn length_before_lf(text: &[u8], guess: usize) -> usize
     ensures { result ≡ position_or_len (λ byte. byte == 10) text.now }
 {
@@ -96,14 +96,14 @@ fn length_before_lf(text: &[u8], guess: usize) -> usize
     }
 }
 
-/// Whether the first LF stands at that offset.
+/// Whether the first LF is at that offset.
 fn is_first_lf(text: &[u8], offset: usize) -> bool
     ensures { result ≡ (nat_lt offset (length text.now) && (get_or text.now offset 0 == 10) && not (list_any (λ byte. byte == 10) (take offset text.now))) }
 {
     offset < text.len() && text[offset] == b'\n' && !has_lf(&text[..offset])
 }
 
-/// Whether one of the bytes is LF. It looks at all of them, which takes less time than to stop at the first.
+/// Whether one of the bytes is LF. It looks at all bytes, which is faster than stopping at the first LF.
 fn has_lf(bytes: &[u8]) -> bool
     ensures { result ≡ list_any (λ byte. byte == 10) bytes.now }
 {

@@ -7,16 +7,16 @@ use crate::lines::first_lf;
 /// A piece of a text, cut where lines end.
 #[derive(Clone, Copy, Debug, PartialEq, Eq)]
 pub struct PieceLines<'a> {
-    /// The bytes that end, with LF, the line that the pieces before began: none where they began none, or where this piece
-    /// doesn't end it.
+    /// The bytes, LF at their end, that complete the line which earlier pieces began. Empty if they began none, or if this piece doesn't
+    /// complete it.
     pub end: &'a [u8],
     /// The lines that begin and end in the piece.
     pub lines: &'a [u8],
-    /// The bytes behind the last LF. They go on with the line that the pieces before began, where it hasn't ended.
+    /// The bytes after the last LF. They continue the line that earlier pieces began, if it hasn't ended.
     pub unended: &'a [u8],
 }
 
-/// Cuts a piece that follows these bytes of a line that hasn't ended.
+/// Cuts a piece that follows `kept`, the bytes of a line that hasn't ended.
 pub fn cut_piece<'a>(kept: &[u8], piece: &'a [u8]) -> PieceLines<'a>
     ensures parts { piece.now ≡ result.end.now ++ result.lines.now ++ result.unended.now }
     ensures ended { 0 < length result.end.now → HasWholeLines (kept.now ++ result.end.now) }
@@ -37,7 +37,7 @@ pub fn cut_piece<'a>(kept: &[u8], piece: &'a [u8]) -> PieceLines<'a>
     }
 }
 
-/// Cuts the bytes behind the end of a line.
+/// Cuts the bytes that follow the end of a line.
 fn cut_behind<'a>(end: &'a [u8], bytes: &'a [u8]) -> PieceLines<'a>
     ensures end { result.end.now ≡ end.now }
     ensures parts { bytes.now ≡ result.lines.now ++ result.unended.now }
@@ -52,7 +52,7 @@ fn cut_behind<'a>(end: &'a [u8], bytes: &'a [u8]) -> PieceLines<'a>
     }
 }
 
-/// How many bytes the lines of a text have that LF ends.
+/// The length in bytes of the lines of a text that LF ends.
 fn length_of_whole_lines(text: &[u8]) -> usize
     ensures within { result ≤ length text.now }
     ensures whole { HasWholeLines (take result text.now) }

@@ -6,10 +6,10 @@ ghost use Rattle.text_lines.specs.Words.{behind_word, first_word, from_word, is_
 use crate::decimal::number;
 use crate::lines::is_blank;
 
-/// The bytes that part words; one or more of them stand between two words.
+/// The bytes that separate words; one or more of them come between two words.
 #[derive(Clone, Copy, Debug, PartialEq, Eq)]
 pub enum Separators {
-    /// Spaces alone: a tab is a byte of its word.
+    /// Spaces only: a tab is a byte of its word.
     Spaces,
     /// Spaces and tabs.
     SpacesAndTabs,
@@ -18,7 +18,7 @@ pub enum Separators {
 }
 
 impl Separators {
-    /// Whether the byte is one of them.
+    /// Whether the byte is a separator.
     fn has(self, byte: u8) -> bool
         ensures { result ≡ is_separator self byte }
     {
@@ -30,7 +30,7 @@ impl Separators {
     }
 }
 
-/// The first word, and what stands behind it, separators and all: none where there is no word.
+/// The first word and what follows it, separators included. `None` if there is no word.
 pub fn split_word(separators: Separators, line: &[u8]) -> Option<(&[u8], &[u8])>
     ensures words { MatchOption result (words_of separators line.now ≡ [])
         (λ found. words_of separators line.now ≡ found.0.now ∷ words_of separators found.1.now) }
@@ -46,7 +46,7 @@ pub fn split_word(separators: Separators, line: &[u8]) -> Option<(&[u8], &[u8])>
     Some((&line[..end], &line[end..]))
 }
 
-/// The word of a line that has exactly one.
+/// The word of a line that has exactly one. `None` for any other line.
 pub fn one_word(separators: Separators, line: &[u8]) -> Option<&[u8]>
     ensures { MatchOption result (length (words_of separators line.now) ≢ 1) (λ word. words_of separators line.now ≡ word.now ∷ []) }
 {
@@ -57,7 +57,7 @@ pub fn one_word(separators: Separators, line: &[u8]) -> Option<&[u8]>
     }
 }
 
-/// The numbers of a line of exactly two words, where each of them writes one.
+/// The numbers of a line of exactly two words, if each word writes one.
 pub fn two_numbers(separators: Separators, line: &[u8]) -> Option<(u32, u32)>
     ensures { MatchOption result ((x y : ℕ) → numbers_of (words_of separators line.now) ≢ Some (x ∷ y ∷ []))
         (λ found. numbers_of (words_of separators line.now) ≡ Some (found.0 ∷ found.1 ∷ [])) }
@@ -67,7 +67,7 @@ pub fn two_numbers(separators: Separators, line: &[u8]) -> Option<(u32, u32)>
     Some((first, second))
 }
 
-/// The numbers of a line of exactly three words, where each of them writes one.
+/// The numbers of a line of exactly three words, if each word writes one.
 pub fn three_numbers(separators: Separators, line: &[u8]) -> Option<(u32, u32, u32)>
     ensures { MatchOption result ((x y z : ℕ) → numbers_of (words_of separators line.now) ≢ Some (x ∷ y ∷ z ∷ []))
         (λ found. numbers_of (words_of separators line.now) ≡ Some (found.0 ∷ found.1 ∷ found.2 ∷ [])) }
@@ -77,7 +77,7 @@ pub fn three_numbers(separators: Separators, line: &[u8]) -> Option<(u32, u32, u
     Some((first, second, third))
 }
 
-/// The numbers of a line of exactly four words, where each of them writes one.
+/// The numbers of a line of exactly four words, if each word writes one.
 pub fn four_numbers(separators: Separators, line: &[u8]) -> Option<(u32, u32, u32, u32)>
     ensures { MatchOption result ((w x y z : ℕ) → numbers_of (words_of separators line.now) ≢ Some (w ∷ x ∷ y ∷ z ∷ []))
         (λ found. numbers_of (words_of separators line.now) ≡ Some (found.0 ∷ found.1 ∷ found.2 ∷ found.3 ∷ [])) }
@@ -87,7 +87,7 @@ pub fn four_numbers(separators: Separators, line: &[u8]) -> Option<(u32, u32, u3
     Some((first, second, third, fourth))
 }
 
-/// The number of the first word, and what stands behind that word.
+/// The number that the first word writes, and what follows that word.
 fn split_number(separators: Separators, line: &[u8]) -> Option<(u32, &[u8])>
     ensures { MatchOption result ((x : ℕ) (xs : List ℕ) → numbers_of (words_of separators line.now) ≢ Some (x ∷ xs))
         (λ found. numbers_of (words_of separators line.now) ≡ with_number (Some found.0) (numbers_of (words_of separators found.1.now))) }
@@ -97,7 +97,7 @@ fn split_number(separators: Separators, line: &[u8]) -> Option<(u32, &[u8])>
     Some((first, behind))
 }
 
-/// The number of a line of exactly one word, where it writes one.
+/// The number of a line of exactly one word, if the word writes one.
 pub fn one_number(separators: Separators, line: &[u8]) -> Option<u32>
     ensures { MatchOption result ((x : ℕ) → numbers_of (words_of separators line.now) ≢ Some (x ∷ []))
         (λ found. numbers_of (words_of separators line.now) ≡ Some (found ∷ [])) }
@@ -122,7 +122,7 @@ fn offset_of_word(separators: Separators, line: &[u8]) -> Option<usize>
     line.iter().position(|byte| !separators.has(*byte))
 }
 
-/// How many bytes stand before the first separator, or in all where there is none.
+/// How many bytes come before the first separator; all of them if there is none.
 fn length_of_word(separators: Separators, line: &[u8]) -> usize
     ensures { result ≡ position_or_len (is_separator separators) line.now }
 {

@@ -28,7 +28,7 @@ module _ (before : Rows) where
     bits = λ row col r c. or-more (first row col) (second row col) true (bit_at before col row) (bit_at mid col row) (bit_at after col row) (both row col) (one.bits row col r c) (two.bits row col r c) (same row col);
   }
 
-  -- the same bits by another test
+  -- the same board, by another test for its bits
   pub Adds-same : (test other : ℕ → ℕ → Bool) (after : Rows) → Adds test before after → ((row col : ℕ) → other row col ≡ test row col) → Adds other before after
   Adds-same test other after adds same = record { grid = adds.grid; bits = λ row col r c. adds.bits row col r c ∙ ap (λ t. bit_at before col row || t) (sym (same row col)) }
 

@@ -17,7 +17,7 @@ by-place : (functions : List FunctionLine) (name : List ℕ) → bits_at_place f
 unfolding function_place
 by-place functions name = by-found functions name (position (is_function Logic name) functions) refl
 
--- the bits of the function at the place of a cell are those of the cell
+-- the bits of the function at a cell's index are the bits of the cell
 pub bits-of-cell : (database : Database) (i : ℕ) → i < 8 → bits_at_place database.functions (get_or (places_of_cells database.functions) i None) ≡ cell_places database i
 unfolding places_of_cells cell_places
 bits-of-cell database zero below = by-place database.functions (cell_name 0)

@@ -30,7 +30,7 @@ is_eq-then Less b = refl
 is_eq-then Equal b = refl
 is_eq-then Greater b = refl
 
--- places are the same key where all their parts are
+-- places are equal keys if all their parts are equal
 pub place-ties : (a b : Place) → is_eq (place_cmp (place_key a) (place_key b)) ≡ is_same_place a b
 place-ties a b =
     is_eq-then (nat_cmp a.bank b.bank) (ordering_then (nat_cmp a.px b.px) (nat_cmp a.py b.py))
@@ -71,7 +71,7 @@ extras-all extras n firsts none so_far at =
 
 -- ---- names of nets
 
--- tiles are the same key where both their parts are
+-- tiles are equal keys if both their parts are equal
 pub tile-ties : (name : NetName) (x y : ℕ) → is_eq (tile_cmp (tile_key name.x name.y) (tile_key x y)) ≡ is_name_in x y name
 tile-ties name x y =
     is_eq-then (nat_cmp name.x x) (nat_cmp name.y y) ∙ (λ i. sym (unsigned_ties name.x x) i && sym (unsigned_ties name.y y) i)

@@ -9,12 +9,12 @@ use Rattle.place_search.specs.Places.{gathered_below}
 use Rattle.place_search.proofs.Places.{gathered_below-more}
 use Rattle.net_extract.proofs.Listed.{find-at_position}
 
--- one place more, behind what was there
+-- one more place, after what was there
 pub gathered-next : {A : Type 0} (n : ℕ) (given : ℕ → List A) (first now after here : List A) → now ≡ first ++ gathered_below n given → after ≡ now ++ here → here ≡ given n → after ≡ first ++ gathered_below (n + 1) given
 gathered-next n given first now after here so_far next here_is =
     next ∙ ap (λ list. list ++ here) so_far ∙ append_assoc first (gathered_below n given) here ∙ ap (λ list. first ++ list) (ap (λ here. gathered_below n given ++ here) here_is ∙ sym (gathered_below-more n given))
 
--- the same from nothing on
+-- one more place, starting from nothing
 pub gathered-step : {A : Type 0} (n : ℕ) (given : ℕ → List A) (now after here : List A) → now ≡ gathered_below n given → after ≡ now ++ here → here ≡ given n → after ≡ gathered_below (n + 1) given
 gathered-step n given now after here so_far next here_is =
     next ∙ ap (λ list. list ++ here) so_far ∙ ap (λ here. gathered_below n given ++ here) here_is ∙ sym (gathered_below-more n given)
@@ -42,16 +42,16 @@ map-next f xs n d first now after within so_far next =
 pub map-done : {A B : Type 0} (f : A → B) (xs : List A) (n : ℕ) (first now : List B) → length xs ≤ n → now ≡ first ++ map f (take n xs) → now ≡ first ++ map f xs
 map-done f xs n first now past so_far = so_far ∙ ap (λ xs. first ++ map f xs) (take_all n xs past)
 
--- what `grind` is told of them
+-- the lemmas that `grind` gets
 pub ruleset gathering = (append_assoc, append-nil, gathered_below-more)
 
 -- ---- lines that are kept in another form
 
--- a line by its place, where it is found
+-- a line by its index, if it is found
 pub line-found : {A B : Type 0} (f : A → B) (xs : List A) (k : ℕ) (x : A) → slice_get xs k ≡ Some x → slice_get (map f xs) k ≡ Some (f x)
 line-found f xs k x found = slice_get-map f xs k ∙ ap (option_map f) found
 
--- and where it isn't
+-- and if it isn't
 pub line-missing : {A B : Type 0} (f : A → B) (xs : List A) (k : ℕ) → slice_get xs k ≡ None → slice_get (map f xs) k ≡ None
 line-missing f xs k missing = slice_get-map f xs k ∙ ap (option_map f) missing
 
@@ -90,6 +90,6 @@ module _ {A : Type 0} (p : A → Bool) (xs : List A) where
       let lt : position_or_len p xs < length xs = ltb-true (position_or_len p xs) (length xs) is.0 in
       subst (λ n. n < length xs) is.1 lt
 
-  -- and the first item that passes stands there
+  -- and the first item that passes is there
   pub find-some : (k : ℕ) (x : A) → position p xs ≡ Some k → slice_get xs k ≡ Some x → find p xs ≡ Some x
   find-some k x some here = find-at_position p xs k some ∙ here

@@ -2,11 +2,11 @@
 pub mod Boards
 -- what places give, one place after the other, and lines of lists that are kept in another form
 pub mod Gathered
--- tiles by their kinds: how wide they are, and where they stand
+-- tiles by their kinds: how wide they are, and where they are
 pub mod TileKinds
 -- the bits of a cell by the place of its function
 pub mod CellPlaces
--- items where a test passes
+-- items that are there if a test passes
 pub mod Ons
 -- the places of links in lists by their tiles
 pub mod Lists

@@ -66,7 +66,7 @@ length-with : (on : Bool) (at n : ℕ) (lists : List (List ℕ)) → length list
 length-with true at n lists all = length-set lists at (get_or lists at [] ++ n ∷ []) ∙ all
 length-with false at n lists all = all
 
--- the place of a link is added where the link is on
+-- the index of a link is added if the link is on
 pub AreLists-more : (image : Configuration) (links : List Link) (n : ℕ) (lists new : List (List ℕ)) (link : Link) → slice_get links n ≡ Some link → link.x < 64 → link.y < 64 → AreLists image links n lists → new ≡ with_place (is_link_on image link) (64 * link.y + link.x) n lists → AreLists image links (n + 1) new
 AreLists-more image links n lists new link here x_in y_in are new_is = record {
   all = ap length new_is ∙ length-with (is_link_on image link) (64 * link.y + link.x) n lists are.all;

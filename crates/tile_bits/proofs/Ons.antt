@@ -1,14 +1,14 @@
--- Items where a test passes.
+-- Items that are there if a test passes.
 use Rattle.std.proofs.Common.{◌≡◌, ℕ, append-nil, Bool, true, false, List, [], ◌∷◌, ◌++◌, sym, ap, ◌∙◌}
 use Rattle.std.specs.Prelude.{if◌then◌else◌}
 use Rattle.tile_bits.specs.declared.item.Active.TheVariants.{Lc}
 
--- a cell where a bit is set
+-- a cell, if one of its bits is set
 pub cell-set : (test : Bool) (i lut flags picked_lut picked_flags : ℕ) → test ≡ true → lut ≡ picked_lut → flags ≡ picked_flags → Lc i lut flags ∷ [] ≡ (if test then Lc i picked_lut picked_flags ∷ [] else [])
 cell-set true i lut flags picked_lut picked_flags is lut_is flags_are = ap (λ l. Lc i l flags ∷ []) lut_is ∙ ap (λ f. Lc i picked_lut f ∷ []) flags_are
 cell-set false i lut flags picked_lut picked_flags is lut_is flags_are = absurd cc
 
--- nothing where a test fails
+-- nothing, if a test fails
 pub none-where : {A : Type 0} (test : Bool) (some : List A) (text : List A) → test ≡ false → text ≡ text ++ (if test then some else [])
 none-where true some text is = absurd cc
 none-where false some text is = sym (append-nil text)

@@ -25,14 +25,14 @@ bits-written old middle after count number some first rest =
     ∙ append_assoc old (bit_character (number % 2 == 1) ∷ []) (row_line (word_bits (count - 1) (number / 2)))
     ∙ ap (λ bits. old ++ row_line bits) (sym (word_bits-more count number some))
 
--- a word, and two nets behind it
+-- a word, and two nets after it
 pub nets-written : (old middle after word src dst : List ℕ) → middle ≡ old ++ word → after ≡ (middle ++ 32 ∷ src) ++ 32 ∷ dst → after ≡ old ++ ((word ++ 32 ∷ src) ++ 32 ∷ dst)
 nets-written old middle after word src dst first rest =
     rest ∙ ap (λ text. (text ++ 32 ∷ src) ++ 32 ∷ dst) first
     ∙ ap (λ text. text ++ 32 ∷ dst) (append_assoc old word (32 ∷ src))
     ∙ append_assoc old (word ++ 32 ∷ src) (32 ∷ dst)
 
--- the lines of places, where there are some
+-- the lines of places, if there are some
 pub some-extras : (extras : List ExtraLine) (places : List Place) → 0 < length places → extra_lines extras places ≡ codes ".extra_bits" ∷ map (extra_text extras) places
 some-extras extras [] some = absurd (omega arith)
 some-extras extras (place ∷ places) some = refl

@@ -1,4 +1,4 @@
--- Tiles by their kinds: how wide they are, and where they stand.
+-- Tiles by their kinds: how wide they are, and where they are.
 use Rattle.std.proofs.Common.{◌≡◌, ℕ, ◌<◌, ◌≤◌, List, Some, ap, sym, subst, arith}
 use Rattle.std.specs.Prelude.{All}
 use Rattle.plane_map.specs.Layout.{kind_of, columns_of, columns_in, grid_width, grid_height, standard_layout, IsTileBit}
@@ -44,7 +44,7 @@ module _ (device : DeviceName) (x y : ℕ) (kind : TileKind) (there : kind_of de
   is-corner : IsTileBit device (record { x = x; y = y; row = 0; col = 0 })
   is-corner = record { row_in = omega arith; col_in = subst (λ n. 0 < n) (sym (ap columns_in there)) (columns_of-some kind) }
 
-  -- a tile stands in the grid, which is less than 64 wide and high
+  -- a tile is in the grid, which is less than 64 wide and high
   pub x-below : x < 64
   x-below = least device x (tile_bit_x_in (standard_layout device) (standard_is_layout device) (record { x = x; y = y; row = 0; col = 0 }) is-corner)
 

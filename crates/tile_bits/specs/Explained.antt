@@ -1,4 +1,4 @@
--- The text that explains a configuration by the names of a database: one concatenation of lines.
+-- The text that explains a configuration by the names of a database, as one list of lines.
 use Rattle.std.specs.Prelude.{◌≡◌, ℕ, Bool, ◌&&◌, ◌==◌, List, [], ◌∷◌, ◌++◌, map, codes, decimal, find, slice_get, if◌then◌else◌, Option, None, Some}
 use Rattle.place_search.specs.Places.{any_below, gathered_below}
 use Rattle.text_lines.specs.Written.{text_of}
@@ -36,7 +36,7 @@ abbrev pub name_or_number : ℕ → Option NameLine → List ℕ
 name_or_number net None = 35 ∷ decimal net
 name_or_number net (Some line) = line.name
 
--- A net goes by its first name in the tile.
+-- A net is written as its first name in the tile.
 unfoldable pub net_text : List NameLine → ℕ → ℕ → ℕ → List ℕ
 net_text names x y net = name_or_number net (find (is_at x y) (names_of_net net names))
 
@@ -50,7 +50,7 @@ abbrev pub function_line : Option FunctionLine → List ℕ
 function_line None = []
 function_line (Some function) = function.name
 
--- a word, and the two nets
+-- a word, the source net and the driven net
 abbrev pub link_line : List NameLine → List ℕ → ℕ → ℕ → Option Link → List ℕ
 link_line names word x y None = word
 link_line names word x y (Some link) = with_word (with_word word (net_text names x y link.src)) (net_text names x y link.dst)
@@ -66,7 +66,7 @@ item_line database x y (Buffer place) = link_line database.names (codes "buffer"
 item_line database x y (Routing place) = link_line database.names (codes "routing") x y (slice_get database.routings place)
 item_line database x y (Unknown row col) = unknown_line row col
 
--- a tile: its statement, and what its bits say
+-- a tile: its statement, and a line for each item
 unfoldable pub tile_lines : Database → Configuration → ℕ → ℕ → TileKind → List (List ℕ)
 tile_lines database image x y kind = grid_line (tile_keyword kind) x y ∷ map (item_line database x y) (items_of_tile database image x y kind)
 
@@ -76,12 +76,12 @@ tile_lines database image x y kind = grid_line (tile_keyword kind) x y ∷ map (
 unfoldable pub is_set_tile : Configuration → ℕ → ℕ → TileKind → Bool
 is_set_tile image x y kind = any_below 16 (λ row. any_below (columns_of kind) (λ col. tile_bit_of image x y row col))
 
--- the tile at a place, where it has a set bit
+-- the tile at (x, y), if it has a set bit
 abbrev pub set_tile_lines : Database → Configuration → ℕ → ℕ → Option TileKind → List (List ℕ)
 set_tile_lines database image x y None = []
 set_tile_lines database image x y (Some kind) = if is_set_tile image x y kind then tile_lines database image x y kind else []
 
--- row of the grid by row of the grid
+-- all tiles with a set bit, row by row of the grid
 abbrev pub all_tile_lines : Database → Configuration → List (List ℕ)
 all_tile_lines database image =
     gathered_below (grid_height image.layout.device) (λ y. gathered_below (grid_width image.layout.device) (λ x.
@@ -94,7 +94,7 @@ abbrev pub name_or_place : Place → Option ExtraLine → List ℕ
 name_or_place at None = with_word (with_word (with_word (codes "?") (decimal at.bank)) (decimal at.px)) (decimal at.py)
 name_or_place at (Some line) = line.name
 
--- An extra bit goes by the first name of its place.
+-- An extra bit is written as the first name that the database gives for its place.
 unfoldable pub extra_text : List ExtraLine → Place → List ℕ
 extra_text extras at = name_or_place at (find (λ line. is_same_place line.at at) extras)
 
@@ -108,18 +108,18 @@ abbrev pub lines_of_kind : Database → Configuration → ℕ → ℕ → Option
 lines_of_kind database image x y None = []
 lines_of_kind database image x y (Some kind) = tile_lines database image x y kind
 
--- one tile, or all tiles with a set bit and the extra bits
+-- one tile, or all tiles with a set bit and then the extra bits
 abbrev pub lines_after : Database → Configuration → Option TileXy → List (List ℕ)
 lines_after database image None = all_tile_lines database image ++ extra_lines database.extras (set_extras image)
 lines_after database image (Some only) = lines_of_kind database image only.x only.y (kind_of image.layout.device only.x only.y)
 
--- the text
+-- the whole text
 unfoldable pub explained : Database → Configuration → Option TileXy → List ℕ
 explained database image only = text_of (with_word device_keyword (device_word image.layout.device) ∷ lines_after database image only)
 
 -- ---- refusals
 
--- a tile that isn't there
+-- the fault if there is no such tile
 abbrev pub tile_fault : ℕ → ℕ → Option TileKind → Option ExplainFault
 tile_fault x y None = Some (NoTile x y)
 tile_fault x y (Some kind) = None
@@ -128,12 +128,12 @@ abbrev pub only_fault : DeviceName → Option TileXy → Option ExplainFault
 only_fault device None = None
 only_fault device (Some only) = tile_fault only.x only.y (kind_of device only.x only.y)
 
--- why nothing is explained: the database is that of another device, or there is no such tile
+-- why an image is not explained: the database is for another device, or there is no such tile
 unfoldable pub explain_fault_of : Database → Configuration → Option TileXy → Option ExplainFault
 explain_fault_of database image only =
     if is_same_device database.chip.device image.layout.device then only_fault image.layout.device only else Some Device
 
--- a fault that is told is that one
+-- the reported fault is that one; out of memory may come in place of any answer
 abbrev pub Tells : Option ExplainFault → ExplainFault → Type 0
 Tells fault (Memory e) = Unit {0}
 Tells fault Device = fault ≡ Some Device

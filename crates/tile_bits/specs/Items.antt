@@ -1,4 +1,4 @@
--- What the set bits of a tile say, in order.
+-- What the set bits of a tile mean, in order.
 use Rattle.std.specs.Prelude.{ℕ, Bool, false, not, ◌&&◌, ◌||◌, ◌==◌, List, [], ◌∷◌, ◌++◌, map, length, slice_get, if◌then◌else◌, Option, None, Some}
 use Rattle.std.specs.List.{list_any}
 use Rattle.place_search.specs.Places.{any_below, gathered_below}
@@ -19,22 +19,22 @@ use Rattle.tile_bits.specs.Cells.{places_of_cells}
 
 -- ---- cells
 
--- a cell with a set bit
+-- a logic cell that has a set bit
 abbrev pub cell_item : ℕ → List Bool → List Active
 cell_item i bits = if is_used bits then Lc i (lut_of bits) (flags_of bits) ∷ [] else []
 
--- only logic tiles have cells
+-- the logic cells of a tile; only logic tiles have some
 unfoldable pub cell_items : Database → Configuration → ℕ → ℕ → TileKind → List Active
 cell_items database image x y Logic = gathered_below 8 (λ i. cell_item i (cell_bits database image x y i))
 cell_items database image x y kind = []
 
--- ---- functions and links that are on, by their places in the lists
+-- ---- functions and links that are on, by their indexes in the lists
 
 abbrev pub is_place : ℕ → Option ℕ → Bool
 is_place place None = false
 is_place place (Some other) = other == place
 
--- a function of the tile's kind that is on and no cell
+-- a function of the tile's kind that is on and isn't a logic cell
 abbrev pub is_other_on : Configuration → ℕ → ℕ → TileKind → List FunctionLine → ℕ → FunctionLine → Bool
 is_other_on image x y kind functions place function =
     is_same_kind function.kind kind && (are_set image x y function.bits && not (list_any (is_place place) (places_of_cells functions)))
@@ -46,7 +46,7 @@ function_here image x y kind functions place (Some function) = if is_other_on im
 unfoldable pub on_functions : Configuration → ℕ → ℕ → TileKind → List FunctionLine → List ℕ
 on_functions image x y kind functions = gathered_below (length functions) (λ place. function_here image x y kind functions place (slice_get functions place))
 
--- a link of the tile that is on
+-- a link in the tile that is on
 abbrev pub is_on_at : Configuration → ℕ → ℕ → Link → Bool
 is_on_at image x y link = (link.x == x) && ((link.y == y) && is_link_on image link)
 
@@ -66,7 +66,7 @@ is_bit row col bit = (bit.row == row) && (bit.col == col)
 abbrev pub is_in_function : ℕ → ℕ → Option FunctionLine → Bool
 is_in_function row col function = list_any (is_bit row col) (bits_of_line function)
 
--- a bit to which a link gives the value 1
+-- whether a link needs this bit to be 1
 abbrev pub is_one_of : ℕ → ℕ → List RowCol → List Bool → Bool
 is_one_of row col [] values = false
 is_one_of row col (bit ∷ bits) [] = false
@@ -87,7 +87,7 @@ is_in_functions image x y kind functions row col =
 abbrev pub is_one_in_links : Configuration → ℕ → ℕ → List Link → ℕ → ℕ → Bool
 is_one_in_links image x y links row col = list_any (λ place. is_one_in row col (slice_get links place)) (on_links image x y links)
 
--- a bit of a cell, or of a function that is on, or with the value 1 in a link that is on
+-- a bit of a logic cell, or of a function that is on, or one that a link which is on needs to be 1
 abbrev pub is_explained : Database → Configuration → ℕ → ℕ → TileKind → ℕ → ℕ → Bool
 is_explained database image x y kind row col =
     is_in_cells kind database row col
@@ -120,6 +120,6 @@ abbrev pub items_in : Database → Configuration → ℕ → ℕ → Option Tile
 items_in database image x y None = []
 items_in database image x y (Some kind) = items_of_tile database image x y kind
 
--- what the tile at (x, y) says: its cells, its other functions, its links, its other bits
+-- what the tile at (x, y) means: its logic cells, its other functions, its links, its other set bits
 unfoldable pub items_at : Database → Configuration → ℕ → ℕ → List Active
 items_at database image x y = items_in database image x y (kind_of image.layout.device x y)

@@ -1,4 +1,4 @@
--- What look-ups by places find. Only contracts within this crate cite this.
+-- What look-ups by place or tile find. Only contracts within this crate use this.
 use Rattle.std.specs.Prelude.{◌≡◌, ℕ, Bool, ◌&&◌, ◌==◌, List, find, Some}
 use Rattle.std.specs.Option.{option_map}
 use Rattle.std.specs.declared.cmp.Ordering.{Ordering}
@@ -26,7 +26,7 @@ place_cmp = (place_key_ord.ghosts).cmp
 abbrev pub place_key : Place → PlaceKey
 place_key at = record { bank = at.bank; px = at.px; py = at.py }
 
--- the first extra bit of each place is found
+-- for each place the first extra bit there is found
 abbrev pub FindsExtras : BTreeMap PlaceKey Extra → List Extra → Type 0
 FindsExtras firsts extras = (at : Place) → get place_cmp firsts (place_key at) ≡ find (λ extra. is_same_place extra.at at) extras
 
@@ -42,14 +42,14 @@ tile_key x y = record { x = x; y = y }
 abbrev pub is_name_in : ℕ → ℕ → NetName → Bool
 is_name_in x y name = (name.x == x) && (name.y == y)
 
--- the first name in each tile is found
+-- for each tile the first name there is found
 abbrev pub FindsNames : BTreeMap TileKey NetName → List NetName → Type 0
 FindsNames firsts names = (x y : ℕ) → get tile_cmp firsts (tile_key x y) ≡ find (is_name_in x y) names
 
--- the first name of a net in each tile is found, with its bytes
+-- for each tile the first name that a net has there is found, with its bytes
 abbrev pub FindsNet : Kept → ℕ → BTreeMap TileKey NetName → Type 0
 FindsNet kept net firsts = (x y : ℕ) → option_map (λ name. text_at kept.texts name.name) (get tile_cmp firsts (tile_key x y)) ≡ option_map (λ line. line.name) (find (is_at x y) (names_of_net net (database_in kept).names))
 
--- of the nets that are there the first name in each tile is found
+-- for each net in the map, the first name that it has in each tile is found
 abbrev pub FindsNets : Kept → BTreeMap ℕ (BTreeMap TileKey NetName) → Type 0
 FindsNets kept nets = (net : ℕ) (firsts : BTreeMap TileKey NetName) → get nat_cmp nets net ≡ Some firsts → FindsNet kept net firsts

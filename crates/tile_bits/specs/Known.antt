@@ -1,4 +1,4 @@
--- What is known of all tiles before the first is written. Only contracts within this crate cite this.
+-- What is known of all tiles before the first one is written. Only contracts within this crate use this.
 use Rattle.std.specs.Prelude.{◌≡◌, length}
 use Rattle.ice_image.specs.Configuration.{Configuration}
 use Rattle.chipdb_reader.specs.Database.{Database}
@@ -6,7 +6,7 @@ use Rattle.tile_bits.specs.declared.explaining.Known.{Known}
 use Rattle.tile_bits.specs.Cells.{places_of_cells}
 use Rattle.tile_bits.specs.Inside.{AreLists, lists_of}
 
--- the cells of the database, and the links that are on in the image
+-- the logic cells of the database, and the links that are on in the image
 pub record IsKnown (database : Database) (image : Configuration) (known : Known) : Type 0 where
   pub cells : known.cells.places ≡ places_of_cells database.functions
   pub buffers : AreLists image database.buffers (length database.buffers) (lists_of known.buffers.lists.items)

@@ -22,14 +22,14 @@ use net_extract::{cell_name, flags, is_one_set, lut};
 use plane_map::{RowCol, TileKind};
 use std::alloc::AllocError;
 
-/// The places of the eight cells among the functions of a database.
+/// The indexes of the eight logic cells among the functions of a database.
 #[derive(Clone, Copy)]
 pub(crate) struct Cells {
     places: [Option<usize>; 8],
 }
 
 impl Cells {
-    /// The cells of a database.
+    /// The logic cells of a database.
     #[tactic(auto, unfolding(crate::specs::Cells::places_of_cells))]
     pub(crate) fn of(db: &ChipDb) -> Cells
         ensures { result.places ≡ places_of_cells (database_in db.now).functions }
@@ -48,14 +48,14 @@ impl Cells {
         }
     }
 
-    /// Whether the function at a place is a cell.
+    /// Whether the function at an index is a logic cell.
     pub(crate) fn has(&self, place: usize) -> bool
         ensures { result ≡ list_any (is_place place) self.now.places }
     {
         self.places.iter().any(|other| *other == Some(place))
     }
 
-    /// The bits of cell i.
+    /// The bits of cell `i`.
     pub(crate) fn bits<'a>(&self, db: &'a ChipDb, i: usize) -> &'a [RowCol]
         requires cell { i < 8 }
         ensures bits { result.now ≡ bits_at_place (database_in db.now).functions (get_or self.now.places i None) }
@@ -71,14 +71,14 @@ impl Cells {
     }
 }
 
-/// The place of the first function that has the name of cell i.
+/// The index of the first function that has the name of cell `i`.
 fn place_of_cell(db: &ChipDb, i: u8) -> Option<usize>
     ensures { result ≡ function_place Logic (cell_name i) (database_in db.now).functions }
 {
     db.function(TileKind::Logic, cell_name(i).bytes())
 }
 
-/// Adds the cells of a tile that have a set bit.
+/// Adds the logic cells of a tile that have a set bit.
 #[tactic(auto, unfolding(crate::specs::Items::cell_items))]
 pub(crate) fn push_cells(
     items: &mut Vec<Active>,
@@ -97,7 +97,7 @@ pub(crate) fn push_cells(
     }
 }
 
-/// Adds the cells of a logic tile that have a set bit.
+/// Adds the logic cells of a logic tile that have a set bit.
 #[tactic(auto, using(crate::proofs::Gathered::gathering), unfolding(place_search::specs::Places::gathered_below))]
 fn push_logic_cells(
     items: &mut Vec<Active>,
@@ -118,7 +118,7 @@ fn push_logic_cells(
     Ok(())
 }
 
-/// Adds cell i of a tile where one of its bits is set.
+/// Adds cell `i` of a tile, if one of its bits is set.
 fn push_cell(
     items: &mut Vec<Active>,
     image: &AnyImage,

@@ -26,8 +26,25 @@ use ice_image::AnyImage;
 use plane_map::{DeviceName, kind_on};
 use std::alloc::{AllocError, Global};
 
-/// The text that explains an image by a database: each tile with a set bit, and the set bits that belong to no tile, or
-/// one tile alone.
+/// Explains an image by a chip database, as text: each tile with a set bit, and then the extra bits that are set. With `only`, just that
+/// tile.
+///
+/// # Errors
+/// `Device` if the database is for another device than the image. `NoTile` if `only` is given and there is no tile there. `Memory` if
+/// memory is out; it may come in place of any other answer.
+///
+/// # Example
+/// ```ignore
+/// use tile_bits::{TileXy, explain};
+///
+/// let all = explain(alloc, &db, &image, None)?;
+/// let one = explain(alloc, &db, &image, Some(TileXy { x: 1, y: 1 }))?;
+/// // the text of `one`:
+/// // .device 1k
+/// // .logic_tile 1 1
+/// // LC_0 1010101010101010 0000
+/// // buffer #0 lutff_0/in_0
+/// ```
 #[tactic(auto, unfolding(crate::specs::Explained::explained, crate::specs::Explained::explain_fault_of))]
 pub fn explain(
     alloc: Global,
@@ -133,7 +150,7 @@ fn nets_of(
     Ok(nets)
 }
 
-/// Appends the device.
+/// Appends the line of the device.
 #[tactic(auto, unfolding(text_lines::specs::Written::text_of))]
 fn append_device(text: &mut Vec<u8>, device: DeviceName) -> Result<(), AllocError>
     ensures { OnOk result (text.new.items ≡ text.old.items ++ text_of (with_word device_keyword (device_word device) ∷ [])) }
@@ -146,7 +163,7 @@ fn append_device(text: &mut Vec<u8>, device: DeviceName) -> Result<(), AllocErro
     Ok(())
 }
 
-/// What is known of all tiles: the cells of the database, the links that are on, and the names of their nets.
+/// What is known of all tiles: the logic cells of the database, the links that are on, and the names of their nets.
 #[derive(Drop)]
 pub(crate) struct Known {
     cells: Cells,
@@ -157,7 +174,7 @@ pub(crate) struct Known {
 
 ghost use Rattle.tile_bits.specs.Known.{IsKnown};
 
-/// Appends all tiles with a set bit, row of the grid by row of the grid.
+/// Appends all tiles with a set bit, row by row of the grid.
 #[tactic(auto, using(asc_text::proofs::Pieces::joined), unfolding(place_search::specs::Places::gathered_below))]
 fn append_tiles(
     text: &mut Vec<u8>,
@@ -177,7 +194,7 @@ fn append_tiles(
     Ok(())
 }
 
-/// Appends the tiles of a row of the grid that have a set bit.
+/// Appends the tiles of one row of the grid that have a set bit.
 #[tactic(auto, using(asc_text::proofs::Pieces::joined), unfolding(place_search::specs::Places::gathered_below))]
 fn append_grid_row(
     text: &mut Vec<u8>,
@@ -198,7 +215,7 @@ fn append_grid_row(
     Ok(())
 }
 
-/// Appends the tile at a place of the grid, where there is one with a set bit.
+/// Appends the tile at (x, y), if there is one and it has a set bit.
 fn append_place(
     text: &mut Vec<u8>,
     alloc: Global,
@@ -226,7 +243,7 @@ fn append_place(
     }
 }
 
-/// Appends a tile.
+/// Appends a tile, given what is known of all tiles.
 fn append_known(
     text: &mut Vec<u8>,
     alloc: Global,

@@ -1,4 +1,4 @@
-// The lines of the set bits that belong to no tile.
+// The lines of the set extra bits.
 ghost use Rattle.std.specs.Prelude.{◌≡◌, ◌++◌, ◌∷◌, cond, IfOk, OnOk, None, Some, map};
 ghost use Rattle.std.specs.BTreeMap.{get, is_at};
 ghost use Rattle.tile_bits.specs.declared.keys.PlaceKey.{PlaceKey as KeyOf};
@@ -17,7 +17,7 @@ use plane_map::Place;
 use std::alloc::{AllocError, Global};
 use std::collections::BTreeMap;
 
-/// Appends the set bits that belong to no tile, by bank, then by row, then by column, where there are some.
+/// Appends the set extra bits, by bank, then by row, then by column, if there are any.
 pub(crate) fn append_extras(
     text: &mut Vec<u8>,
     alloc: Global,
@@ -30,7 +30,7 @@ pub(crate) fn append_extras(
     append_places(text, alloc, db, &places)
 }
 
-/// Appends places, where there are some.
+/// Appends these places under their statement, if there are any.
 fn append_places(
     text: &mut Vec<u8>,
     alloc: Global,
@@ -65,7 +65,7 @@ fn append_each(
     Ok(())
 }
 
-/// Appends an extra bit by the first name of its place, or by the place.
+/// Appends an extra bit, by its first name or else by its place.
 fn append_extra(
     text: &mut Vec<u8>,
     db: &ChipDb,
@@ -105,7 +105,7 @@ fn first_extras(alloc: Global, extras: &[Extra]) -> Result<BTreeMap<PlaceKey, Ex
     Ok(firsts)
 }
 
-/// Puts an extra bit in front of those of its place.
+/// Puts an extra bit before the others of its place.
 fn put_first(firsts: &mut BTreeMap<PlaceKey, Extra>, extra: Extra) -> Result<(), AllocError>
     ensures { OnOk result ((key : KeyOf) → get place_cmp firsts.new key ≡ cond (is_at (place_cmp (place_key extra.at)) key) (Some extra) (get place_cmp firsts.old key)) }
 {

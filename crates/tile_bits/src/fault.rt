@@ -1,14 +1,14 @@
-// Why nothing is explained.
+// Why an image is not explained.
 ghost use Rattle.std.specs.Prelude.{◌≡◌};
 ghost use Rattle.tile_bits.specs.declared.fault.ExplainFault.TheVariants.{Memory};
 
 use std::alloc::AllocError;
 use thiserror::Error;
 
-/// Why nothing is explained.
+/// Why an image is not explained.
 #[derive(Clone, Copy, Debug, PartialEq, Eq, Error)]
 pub enum ExplainFault {
-    /// The database is that of another device than the image.
+    /// The database is for another device than the image.
     #[error("the database is that of another device")]
     Device,
     /// There is no tile at that column and row of the grid.

@@ -1,4 +1,4 @@
-// The functions that are on at a tile.
+// The functions that are on in a tile.
 ghost use Rattle.std.specs.Prelude.{◌≡◌, ◌++◌, ◌<◌, IfOk, OnOk, length, slice_get, Some};
 ghost use Rattle.ice_image.specs.Either.{configuration_of};
 ghost use Rattle.chipdb_reader.specs.Fit.{IsFunctionLine};
@@ -14,7 +14,7 @@ use ice_image::AnyImage;
 use net_extract::are_set;
 use std::alloc::{AllocError, Global};
 
-/// The places of the functions that are on at a tile and aren't cells.
+/// The indexes of the functions that are on in a tile and aren't logic cells.
 #[tactic(auto, using(crate::proofs::Gathered::gathering), unfolding(crate::specs::Items::on_functions, place_search::specs::Places::gathered_below))]
 pub(crate) fn functions_on(
     alloc: Global,
@@ -35,7 +35,7 @@ pub(crate) fn functions_on(
     Ok(places)
 }
 
-/// Whether a function by its place is on at a tile, and isn't a cell.
+/// Whether the function at an index is on in a tile and isn't a logic cell.
 fn is_other_on(
     db: &ChipDb,
     image: &AnyImage,

@@ -1,4 +1,4 @@
-// Keys of look-ups: places and tiles that have an order.
+// Keys for look-ups: places and tiles with an order.
 
 /// A place of the configuration planes.
 #[derive(Clone, Copy, Debug, PartialEq, Eq, PartialOrd, Ord)]

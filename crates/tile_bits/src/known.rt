@@ -1,4 +1,4 @@
-// The bits of a tile that something explains.
+// The bits of a tile that are explained.
 ghost use Rattle.std.specs.Prelude.{◌≡◌, ◌<◌, ◌||◌, All, length, slice_get};
 ghost use Rattle.std.specs.List.{list_any};
 ghost use Rattle.place_search.specs.Places.{any_below};
@@ -17,7 +17,7 @@ use bit_plane::Tile;
 use chipdb_reader::{ChipDb, LinkLine};
 use plane_map::{RowCol, TileKind};
 
-/// The bits of a tile's cells, of functions by their places, and those to which links by their places give the value 1.
+/// The bits of a tile's logic cells, of the functions at these indexes, and those that the links at these indexes need to be 1.
 pub(crate) fn known_bits(
     db: &ChipDb,
     kind: TileKind,
@@ -39,7 +39,7 @@ pub(crate) fn known_bits(
     known
 }
 
-/// The bits of a tile's cells.
+/// The bits of a tile's logic cells; none if it isn't a logic tile.
 fn cell_bits(db: &ChipDb, kind: TileKind, cells: Cells) -> Tile<54>
     requires { cells.places ≡ places_of_cells (database_in db.now).functions }
     ensures { Knows (is_in_cells kind (database_in db.now)) result }
@@ -50,7 +50,7 @@ fn cell_bits(db: &ChipDb, kind: TileKind, cells: Cells) -> Tile<54>
     }
 }
 
-/// The bits of all cells.
+/// The bits of all eight logic cells.
 fn all_cell_bits(db: &ChipDb, cells: Cells) -> Tile<54>
     requires { cells.places ≡ places_of_cells (database_in db.now).functions }
     ensures { Knows (λ row col. any_below 8 (λ i. list_any (is_bit row col) (cell_places (database_in db.now) i))) result }
@@ -62,7 +62,7 @@ fn all_cell_bits(db: &ChipDb, cells: Cells) -> Tile<54>
     known
 }
 
-/// Adds the bits of functions by their places.
+/// Adds the bits of the functions at these indexes.
 fn add_functions(known: &mut Tile<54>, db: &ChipDb, places: &[usize])
     requires { IsGrid 54 16 known.old }
     ensures { Adds (λ row col. list_any (λ place. is_in_function row col (slice_get (database_in db.now).functions place)) places.now) known.old known.new }
@@ -72,7 +72,7 @@ fn add_functions(known: &mut Tile<54>, db: &ChipDb, places: &[usize])
     }
 }
 
-/// Adds the bits of a function by its place.
+/// Adds the bits of the function at an index.
 fn add_function(known: &mut Tile<54>, db: &ChipDb, place: usize)
     requires { IsGrid 54 16 known.old }
     ensures { Adds (λ row col. is_in_function row col (slice_get (database_in db.now).functions place)) known.old known.new }
@@ -83,7 +83,7 @@ fn add_function(known: &mut Tile<54>, db: &ChipDb, place: usize)
     }
 }
 
-/// Adds bits of links by their places: those to which they give the value 1.
+/// Adds the bits that the links at these indexes need to be 1.
 fn add_links(known: &mut Tile<54>, db: &ChipDb, links: &[LinkLine], places: &[usize])
     requires grid { IsGrid 54 16 known.old }
     requires fit { All (IsLink db.now.chip) (link_lines db.now.bits links.now) }
@@ -94,7 +94,7 @@ fn add_links(known: &mut Tile<54>, db: &ChipDb, links: &[LinkLine], places: &[us
     }
 }
 
-/// Adds the bits to which a link by its place gives the value 1.
+/// Adds the bits that the link at an index needs to be 1.
 fn add_link(known: &mut Tile<54>, db: &ChipDb, links: &[LinkLine], place: usize)
     requires grid { IsGrid 54 16 known.old }
     requires fit { All (IsLink db.now.chip) (link_lines db.now.bits links.now) }
@@ -126,7 +126,7 @@ fn add_bit(known: &mut Tile<54>, bit: RowCol)
     known.set(usize::from(bit.row), usize::from(bit.col), true);
 }
 
-/// Adds those of the bits whose value is 1; the value of the first is the lowest bit.
+/// Adds those of the bits whose value is 1; the value of the first bit is the lowest bit of `values`.
 #[tactic(auto, unfolding(bit_plane::specs::BitList::word_bits))]
 fn add_ones(known: &mut Tile<54>, bits: &[RowCol], values: u64)
     requires grid { IsGrid 54 16 known.old }

@@ -1,6 +1,6 @@
 //! What the bits of a configuration mean, by the names of a chip database.
 //!
-//! [`active`] lists what the bits of one tile say; [`explain`] writes it as text, for all tiles or for one.
+//! [`active`] lists what the bits of one tile mean; [`explain`] writes this as text, for all tiles or for one.
 #![tactic(auto)]
 
 mod cells;

@@ -18,7 +18,7 @@ use net_extract::cell_name;
 use plane_map::TileKind;
 use std::alloc::AllocError;
 
-/// Appends a tile: its statement, and a line for each of the items.
+/// Appends a tile: its statement, and a line for each item.
 #[tactic(auto, using(asc_text::proofs::Pieces::joined))]
 pub(crate) fn append_tile(
     text: &mut Vec<u8>,
@@ -61,7 +61,7 @@ fn tile_keyword(kind: TileKind) -> &'static [u8]
     }
 }
 
-/// Appends what an item says.
+/// Appends the line of an item.
 fn append_item(
     text: &mut Vec<u8>,
     db: &ChipDb,
@@ -81,7 +81,7 @@ fn append_item(
     }
 }
 
-/// Appends a cell: its name, the entries of its LUT, entry 0 first, and its flags.
+/// Appends a logic cell: its name, the entries of its LUT, entry 0 first, and its flags.
 fn append_cell(text: &mut Vec<u8>, i: u8, lut: u16, flags: u8) -> Result<(), AllocError>
     ensures { OnOk result (text.new.items ≡ text.old.items ++ cell_line i lut flags) }
 {
@@ -119,7 +119,7 @@ fn character_of(bit: bool) -> u8
     if bit { b'1' } else { b'0' }
 }
 
-/// Appends the name of a function by its place.
+/// Appends the name of the function at an index.
 fn append_function(text: &mut Vec<u8>, db: &ChipDb, place: usize) -> Result<(), AllocError>
     ensures { OnOk result (text.new.items ≡ text.old.items ++ function_line (slice_get (database_in db.now).functions place)) }
 {
@@ -132,7 +132,7 @@ fn append_function(text: &mut Vec<u8>, db: &ChipDb, place: usize) -> Result<(), 
     }
 }
 
-/// Appends a buffer by its place.
+/// Appends the buffer at an index.
 fn append_buffer(
     text: &mut Vec<u8>,
     db: &ChipDb,
@@ -150,7 +150,7 @@ fn append_buffer(
     }
 }
 
-/// Appends a routing by its place.
+/// Appends the routing at an index.
 fn append_routing(
     text: &mut Vec<u8>,
     db: &ChipDb,
@@ -168,7 +168,7 @@ fn append_routing(
     }
 }
 
-/// Appends two nets, each behind a space.
+/// Appends two nets, each after a space.
 fn append_nets(
     text: &mut Vec<u8>,
     db: &ChipDb,
@@ -186,7 +186,7 @@ fn append_nets(
     append_net(text, db, nets, at, dst)
 }
 
-/// Appends a net by its first name in the tile, or by `#` and its number.
+/// Appends a net, by its first name in the tile or else by `#` and its number.
 #[tactic(auto, unfolding(crate::specs::Explained::net_text))]
 fn append_net(
     text: &mut Vec<u8>,

@@ -1,4 +1,4 @@
-// The links that are on, by their tiles.
+// The links that are on, sorted by tile.
 ghost use Rattle.std.specs.Prelude.{◌≡◌, ◌++◌, ◌∷◌, [], ◌<◌, ◌+◌, ◌*◌, All, IfOk, OnOk, get_or, length, replicate, set};
 ghost use Rattle.ice_image.specs.Either.{configuration_of};
 ghost use Rattle.chipdb_reader.specs.Fit.{IsLink};
@@ -13,7 +13,7 @@ use ice_image::AnyImage;
 use net_extract::is_link_on;
 use std::alloc::{AllocError, Global};
 
-/// The places of the links that are on at the tile at (x, y).
+/// The indexes of the links that are on in the tile at (x, y).
 #[tactic(auto, using(crate::proofs::Gathered::gathering), unfolding(crate::specs::Items::on_links, place_search::specs::Places::gathered_below))]
 pub(crate) fn links_in(
     alloc: Global,
@@ -35,7 +35,7 @@ pub(crate) fn links_in(
     Ok(places)
 }
 
-/// Whether a link is one of the tile at (x, y), and on.
+/// Whether a link is in the tile at (x, y), and on.
 fn is_on_at(db: &ChipDb, image: &AnyImage, link: LinkLine, x: u8, y: u8) -> bool
     requires device { db.now.chip.device ≡ (configuration_of image.now).layout.device }
     requires fit { IsLink db.now.chip (link_line db.now.bits link) }
@@ -44,14 +44,14 @@ fn is_on_at(db: &ChipDb, image: &AnyImage, link: LinkLine, x: u8, y: u8) -> bool
     link.x == x && link.y == y && is_link_on(db, image, link)
 }
 
-/// The places of the links that are on, in lists by their tiles.
+/// The indexes of the links that are on, in one list for each tile.
 #[derive(Drop)]
 pub(crate) struct LinksOn {
     pub(crate) lists: Vec<Vec<usize>>,
 }
 
 impl LinksOn {
-    /// The links of a list that are on.
+    /// Sorts the links of a list that are on by their tiles.
     #[tactic(auto, unfolding(crate::specs::Items::on_links))]
     pub(crate) fn of(
         alloc: Global,
@@ -70,7 +70,7 @@ impl LinksOn {
         Ok(LinksOn { lists })
     }
 
-    /// The places of those of the tile at (x, y).
+    /// The indexes of the links that are on in the tile at (x, y).
     pub(crate) fn at(&self, x: u8, y: u8) -> &[usize]
         ensures { result.now ≡ get_or (lists_of self.now.lists.items) (64 * y + x) [] }
     {
@@ -81,7 +81,7 @@ impl LinksOn {
     }
 }
 
-/// Lists for all tiles, without a place: 64 for each row of tiles, which are more than a device has.
+/// Empty lists for all tiles: 64 rows of 64 tiles, more than any device has.
 fn no_lists(alloc: Global) -> Result<Vec<Vec<usize>>, AllocError>
     ensures { IfOk result (λ lists. lists_of lists.items ≡ replicate 4096 []) }
 {
@@ -92,14 +92,14 @@ fn no_lists(alloc: Global) -> Result<Vec<Vec<usize>>, AllocError>
     Ok(lists)
 }
 
-/// The place of a tile among the lists.
+/// The index of a tile's list.
 fn place_of(x: u8, y: u8) -> usize
     ensures { result ≡ 64 * y + x }
 {
     64 * usize::from(y) + usize::from(x)
 }
 
-/// Adds the place of a link to the list of its tile, where it is on.
+/// Adds the index of a link to the list of its tile, if the link is on.
 fn add_if_on(
     lists: &mut Vec<Vec<usize>>,
     db: &ChipDb,
@@ -119,7 +119,7 @@ fn add_if_on(
     }
 }
 
-/// Adds a place to one of the lists.
+/// Adds an index to one of the lists.
 fn add(lists: &mut Vec<Vec<usize>>, at: usize, place: usize) -> Result<(), AllocError>
     requires { at < length lists.old.items }
     ensures { OnOk result (lists_of lists.new.items ≡ set (lists_of lists.old.items) at (get_or (lists_of lists.old.items) at [] ++ place ∷ [])) }

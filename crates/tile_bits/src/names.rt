@@ -1,4 +1,4 @@
-// Names of nets in tiles.
+// The names of nets in tiles.
 ghost use Rattle.std.specs.Prelude.{◌≡◌, ℕ, ◌==◌, ◌&&◌, cond, IfOk, OnOk, Some, find, position};
 ghost use Rattle.std.specs.Ordering.{nat_cmp};
 ghost use Rattle.std.specs.Option.{option_map};
@@ -18,16 +18,16 @@ use chipdb_reader::{ChipDb, LinkLine, NetName};
 use std::alloc::{AllocError, Global};
 use std::collections::BTreeMap;
 
-/// A net with more names than these is looked up by tiles.
+/// A net with more names than this gets an index of its names by tile.
 const FEW: usize = 64;
 
-/// The first name in each tile, of some of the nets.
+/// For some of the nets, the first name in each tile.
 #[derive(Drop)]
 pub(crate) struct NetNames {
     nets: BTreeMap<u32, BTreeMap<TileKey, NetName>>,
 }
 
-/// The names of no nets.
+/// No nets yet.
 pub(crate) fn no_nets(alloc: Global) -> NetNames
     ensures { (kept : Kept) → FindsNets kept result.nets }
 {
@@ -36,7 +36,7 @@ pub(crate) fn no_nets(alloc: Global) -> NetNames
     }
 }
 
-/// Adds the nets of links in lists by their places, where they have many names.
+/// Adds the nets of the links at the indexes in these lists, if they have many names.
 pub(crate) fn add_lists(
     nets: &mut NetNames,
     alloc: Global,
@@ -53,7 +53,7 @@ pub(crate) fn add_lists(
     Ok(())
 }
 
-/// Adds the nets of links by their places, where they have many names.
+/// Adds the nets of the links at these indexes, if they have many names.
 fn add_places(
     nets: &mut NetNames,
     alloc: Global,
@@ -70,7 +70,7 @@ fn add_places(
     Ok(())
 }
 
-/// Adds the nets of the items of a tile, where they have many names.
+/// Adds the nets of a tile's items, if they have many names.
 pub(crate) fn add_items(
     nets: &mut NetNames,
     alloc: Global,
@@ -86,7 +86,7 @@ pub(crate) fn add_items(
     Ok(())
 }
 
-/// The link that an item of a tile is.
+/// The link that an item stands for, if it is one.
 fn link_of(db: &ChipDb, item: Active) -> Option<LinkLine> {
     match item {
         Active::Buffer { index } => link_at(db.buffers(), index),
@@ -95,7 +95,7 @@ fn link_of(db: &ChipDb, item: Active) -> Option<LinkLine> {
     }
 }
 
-/// Adds both nets of a link, where they have many names.
+/// Adds both nets of a link, if they have many names.
 fn add_link(
     nets: &mut NetNames,
     alloc: Global,
@@ -114,7 +114,7 @@ fn add_link(
     }
 }
 
-/// Adds a net, where it has many names and isn't there yet.
+/// Adds a net, if it has many names and isn't there yet.
 fn add_net(nets: &mut NetNames, alloc: Global, db: &ChipDb, net: u32) -> Result<(), AllocError>
     requires { FindsNets db.now nets.old.nets }
     ensures { OnOk result (FindsNets db.now nets.new.nets) }
@@ -130,7 +130,7 @@ fn add_net(nets: &mut NetNames, alloc: Global, db: &ChipDb, net: u32) -> Result<
     put_net(&mut nets.nets, net, firsts)
 }
 
-/// Puts a net.
+/// Adds a net with its names.
 fn put_net(
     nets: &mut BTreeMap<u32, BTreeMap<TileKey, NetName>>,
     net: u32,
@@ -144,7 +144,7 @@ fn put_net(
     }
 }
 
-/// The first of some names in each tile.
+/// The first of these names in each tile.
 fn first_names(alloc: Global, names: &[NetName]) -> Result<BTreeMap<TileKey, NetName>, AllocError>
     ensures { IfOk result (λ firsts. FindsNames firsts names.now) }
 {
@@ -155,7 +155,7 @@ fn first_names(alloc: Global, names: &[NetName]) -> Result<BTreeMap<TileKey, Net
     Ok(firsts)
 }
 
-/// Puts a name in front of those in its tile.
+/// Puts a name before the others in its tile.
 fn put_first(firsts: &mut BTreeMap<TileKey, NetName>, name: NetName) -> Result<(), AllocError>
     ensures { OnOk result ((key : KeyOf) → get tile_cmp firsts.new key ≡ cond (is_key_at (tile_cmp (tile_key name.x name.y)) key) (Some name) (get tile_cmp firsts.old key)) }
 {
@@ -180,7 +180,7 @@ pub(crate) fn name_at<'a>(db: &'a ChipDb, nets: &NetNames, at: TileAt, net: u32)
     }
 }
 
-/// The name that is the first in a tile.
+/// The first name in a tile, for a net with an index of its names.
 fn indexed_name<'a>(
     db: &'a ChipDb,
     firsts: &BTreeMap<TileKey, NetName>,
@@ -194,7 +194,7 @@ fn indexed_name<'a>(
     }
 }
 
-/// The first name in a tile.
+/// The first name in a tile, by such an index.
 fn first_in(firsts: &BTreeMap<TileKey, NetName>, at: TileAt) -> Option<NetName>
     ensures { result ≡ get tile_cmp firsts.now (tile_key at.x at.y) }
 {
@@ -202,7 +202,7 @@ fn first_in(firsts: &BTreeMap<TileKey, NetName>, at: TileAt) -> Option<NetName>
     firsts.get(&key).copied()
 }
 
-/// The first name of a net in a tile, searched among all of its names.
+/// The first name of a net in a tile, searched for among all of its names.
 fn searched_name<'a>(db: &'a ChipDb, at: TileAt, net: u32) -> Option<&'a [u8]>
     ensures { option_map (λ name. name.now) result ≡ option_map (λ line. line.name) (find (is_at at.x at.y) (names_of_net net (database_in db.now).names)) }
 {
@@ -213,7 +213,7 @@ fn searched_name<'a>(db: &'a ChipDb, at: TileAt, net: u32) -> Option<&'a [u8]>
     }
 }
 
-/// The place of the first of some names that is one in a tile.
+/// The index of the first of these names that is in a tile.
 fn first_at(names: &[NetName], at: TileAt) -> Option<usize>
     ensures { result ≡ position (λ name. (name.x == at.x) && (name.y == at.y)) names.now }
 {

@@ -1,4 +1,4 @@
-// A bit of a tile, and functions and links at places of their lists.
+// A bit of a tile, and functions and links by their indexes.
 ghost use Rattle.std.specs.Prelude.{◌≡◌, slice_get};
 ghost use Rattle.plane_map.specs.Layout.{columns_of};
 ghost use Rattle.ice_image.specs.Bits.{tile_bit_of};
@@ -25,7 +25,7 @@ pub(crate) fn tile_bit(image: &AnyImage, at: TileAt, bit: RowCol) -> bool
     })
 }
 
-/// The function at a place of a list.
+/// The function at an index of a list.
 pub(crate) fn function_at(functions: &[Function], place: usize) -> Option<Function>
     ensures { result ≡ slice_get functions.now place }
 {
@@ -36,7 +36,7 @@ pub(crate) fn function_at(functions: &[Function], place: usize) -> Option<Functi
     }
 }
 
-/// The link at a place of a list.
+/// The link at an index of a list.
 pub(crate) fn link_at(links: &[LinkLine], place: usize) -> Option<LinkLine>
     ensures { result ≡ slice_get links.now place }
 {

@@ -1,4 +1,4 @@
-// A tile, and what its bits say, part by part.
+// What the bits of a tile mean, part by part.
 ghost use Rattle.std.specs.Prelude.{◌≡◌, ◌++◌, ◌∷◌, [], if◌then◌else◌, map, IfOk, OnOk};
 ghost use Rattle.ice_image.specs.Either.{configuration_of};
 ghost use Rattle.chipdb_reader.specs.Kept.{database_in};
@@ -17,7 +17,7 @@ use ice_image::AnyImage;
 use plane_map::{TileKind, kind_on};
 use std::alloc::{AllocError, Global};
 
-/// A tile of a kind at a place of the grid.
+/// A tile: its kind, and its place in the grid.
 #[derive(Clone, Copy, Debug, PartialEq, Eq)]
 pub(crate) struct TileAt {
     pub(crate) kind: TileKind,
@@ -25,9 +25,12 @@ pub(crate) struct TileAt {
     pub(crate) y: u8,
 }
 
-/// What the bits of the tile at (x, y) say: its cells that have a set bit, its other functions that are on, its buffers and
-/// its routings that are on, each in the order of the database, and its other set bits by row, then by column. The database
-/// is that of the image's device. Where there is no tile nothing is said.
+/// What the bits of the tile at (x, y) mean: its logic cells that have a set bit, then its other functions, its buffers and its routings
+/// that are on, each in the order of the database, and at last its other set bits by row and column. Empty if there is no tile. The
+/// database must be for the image's device.
+///
+/// # Errors
+/// `AllocError` if memory is out, and for no other cause.
 #[tactic(auto, unfolding(crate::specs::Items::items_at))]
 pub fn active(
     alloc: Global,
@@ -51,7 +54,7 @@ pub fn active(
     }
 }
 
-/// What the bits of a tile say, by the places of the buffers and of the routings that are on there.
+/// What the bits of a tile mean, given the indexes of the buffers and routings that are on there.
 pub(crate) fn items_of_tile(
     alloc: Global,
     db: &ChipDb,
@@ -79,7 +82,7 @@ pub(crate) fn items_of_tile(
     Ok(items)
 }
 
-/// Adds a place where a test passes.
+/// Adds an index, if a test passes.
 pub(crate) fn push_where(
     places: &mut Vec<usize>,
     passes: bool,
@@ -93,7 +96,7 @@ pub(crate) fn push_where(
     Ok(())
 }
 
-/// Adds functions by their places.
+/// Adds the functions at these indexes.
 fn push_functions(items: &mut Vec<Active>, places: &[usize]) -> Result<(), AllocError>
     ensures { OnOk result (items.new.items ≡ items.old.items ++ map Active.Function places.now) }
 {
@@ -103,7 +106,7 @@ fn push_functions(items: &mut Vec<Active>, places: &[usize]) -> Result<(), Alloc
     Ok(())
 }
 
-/// Adds buffers by their places.
+/// Adds the buffers at these indexes.
 fn push_buffers(items: &mut Vec<Active>, places: &[usize]) -> Result<(), AllocError>
     ensures { OnOk result (items.new.items ≡ items.old.items ++ map Active.Buffer places.now) }
 {
@@ -113,7 +116,7 @@ fn push_buffers(items: &mut Vec<Active>, places: &[usize]) -> Result<(), AllocEr
     Ok(())
 }
 
-/// Adds routings by their places.
+/// Adds the routings at these indexes.
 fn push_routings(items: &mut Vec<Active>, places: &[usize]) -> Result<(), AllocError>
     ensures { OnOk result (items.new.items ≡ items.old.items ++ map Active.Routing places.now) }
 {

@@ -53,7 +53,7 @@ fn push_unknown_of_row(
     Ok(())
 }
 
-/// Adds a bit where it is unknown.
+/// Adds a bit, if it is unknown.
 fn push_bit(items: &mut Vec<Active>, is_unknown: bool, row: u8, col: u8) -> Result<(), AllocError>
     ensures { OnOk result (items.new.items ≡ items.old.items ++ (if is_unknown then Active.Unknown row col ∷ [] else [])) }
 {

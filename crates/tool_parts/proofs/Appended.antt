@@ -24,7 +24,7 @@ module _ (P : List (List ℕ) → List ℕ → Type 0) where
         (made.3.0, made.3.1, gives made.3.0 made.0 made.3.2),
       )
 
-  -- the same for another task that is this one
+  -- and so does a task that is equal to it
   pub helped-kept : {F I O E : Type 0} (by : Outside F I O E) (task other : Task) (status : ℕ) (old new : Scene F I O E) → task ≡ other → Gives P task → task.target ≡ None
       → Does by other status old new → status ≡ 0
       → AppendsFor by P other old new

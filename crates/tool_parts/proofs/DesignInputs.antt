@@ -1,4 +1,4 @@
--- A chip database and an image that came in pieces, and what a tool answers of them.
+-- A chip database and an image that came in pieces, and the answer of a tool for them.
 use Rattle.std.proofs.Common.{◌≡◌, ◌∷◌, [], ◌++◌, Bool, true, false, ℕ, List, refl, sym, ap, subst}
 use Rattle.std.specs.Prelude.{get_or, Result, Ok}
 use Rattle.layout_file.specs.declared.layouts.Layouts.{Layouts}
@@ -59,7 +59,7 @@ module _ (answer : Database → Configuration → Answer) where
   pub both-read : (read : Result Database (List ℕ)) (image : Result Configuration (List ℕ)) (db : Database) (config : Configuration) → read ≡ Ok db → image ≡ Ok config → answer_of_both read image answer ≡ answer db config
   both-read read image db config is configures = rw (is, configures) refl
 
-  -- the texts behind the layout file are the database and the image
+  -- the texts after the layout file are the database and the image
   pub input_behind : (named : Bool) (texts : List (List ℕ)) (layouts : Layouts) → layouts_for named texts ≡ Ok layouts
       → input_answer named answer texts ≡ answer_to_both answer (get_or (texts_behind named texts) 0 []) (get_or (texts_behind named texts) 1 []) layouts
   input_behind false texts layouts is = ap (λ (read : Result Layouts (List ℕ)). answer_under read (answer_to_both answer (get_or texts 0 []) (get_or texts 1 []))) is

@@ -8,7 +8,7 @@ pub mod Appended
 pub mod UnderLayouts
 -- What holds of a database that is read
 pub mod Databases
--- Texts that come in pieces behind the layout file
+-- Texts that come in pieces after the layout file
 mod Takings
--- A chip database and an image that came in pieces, and what a tool answers of them
+-- A chip database and an image that came in pieces, and the answer of a tool for them
 mod DesignInputs

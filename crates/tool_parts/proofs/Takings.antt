@@ -1,4 +1,4 @@
--- Texts that come in pieces, behind the layout file where one is named: one text more, and the layouts of the file.
+-- Texts that come in pieces, after the layout file if one is named: one more text, and the layouts of the file.
 use Rattle.std.proofs.Common.{◌≡◌, ◌⊎◌, ◌∷◌, [], ◌++◌, Bool, true, false, ℕ, List, length, refl, sym, ap, subst, inl, inr, arith, ◌∙◌}
 use Rattle.std.specs.Prelude.{Result, Ok}
 use Rattle.layout_file.specs.declared.layouts.Layouts.{Layouts}
@@ -11,7 +11,7 @@ use Rattle.tool_parts.specs.Taking.{HasLayout, IsTaking, texts_behind}
 use Rattle.tool_parts.specs.declared.taking.Taking.TheVariants.{Stopped, Texts}
 use Rattle.tool_parts.proofs.UnderLayouts.{stops_under}
 
--- with one text more, the layout file is still there
+-- with one more text, the layout file is still there
 HasLayout-more : (named : Bool) (texts : List (List ℕ)) (bytes : List ℕ) → HasLayout named texts → HasLayout named (texts ++ bytes ∷ [])
 HasLayout-more false texts bytes has = omega arith
 HasLayout-more true [] bytes has = absurd (omega (arith, has))
@@ -34,7 +34,7 @@ stops_reading read answer stop (inl lacks) = rw lacks tt
 stops_reading read answer stop (inr stops) = stops_under read answer stop stops
 
 module _ {T : Type 0} (takes : Layouts → List (List ℕ) → T → List ℕ → Type 0) where
-  -- a text behind the layout file has ended
+  -- a text after the layout file has ended
   pub closed-texts : (named : Bool) (texts : List (List ℕ)) (bytes : List ℕ) (old new : T)
       → ((layouts : Layouts) (all : List (List ℕ)) (open_bytes : List ℕ) → takes layouts all old open_bytes → takes layouts (all ++ open_bytes ∷ []) new [])
       → IsTaking takes named texts bytes (Texts old) → IsTaking takes named (texts ++ bytes ∷ []) [] (Texts new)
@@ -45,7 +45,7 @@ module _ {T : Type 0} (takes : Layouts → List (List ℕ) → T → List ℕ �
     subst (λ (all : List (List ℕ)). takes taking.0 all new []) (sym (texts_behind-more named texts bytes taking.1)) (closed taking.0 (texts_behind named texts) bytes taking.3),
   )
 
-  -- where it is refused, so is what is behind it
+  -- if it is refused, so is what comes after it
   pub closed-stopped : (named : Bool) (texts : List (List ℕ)) (bytes : List ℕ) (stop : Stop) → IsTaking takes named texts bytes (Stopped stop) → IsTaking takes named (texts ++ bytes ∷ []) [] (Stopped stop)
   closed-stopped named texts bytes stop taking = (
     HasLayout-more named texts bytes taking.0,
@@ -65,7 +65,7 @@ module _ {T : Type 0} (takes : Layouts → List (List ℕ) → T → List ℕ �
   begun-stopped true [] bytes stop is none stops = (omega arith, stops)
   begun-stopped true (text ∷ texts) bytes stop is none stops = absurd cc
 
-  -- the layout file is missing, and read as one that is empty
+  -- the layout file never came, and is read as an empty one
   pub missing-texts : (named : Bool) (texts : List (List ℕ)) (taker : T) → named ≡ true → texts ≡ [] → (layouts : Layouts) × (layouts_read [] ≡ Ok layouts) × takes layouts [] taker []
       → (layouts : Layouts) × (layouts_for named texts ≡ Ok layouts) × takes layouts (texts_behind named texts) taker []
   missing-texts false texts taker is none begun = absurd cc

@@ -27,7 +27,7 @@ pub named-is : (layout : Option (Bor (List ℕ))) → is_some layout ≡ is_some
 named-is None = refl
 named-is (Some file) = refl
 
--- the load of a layout file, where one is named
+-- the load of a layout file, if one is named
 abbrev pub layout_load : Option (Bor (List ℕ)) → Load
 layout_load layout = record { name = layout; limit = layout_limit }
 
@@ -45,7 +45,7 @@ one-sound need small = record { last = λ k lt. absurd (omega (arith, lt)); limi
     below zero d lt = small
     below (suc k) d lt = absurd (omega arith)
 
--- and so are needs behind a file
+-- and so are needs after a file
 pub file-sound : (file : Text) (limit : ℕ) (needs : List Need) → limit < 2 ^ 32 → IsSound needs → IsSound (record { name = Some file; limit = limit } ∷ needs)
 file-sound file limit needs small sound = record { last = λ k lt. file_at k lt; limits = λ k d lt. below k d lt }
   where

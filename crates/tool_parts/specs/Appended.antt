@@ -5,8 +5,8 @@ use Rattle.tool_run.specs.Loads.{AreTextsOf}
 use Rattle.tool_run.specs.Runs.{Outside, Scene}
 use Rattle.tool_run.specs.Tasks.{Task}
 
--- Bytes were appended to standard output for which P holds, with texts that the needs of a task may have: one for each, within its limit,
--- and the ones that are told where files and input tell them.
+-- Bytes were appended to standard output, and P holds of them and of texts that the task may have read: one for each need, within its
+-- limit. Where files and standard input tell their contents, the texts are these.
 abbrev pub AppendsFor : {F I O E : Type 0} → Outside F I O E → (List (List ℕ) → List ℕ → Type 0) → Task → Scene F I O E → Scene F I O E → Type 0
 AppendsFor by P task old new =
     (bytes : List ℕ) × Appends (by.held old.output) (by.held new.output) bytes

@@ -1,4 +1,4 @@
--- Command lines as `clap` states what it takes of them.
+-- Command lines, in terms of what `clap` states that it takes.
 use Rattle.std.specs.Prelude.{◌==◌, ℕ, Bool, true, false, List, [], ◌∷◌, Option, Some, None, codes, length, unwrap_or, Vec, String, map, string_bytes}
 use Rattle.std.specs.declared.alloc.Global.{Global}
 use Rattle.std.specs.Str.{bytes_eq}
@@ -27,7 +27,7 @@ short_option id short = record (new_rule id) { short = Some short; action = Some
 abbrev pub long_option : Text → Rule
 long_option id = record (new_rule id) { long = Some id; action = Some Set }
 
--- `[VALUE]`, and a value that has to be there
+-- `[VALUE]`, and a value that must be there
 abbrev pub positional : Text → Rule
 positional id = record (new_rule id) { action = Some Set }
 
@@ -38,7 +38,7 @@ required id = record (new_rule id) { action = Some Set; required = true }
 abbrev pub several : Text → Rule
 several id = record (new_rule id) { action = Some Append }
 
--- a command of a name with these arguments
+-- the command of this name with these arguments
 abbrev pub with_rules : App → List Rule → App
 with_rules app [] = app
 with_rules app (rule ∷ rules) = with_rules (with_rule app rule) rules
@@ -48,7 +48,7 @@ command name rules = with_rules (new_app name) rules
 
 -- ---- what a command finds in the arguments
 
--- no kind of fault is found in the arguments
+-- the arguments are taken: `clap` finds no fault in them
 abbrev pub is_taken : App → List Text → Bool
 is_taken app args = length (fault_of app args) == 0
 
@@ -60,6 +60,6 @@ is_true (Some text) = bytes_eq text (codes "true")
 abbrev pub has_flag : Text → List Row → Bool
 has_flag id rows = is_true (first_of id rows)
 
--- the values of an argument that may come several times, and none where there is none
+-- the values of an argument that may come several times; an empty list if there is no value
 abbrev pub values_of : Text → List Row → List Text
 values_of id rows = unwrap_or (all_of id rows) []

@@ -10,11 +10,11 @@ use Rattle.tool_run.specs.declared.tool.Stop.{Stop}
 use Rattle.tool_run.specs.declared.tool.Stop.TheVariants.{Refused, UsageError, Memory}
 use Rattle.tool_parts.specs.Faults.{db_fault_text}
 
--- the most bytes of a database
+-- the most bytes that a database may have
 abbrev pub database_limit : ℕ
 database_limit = 268435456
 
--- what lines give, where there is a device; each text without a fault has one
+-- the database that these lines give, if they name a device; each text without a fault names one
 abbrev pub database_with : List (List ℕ) → Option Chip → Result Database (List ℕ)
 database_with lines None = Err []
 database_with lines (Some chip) = Ok (database_of chip lines)
@@ -23,11 +23,11 @@ abbrev pub database_by : List (List ℕ) → Option Fault → Result Database (L
 database_by lines (Some fault) = Err (db_fault_text fault.line fault.cause)
 database_by lines None = database_with lines (chip_before lines (length lines))
 
--- what a text means, or the text of its fault
+-- the database that a text means, or the message for its first fault
 unfoldable pub database_read : List ℕ → Result Database (List ℕ)
 database_read bytes = database_by (lines_of bytes) (db_fault_of bytes)
 
--- where no database is read, its fault is told
+-- if no database is read, a refusal has the message for its fault, and out of memory is free
 abbrev pub StopsDatabase : Result Database (List ℕ) → Stop → Type 0
 StopsDatabase read (Refused refusal) = read ≡ Err (refusal_text refusal)
 StopsDatabase read (UsageError refusal) = ⊥

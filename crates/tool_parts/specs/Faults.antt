@@ -1,4 +1,4 @@
--- What is said of a fault of what tools read: a text, a bitstream, a database.
+-- The messages for faults of what tools read: a text, a bitstream, a database.
 use Rattle.std.specs.Prelude.{ℕ, List, [], ◌++◌, codes, decimal, Option, None, Some}
 use Rattle.plane_map.specs.declared.tile.TileKind.{TileKind}
 use Rattle.plane_map.specs.declared.tile.TileKind.TheVariants.{Io, Logic, RamB, RamT}
@@ -19,7 +19,7 @@ kind_name Logic = codes "logic"
 kind_name RamB = codes "ramb"
 kind_name RamT = codes "ramt"
 
--- what is wrong with a line, and the kind of tile that is expected where another is named
+-- what is wrong with a line; if it names another kind of tile than that at its place, also the expected kind
 abbrev pub asc_cause_text : AscCause → List ℕ
 asc_cause_text Statement = codes "Statement"
 asc_cause_text NoDevice = codes "NoDevice"
@@ -34,7 +34,7 @@ asc_cause_text Setting = codes "Setting"
 asc_cause_text StrayData = codes "StrayData"
 asc_cause_text CommentByte = codes "CommentByte"
 
--- the tile of a line, where it has one
+-- the tile that a line belongs to, if it belongs to one
 abbrev pub tile_text : Option TileXy → List ℕ
 tile_text None = []
 tile_text (Some tile) = codes "tile " ++ decimal tile.x ++ codes " " ++ decimal tile.y ++ codes ": "
@@ -44,7 +44,7 @@ asc_fault_text line tile cause = codes "line " ++ decimal line ++ codes ": " ++ 
 
 -- ---- a fault of a bitstream
 
--- what is wrong with it; the value that a check found is written behind
+-- what is wrong with a bitstream; for a wrong CRC, the value that was found is written after it
 abbrev pub bin_cause_text : BinCause → List ℕ
 bin_cause_text NoPreamble = codes "NoPreamble"
 bin_cause_text Truncated = codes "Truncated"

@@ -13,16 +13,16 @@ use Rattle.tool_run.specs.Tasks.{Answer, Refused as Refuses}
 use Rattle.tool_run.specs.declared.tool.Stop.{Stop}
 use Rattle.tool_run.specs.declared.tool.Stop.TheVariants.{Refused, UsageError, Memory}
 
--- the most bytes of a layout file
+-- the most bytes that a layout file may have
 abbrev pub layout_limit : ℕ
 layout_limit = 65536
 
--- the layout file, where one is named, is loaded before what else is needed
+-- the needs with the layout file before them, if one is named
 abbrev pub with_layout : Option Text → List Need → List Need
 with_layout None needs = needs
 with_layout (Some file) needs = record { name = Some file; limit = layout_limit } ∷ needs
 
--- the index of a load, given its index without the layout file
+-- the index of a load, by its index without the layout file
 abbrev pub behind_layout : Bool → ℕ → ℕ
 behind_layout named place = if named then place + 1 else place
 
@@ -45,17 +45,17 @@ layouts_with layouts (Some fault) = Err (layout_fault_text fault)
 unfoldable pub layouts_read : List ℕ → Result Layouts (List ℕ)
 layouts_read bytes = layouts_with (layouts_in bytes) (layout_fault_of bytes)
 
--- the layouts for a tool: those of the file that it loaded first where one is named, and else the standard ones
+-- the layouts for a tool: those of the layout file, which it loaded first, if one is named, and else the standard layouts
 abbrev pub layouts_for : Bool → List (List ℕ) → Result Layouts (List ℕ)
 layouts_for false texts = Ok standard_layouts
 layouts_for true texts = layouts_read (get_or texts 0 [])
 
--- what a tool answers under layouts; a faulty layout file is refused before anything else is read
+-- the answer of a tool under layouts; a faulty layout file is refused before anything else is read
 abbrev pub answer_under : Result Layouts (List ℕ) → (Layouts → Answer) → Answer
 answer_under (Ok layouts) answer = answer layouts
 answer_under (Err text) answer = Refuses text
 
--- where no layouts are read, the message is that of the file's fault
+-- if no layouts are read, the tool refuses with the message for the file's fault, and stops for no other cause
 abbrev pub StopsLayouts : Result Layouts (List ℕ) → Stop → Type 0
 StopsLayouts read (Refused refusal) = read ≡ Err (refusal_text refusal)
 StopsLayouts read (UsageError refusal) = ⊥

@@ -1,4 +1,4 @@
--- Texts that come in pieces, behind the layout file where one is named.
+-- Texts that come in pieces, after the layout file if one is named.
 use Rattle.std.specs.Prelude.{◌≡◌, ℕ, ◌≤◌, Bool, true, false, List, [], drop, length, if◌then◌else◌, Ok}
 use Rattle.layout_file.specs.declared.layouts.Layouts.{Layouts}
 use Rattle.tool_run.specs.Collected.{Collects}
@@ -7,22 +7,22 @@ use Rattle.tool_parts.specs.Reading.{StopsReading}
 use Rattle.tool_parts.specs.declared.taking.Taking.{Taking}
 use Rattle.tool_parts.specs.declared.taking.Taking.TheVariants.{Layout, Texts, Stopped}
 
--- the texts behind the layout file
+-- the texts after the layout file
 abbrev pub texts_behind : Bool → List (List ℕ) → List (List ℕ)
 texts_behind false texts = texts
 texts_behind true texts = drop 1 texts
 
--- the layout file is among the texts, where it is named
+-- the layout file is among the texts, if it is named
 abbrev pub HasLayout : Bool → List (List ℕ) → Type 0
 HasLayout named texts = (if named then 1 else 0) ≤ length texts
 
--- how many bytes of the next text count
+-- how many bytes of the next text count towards its limit
 abbrev pub fed_of : {T : Type 0} → (T → ℕ) → Taking T → ℕ
 fed_of fed (Layout file) = 0
 fed_of fed (Texts taker) = fed taker
 fed_of fed (Stopped stop) = 0
 
--- these texts were taken whole, and these bytes of the next: of the layout file, or behind it, or it is refused
+-- these whole texts were taken, and these bytes of the next one. That is the layout file, or a text after it; or the layout file is refused
 abbrev pub IsTaking : {T : Type 0} → (Layouts → List (List ℕ) → T → List ℕ → Type 0) → Bool → List (List ℕ) → List ℕ → Taking T → Type 0
 IsTaking takes named texts bytes (Layout file) = (named ≡ true) × (texts ≡ []) × Collects bytes file
 IsTaking takes named texts bytes (Texts taker) =

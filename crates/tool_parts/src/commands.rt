@@ -1,4 +1,4 @@
-// Command lines by `clap`, taken exactly where its statement of a simple command takes them.
+// Command lines by `clap`. They are taken exactly if `clap`'s statement of a simple command says so.
 ghost use Rattle.std.specs.Prelude.{◌≡◌, false, map, true, IfOk, IfSome, is_some, option_map, string_bytes};
 ghost use Rattle.clap.specs.Words.{App, Rule, all_of, app_of, first_of, found_of, is_simple_and_free, matches_of, rule_of, rows_of, with_rule};
 ghost use Rattle.tool_run.specs.Needs.{text_of};
@@ -40,7 +40,7 @@ pub fn long_option<'a>(alloc: Global, id: &'a str) -> Arg<'a>
     Arg::new(alloc, id).long(id).action(ArgAction::Set)
 }
 
-/// A value by its place that may be left out.
+/// A value without an option letter or name, found by its position. It may be left out.
 pub fn positional<'a>(alloc: Global, id: &'a str) -> Arg<'a>
     ensures rule { rule_of result ≡ positional id.entry.now }
     ensures local { result.global ≡ false }
@@ -48,7 +48,7 @@ pub fn positional<'a>(alloc: Global, id: &'a str) -> Arg<'a>
     Arg::new(alloc, id).action(ArgAction::Set)
 }
 
-/// A value by its place that has to be there.
+/// A value without an option letter or name, found by its position. It must be there.
 pub fn required<'a>(alloc: Global, id: &'a str) -> Arg<'a>
     ensures rule { rule_of result ≡ required id.entry.now }
     ensures local { result.global ≡ false }
@@ -56,7 +56,7 @@ pub fn required<'a>(alloc: Global, id: &'a str) -> Arg<'a>
     Arg::new(alloc, id).action(ArgAction::Set).required(true)
 }
 
-/// Any number of values.
+/// Any number of values, found by their position.
 pub fn several<'a>(alloc: Global, id: &'a str) -> Arg<'a>
     ensures rule { rule_of result ≡ several id.entry.now }
     ensures local { result.global ≡ false }
@@ -64,7 +64,10 @@ pub fn several<'a>(alloc: Global, id: &'a str) -> Arg<'a>
     Arg::new(alloc, id).action(ArgAction::Append)
 }
 
-/// The command with one argument more, as its last.
+/// The command with one more argument, as its last.
+///
+/// # Errors
+/// `AllocError` if memory is out, and for no other cause.
 pub fn with<'a>(command: Command<'a>, arg: Arg<'a>) -> Result<Command<'a>, AllocError>
     requires { arg.global ≡ false }
     ensures { IfOk result (λ c. (app : App) (rule : Rule) → app_of command.entry ≡ app → rule_of arg.entry ≡ rule → app_of c ≡ with_rule app rule) }
@@ -72,7 +75,10 @@ pub fn with<'a>(command: Command<'a>, arg: Arg<'a>) -> Result<Command<'a>, Alloc
     command.arg(arg)
 }
 
-/// What the command finds in the arguments, the first of which is the tool's name: nothing where it doesn't take them.
+/// What the command finds in the arguments, the first of which is the tool's name. `None` if it doesn't take them.
+///
+/// # Errors
+/// `AllocError` if memory is out, and for no other cause. Wrong arguments are no error here, but `None`.
 pub fn parse<'a>(
     command: Command<'a>,
     args: &'a [String],
@@ -90,7 +96,7 @@ pub fn parse<'a>(
     }
 }
 
-/// Whether a flag was found.
+/// Whether the flag with this id was found.
 pub fn has_flag(matches: &ArgMatches<'_>, id: &str) -> bool
     ensures { result ≡ has_flag id.now (rows_of (found_of matches.now)) }
 {
@@ -100,14 +106,14 @@ pub fn has_flag(matches: &ArgMatches<'_>, id: &str) -> bool
     }
 }
 
-/// The value of an argument.
+/// The value of the argument with this id, if it was found.
 pub fn value<'a>(matches: &ArgMatches<'a>, id: &str) -> Option<&'a str>
     ensures { text_of result ≡ first_of id.now (rows_of (found_of matches.now)) }
 {
     matches.get_str(id)
 }
 
-/// The values of an argument that may come several times, where there is one.
+/// The values of an argument that may come several times. `None` if there is no value.
 pub fn values<'m, 'a>(matches: &'m ArgMatches<'a>, id: &str) -> Option<&'m [&'a str]>
     ensures { option_map (λ texts. map (λ text. text.now) texts.now) result ≡ all_of id.now (rows_of (found_of matches.now)) }
 {

@@ -1,4 +1,4 @@
-// A chip database from its text.
+// A chip database, read from its text.
 ghost use Rattle.std.specs.Prelude.{◌≡◌, ℕ, List, Ok, IfOk, IfErr};
 ghost use Rattle.chipdb_reader.specs.Feeding.{StandsFor};
 ghost use Rattle.chipdb_reader.specs.Kept.{database_in};
@@ -9,16 +9,20 @@ use chipdb_reader::{ChipDb, DbFault, DbReader, read};
 use std::alloc::Global;
 use tool_run::Stop;
 
-/// The most bytes of a database.
+/// The most bytes that a database may have.
 pub const DB_LIMIT: usize = 268_435_456;
 
-/// A database from its text, or what is told of its first fault.
+/// Reads a database from its text.
+///
+/// # Errors
+/// `Stop::Refused` with the line and the cause of the first fault, as `database line N: CAUSE`. `Stop::Memory` if memory is out, or if the
+/// text has more than `DB_LIMIT` bytes (no tool loads such a text).
 #[tactic(auto, unfolding(crate::specs::Databases::database_read))]
 pub fn read_database(alloc: Global, bytes: &[u8]) -> Result<ChipDb, Stop<'static>>
     ensures database { IfOk result (λ db. database_read bytes.now ≡ Ok (database_in db)) }
     ensures stops { IfErr result (StopsDatabase (database_read bytes.now)) }
 {
-    // What is loaded is within the limit.
+    // A tool loads no text that is longer than the limit.
     if bytes.len() > DB_LIMIT {
         return Err(Stop::Memory);
     }
@@ -29,7 +33,10 @@ pub fn read_database(alloc: Global, bytes: &[u8]) -> Result<ChipDb, Stop<'static
     }
 }
 
-/// The database of what was fed to a reader, or what is told of its first fault.
+/// The database of the text that was fed to a reader.
+///
+/// # Errors
+/// `Stop::Refused` with the line and the cause of the first fault; `Stop::Memory` if memory is out.
 #[tactic(auto, unfolding(crate::specs::Databases::database_read))]
 pub(crate) fn finish_database(reader: DbReader) -> Result<ChipDb, Stop<'static>>
     ensures database { IfOk result (λ db. (text : List ℕ) → StandsFor text reader → database_read text ≡ Ok (database_in db)) }

@@ -1,4 +1,4 @@
-// What a tool takes that works on a chip database and an image.
+// The input of a tool that works on a chip database and an image.
 ghost use Rattle.std.specs.Prelude.{◌≡◌, ◌++◌, ◌∷◌, [], ◌+◌, ◌<◌, ◌≤◌, ◌^◌, ℕ, Bool, List, Ok, IfOk, IfErr, length};
 ghost use Rattle.layout_file.specs.declared.layouts.Layouts.{Layouts};
 ghost use Rattle.layout_file.specs.Layouts.{AreLayouts};
@@ -29,8 +29,8 @@ pub(crate) enum NextText {
     Other,
 }
 
-/// A chip database and then an image that come in pieces. The database is read as it comes, and the image is collected, since its
-/// preamble may stand anywhere.
+/// A chip database and then an image, which come in pieces. The database is read as it comes. The image is collected first: it is a
+/// bitstream if the preamble is somewhere in it, and else a text.
 #[derive(Drop)]
 pub struct DesignInput {
     layouts: Layouts,
@@ -59,7 +59,7 @@ impl TextTaker for DesignInput {
     fn feed(&mut self, piece: &[u8]) {
         match self.next {
             NextText::Database => {
-                // The reader keeps that there was no memory, and tells it at the end.
+                // If memory was out, the reader remembers that, and tells it at the end.
                 let _ = self.db.feed(piece);
             }
             NextText::Image => self.image.push(piece),
@@ -81,7 +81,10 @@ impl DesignInput {
     ghost use Rattle.tool_parts.specs.Taking.{IsTaking};
     ghost use Rattle.std.specs.Prelude.{get_or};
 
-    /// The database and the image, or what is told of the first fault: of the layout file, the database or the image.
+    /// The database and the image, after all texts were taken.
+    ///
+    /// # Errors
+    /// `Stop::Refused` with the first fault, of the layout file, else of the database, else of the image. `Stop::Memory` if memory is out.
     pub fn read(
         alloc: Global,
         taking: Taking<DesignInput>,
@@ -98,7 +101,7 @@ impl DesignInput {
         }
     }
 
-    // The same of what stands behind the layout file.
+    // The database and the image, after the layout file was read. A fault of the database goes before one of the image.
     fn read_both(self, alloc: Global) -> Result<(ChipDb, AnyImage), Stop<'static>>
         ensures read { IfOk result (λ read. (layouts : Layouts) (texts : List (List ℕ)) (answer : Database → Configuration → Answer)
             → TakesInput layouts texts self []
@@ -112,7 +115,7 @@ impl DesignInput {
     }
 }
 
-// The image of the bytes that were collected, or what is told of their fault.
+// The image of the bytes that were collected, or why there is none.
 fn collected_image(
     alloc: Global,
     collected: &Collected,

@@ -1,4 +1,4 @@
-// What is said of a fault of what tools read: a text, a bitstream, a database.
+// The messages for faults of what tools read: a text, a bitstream, a database.
 ghost use Rattle.std.specs.Prelude.{◌≡◌, ◌++◌, codes};
 ghost use Rattle.tool_run.specs.Lines.{phrase_text, refusal_text};
 ghost use Rattle.tool_parts.specs.Faults.{asc_cause_text, asc_fault_text, bin_cause_text, bin_fault_text, db_cause_text, db_fault_text, kind_name};
@@ -10,7 +10,7 @@ use chipdb_reader::DbCause;
 use plane_map::TileKind;
 use tool_run::{Number, Phrase, Refusal, decimal, text};
 
-// What is wrong where another kind of tile is expected.
+// The cause if another kind of tile is expected, after a colon.
 fn kind_text(expected: TileKind) -> &'static str
     ensures { result.now ≡ codes ": Kind expected " ++ kind_name expected }
 {
@@ -22,7 +22,7 @@ fn kind_text(expected: TileKind) -> &'static str
     }
 }
 
-// What is wrong with a line, behind a colon.
+// What is wrong with a line, after a colon.
 fn asc_cause_text(cause: AscCause) -> &'static str
     ensures { result.now ≡ codes ": " ++ asc_cause_text cause }
 {
@@ -42,7 +42,7 @@ fn asc_cause_text(cause: AscCause) -> &'static str
     }
 }
 
-/// The fault of a text.
+/// The refusal of a text (.asc): the line, the tile if the line belongs to one, and the cause.
 pub fn asc_refusal(line: u64, tile: Option<TileXy>, cause: AscCause) -> Refusal<'static>
     ensures { refusal_text result ≡ asc_fault_text line tile cause }
 {
@@ -58,7 +58,7 @@ pub fn asc_refusal(line: u64, tile: Option<TileXy>, cause: AscCause) -> Refusal<
     }
 }
 
-/// What is wrong with a bitstream, behind a colon, and the value that a check found.
+/// What is wrong with a bitstream, after a colon. For a wrong CRC this includes the value that was found.
 pub fn bin_cause(cause: BinCause) -> Phrase<'static>
     ensures { phrase_text result ≡ codes ": " ++ bin_cause_text cause }
 {
@@ -81,14 +81,14 @@ pub fn bin_cause(cause: BinCause) -> Phrase<'static>
     }
 }
 
-/// The fault of a bitstream.
+/// The refusal of a bitstream (.bin): the offset and the cause.
 pub fn bin_refusal(offset: u64, cause: BinCause) -> Refusal<'static>
     ensures { refusal_text result ≡ bin_fault_text offset cause }
 {
     refusal(decimal("offset ", offset), bin_cause(cause))
 }
 
-// What is wrong with a line of a database, behind a colon.
+// What is wrong with a line of a database, after a colon.
 fn db_cause_text(cause: DbCause) -> &'static str
     ensures { result.now ≡ codes ": " ++ db_cause_text cause }
 {
@@ -108,7 +108,7 @@ fn db_cause_text(cause: DbCause) -> &'static str
     }
 }
 
-/// The fault of a database.
+/// The refusal of a database: the line and the cause.
 pub(crate) fn db_refusal(line: u64, cause: DbCause) -> Refusal<'static>
     ensures { refusal_text result ≡ db_fault_text line cause }
 {

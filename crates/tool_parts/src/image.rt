@@ -13,14 +13,17 @@ use layout_file::Layouts;
 use std::alloc::Global;
 use tool_run::Stop;
 
-/// The most bytes of an image.
+/// The most bytes that an image may have, as a bitstream or as a text.
 pub const IMAGE_LIMIT: usize = 16_777_216;
 
 /// The preamble of a bitstream.
 const PREAMBLE: [u8; 4] = [0x7E, 0xAA, 0x99, 0x7E];
 
-/// An image under layouts, or what is told of its fault: a bitstream where the preamble stands somewhere in the bytes, and else
-/// a text.
+/// Reads an image under layouts. The bytes are a bitstream (.bin) if the preamble is somewhere in them, and else a text (.asc).
+///
+/// # Errors
+/// `Stop::Refused` with the first fault: `offset N: CAUSE` for a bitstream, `line N: CAUSE` or `line N: tile X Y: CAUSE` for a text.
+/// `Stop::Memory` if memory is out.
 #[tactic(auto, unfolding(crate::specs::Images::image_read))]
 pub fn read_image(alloc: Global, bytes: &[u8], layouts: Layouts) -> Result<AnyImage, Stop<'static>>
     requires { AreLayouts layouts }
@@ -44,7 +47,7 @@ pub fn read_image(alloc: Global, bytes: &[u8], layouts: Layouts) -> Result<AnyIm
     }
 }
 
-/// Whether the preamble stands somewhere.
+/// Whether the preamble is somewhere in the bytes.
 fn has_preamble(bytes: &[u8]) -> bool
     ensures { result ≡ is_some (preamble_offset bytes.now) }
 {

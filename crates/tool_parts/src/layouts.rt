@@ -8,10 +8,10 @@ use crate::refusals::refusal;
 use layout_file::{LayoutCause, LayoutFault, Layouts};
 use tool_run::{Load, Refusal, Stop, decimal, loaded_at, text};
 
-/// The most bytes of a layout file.
+/// The most bytes that a layout file may have.
 pub const LAYOUT_LIMIT: usize = 65_536;
 
-/// The loads of a tool, of which the first is that of the layout file: without it where none is named.
+/// The loads of a tool. The first of them is the layout file; it is left out if none is named.
 pub fn with_layout<'a>(layout: Option<&str>, loads: &'a [Load<'a>]) -> &'a [Load<'a>]
     ensures { result.now ≡ (if is_some layout.entry then loads.now else drop 1 loads.now) }
 {
@@ -21,7 +21,10 @@ pub fn with_layout<'a>(layout: Option<&str>, loads: &'a [Load<'a>]) -> &'a [Load
     }
 }
 
-/// The layouts for a tool: those of the file that it loaded first where one is named, and else the standard ones.
+/// The layouts for a tool: those of the layout file, which it loaded first, if one is named, and else the standard layouts.
+///
+/// # Errors
+/// `Stop::Refused` with the first faulty line of the layout file, as `layout line N: CAUSE`, and for no other cause.
 pub fn layouts_for(named: bool, loaded: &[Vec<u8>]) -> Result<Layouts, Stop<'static>>
     ensures layouts { IfOk result (λ layouts. layouts_for named (map vec_items loaded.now) ≡ Ok layouts) }
     ensures devices { IfOk result AreLayouts }
@@ -34,7 +37,7 @@ pub fn layouts_for(named: bool, loaded: &[Vec<u8>]) -> Result<Layouts, Stop<'sta
     }
 }
 
-/// The bytes of a need by its place behind the layout file, which is loaded first where it is named.
+/// The bytes of a load, by its index without the layout file. If a layout file is named, it is loaded first, so the index moves by one.
 pub fn behind_layout(named: bool, loaded: &[Vec<u8>], place: usize) -> &[u8]
     requires { place < 8 }
     ensures { result.now ≡ get_or (map vec_items loaded.now) (behind_layout named place) [] }
@@ -42,7 +45,7 @@ pub fn behind_layout(named: bool, loaded: &[Vec<u8>], place: usize) -> &[u8]
     loaded_at(loaded, if named { place + 1 } else { place })
 }
 
-/// The layouts that a layout file gives, or what is told of its first faulty line.
+/// The layouts that a layout file gives, or `Stop::Refused` with its first faulty line.
 #[tactic(auto, unfolding(crate::specs::Layouts::layouts_read))]
 pub(crate) fn layouts_in(bytes: &[u8]) -> Result<Layouts, Stop<'static>>
     ensures layouts { IfOk result (λ layouts. layouts_read bytes.now ≡ Ok layouts) }
@@ -55,7 +58,7 @@ pub(crate) fn layouts_in(bytes: &[u8]) -> Result<Layouts, Stop<'static>>
     }
 }
 
-// The fault of a layout file.
+// The refusal of a layout file: the line and the cause.
 fn layout_refusal(fault: LayoutFault) -> Refusal<'static>
     ensures { refusal_text result ≡ layout_fault_text fault }
 {

@@ -1,13 +1,13 @@
-//! What the tools share: their command lines, what they read, and what they say of a fault of that.
+//! What the tools share: their command lines, what they read, and the messages for faults in what they read.
 //!
 //! A tool is a `CommandLine`: its words, its command, and what it does with what was found in the arguments.
 //! `run_tool` runs any of them, and has one clause: the run does what the arguments ask for (`outcome` in `specs/Outcomes.antt`). A tool
-//! builds its `Command` of the arguments here, and reads what was found by an argument's name. `specs/Commands.antt` says the
-//! same of the arguments alone: `command` is the command, `is_taken` whether the arguments are taken, and `has_flag`, `first_of` and
-//! `values_of` what was found.
+//! builds its `Command` from the kinds of arguments here, and reads what was found by an argument's name. `specs/Commands.antt` defines
+//! what these functions do, on the arguments alone: `command` is the command, `is_taken` is whether the arguments are taken, and
+//! `has_flag`, `first_of` and `values_of` are what was found.
 //!
-//! A tool that takes `--layout FILE` loads that file before the others; a database and an image are read the same way by each tool
-//! that reads one, and their faults are told in the same words.
+//! A tool that takes `--layout FILE` loads that file before the others. All tools that read a database or an image read it in one way, and
+//! report its faults with the same messages.
 #![tactic(auto)]
 
 mod commands;

@@ -1,10 +1,10 @@
-// Refusals of few phrases.
+// Refusals of one or two phrases.
 ghost use Rattle.std.specs.Prelude.{◌≡◌, ◌++◌};
 ghost use Rattle.tool_run.specs.Lines.{phrase_text, refusal_text};
 
 use tool_run::{Phrase, Refusal, text};
 
-/// A refusal of two phrases: mostly the place, and the cause.
+/// A refusal of two phrases, usually the place and the cause.
 pub fn refusal<'a>(first: Phrase<'a>, second: Phrase<'a>) -> Refusal<'a>
     ensures { refusal_text result ≡ phrase_text first.entry ++ phrase_text second.entry }
 {
@@ -16,7 +16,7 @@ pub fn refusal<'a>(first: Phrase<'a>, second: Phrase<'a>) -> Refusal<'a>
     }
 }
 
-/// A refusal of one text.
+/// A refusal of one text alone.
 pub fn whole(what: &'static str) -> Refusal<'static>
     ensures { refusal_text result ≡ what.entry.now }
 {

@@ -1,5 +1,5 @@
-// A run of a tool, whatever the tool is.
-ghost use Rattle.std.specs.Prelude.{◌≡◌, true, ℕ, List, None, map, string_bytes, IfOk, IfSome};
+// A run of any tool.
+ghost use Rattle.std.specs.Prelude.{◌≡◌, true, List, None, map, string_bytes, IfOk, IfSome};
 ghost use Rattle.clap.specs.Words.{Row, Text, app_of, found_of, is_simple_and_free, rows_of};
 ghost use Rattle.tool_run.specs.Runs.{Does};
 ghost use Rattle.tool_parts.specs.Outcomes.{Finds, Manual, asked, outcome, untaken};
@@ -9,18 +9,18 @@ use clap::{ArgMatches, Command};
 use std::alloc::{AllocError, Global};
 use tool_run::{AtOnce, Host, asks_for_help};
 
-/// What is told of a tool.
+/// The texts of a tool.
 #[derive(Clone, Copy, Debug, PartialEq, Eq)]
 pub struct Words {
-    /// The name that begins each of its lines.
+    /// The name, with which each of its messages begins.
     pub name: &'static str,
-    /// The command line that it takes.
+    /// The usage line: the command line that it takes.
     pub usage: &'static str,
     /// Its help, at most 80 columns wide.
     pub help: &'static str,
 }
 
-/// A tool by its command line.
+/// A tool, described by its command line.
 pub trait CommandLine {
     /// Its words, its command, and the task of what is found in the arguments.
     ghost manual: { Manual };
@@ -32,10 +32,14 @@ pub trait CommandLine {
         ensures help { result.help.now ≡ manual.help };
 
     /// The command line as `clap` reads it.
+    ///
+    /// # Errors
+    /// `AllocError` if memory is out, and for no other cause.
     fn command<'a>(&self, alloc: Global) -> Result<Command<'a>, AllocError>
         ensures { IfOk result (λ command. app_of command ≡ manual.app) };
 
-    /// Does what is asked for by what was found, and answers the exit status; or nothing, where the arguments aren't taken after all.
+    /// Does what the arguments ask for, and answers the exit status. `None` if the tool doesn't take the arguments although `clap` does,
+    /// for example if a number is out of range. Then nothing was touched.
     fn perform<H: Host>(&self, alloc: Global, matches: &ArgMatches<'_>, host: &mut H) -> Option<u8>
         ensures does { IfSome result (λ status. Does H.outside (manual.task (rows_of (found_of matches.now))) status (H.scene host.old) (H.scene host.new)) }
         ensures untaken { result ≡ None → manual.task (rows_of (found_of matches.now)) ≡ untaken manual }
@@ -58,7 +62,7 @@ fn found<'a, T: CommandLine>(
     parse(command, args)
 }
 
-// Does what is asked for by what was found, where the command took the arguments.
+// Does what the arguments ask for, if the command took them. `None` if the arguments aren't taken; then nothing was touched.
 #[tactic(auto, unfolding(crate::specs::Outcomes::asked))]
 fn perform_found<T: CommandLine, H: Host>(
     alloc: Global,
@@ -76,7 +80,9 @@ fn perform_found<T: CommandLine, H: Host>(
     }
 }
 
-// The same, and answers that the arguments aren't taken where they aren't. No other function answers this.
+// Does what the arguments ask for, or answers the usage error if they aren't taken. All tools that are a `CommandLine` answer their usage
+// errors here. Two others answer usage errors of their own: `selfrun` (in `job_tools`), which is no `CommandLine`, and the program itself
+// (in `icestorm_cli`), if its arguments name no tool.
 fn run_found<T: CommandLine, H: Host>(
     alloc: Global,
     tool: &T,
@@ -94,7 +100,20 @@ fn run_found<T: CommandLine, H: Host>(
     }
 }
 
-/// Runs a tool with these arguments, of which the first is its name.
+/// Runs a tool with these arguments, the first of which is the tool's name, and answers the exit status. If `--help` alone comes after the
+/// name, the run tells the help.
+///
+/// # Example
+/// ```ignore
+/// // `MyTool` implements `CommandLine`. `args` begins with its name, and `rt` is the `HostRuntime` that `main` is given.
+/// let mut host = FilesAndStreams {
+///     files: DirFiles::new(&rt),
+///     input: StdSource::new(rt.stdin()),
+///     output: StdSink::new(rt.stdout()),
+///     errors: StdSink::new(rt.stderr()),
+/// };
+/// let status = run_tool(rt.alloc(), &MyTool, args, &mut host);
+/// ```
 pub fn run_tool<T: CommandLine, H: Host>(
     alloc: Global,
     tool: &T,

@@ -1,4 +1,4 @@
-// Texts that come in pieces, behind the layout file where one is named.
+// Texts that come in pieces, after the layout file if one is named.
 ghost use Rattle.std.specs.Prelude.{◌≡◌, ◌∷◌, [], ◌+◌, ◌++◌, ◌<◌, ◌≤◌, ◌^◌, ℕ, Bool, List, Ok, length, IfOk, IfErr};
 ghost use Rattle.layout_file.specs.declared.layouts.Layouts.{Layouts};
 ghost use Rattle.layout_file.specs.Layouts.{AreLayouts};
@@ -13,21 +13,21 @@ use layout_file::Layouts;
 use std::alloc::Global;
 use tool_run::{Collected, Stop};
 
-/// What takes texts one after the other, each piece by piece, under layouts that are known before the first.
+/// Takes texts one after the other, each piece by piece. The layouts are known before the first text.
 pub trait TextTaker: Drop {
-    /// Under these layouts it has taken these texts whole, and these bytes of the next.
+    /// Under these layouts it has taken these whole texts, and these bytes of the next one.
     ghost takes: { Layouts → List (List ℕ) → Self → List ℕ → Type 0 };
 
-    /// How many bytes of the next text count towards the most that it takes.
+    /// How many bytes of the next text count towards its limit.
     ghost fed: { Self → ℕ };
 
-    /// It has taken nothing.
+    /// A taker under these layouts, which has taken nothing yet.
     fn under(alloc: Global, layouts: Layouts) -> Self
         requires { AreLayouts layouts }
         ensures taken { takes layouts [] result [] }
         ensures none { fed result ≡ 0 };
 
-    /// Takes a piece, of at most 65,536 bytes, behind those before.
+    /// Takes the next piece of the text, of at most 65,536 bytes.
     fn feed(&mut self, piece: &[u8])
         requires few { fed self.old + length piece.now < 2 ^ 32 }
         requires short { length piece.now ≤ 65536 }
@@ -35,28 +35,28 @@ pub trait TextTaker: Drop {
             → takes layouts texts self.new (bytes ++ piece.now) }
         ensures bound { fed self.new ≤ fed self.old + length piece.now };
 
-    /// Ends the text that was taken last.
+    /// Ends the current text. The next piece begins the next text.
     fn close(&mut self)
         ensures closed { (layouts : Layouts) (texts : List (List ℕ)) (bytes : List ℕ) → takes layouts texts self.old bytes
             → takes layouts (texts ++ bytes ∷ []) self.new [] }
         ensures none { fed self.new ≡ 0 };
 }
 
-/// What a tool has taken of its texts, of which the layout file comes first where it is named.
+/// What a tool has taken of its texts so far. If a layout file is named, it is the first of them.
 #[derive(Drop)]
 pub enum Taking<T: TextTaker> {
     /// The layout file so far.
     Layout(Collected),
-    /// The texts behind it, under its layouts.
+    /// The texts after the layout file, under its layouts.
     Texts(T),
-    /// The layout file is refused, or there was no memory for it. The texts behind it are passed over.
+    /// The layout file is refused, or memory was out. The texts after it are skipped.
     Stopped(Stop<'static>),
 }
 
 impl<T: TextTaker> Taking<T> {
     ghost use Rattle.tool_parts.specs.Taking.{IsTaking, fed_of, texts_behind};
 
-    /// Nothing is taken yet. The layout file comes first where it is named, and else the layouts are the standard ones.
+    /// Nothing is taken yet. If a layout file is named, it comes first; else the layouts are the standard ones.
     pub fn begin(alloc: Global, named: bool) -> Taking<T>
         ensures taken { IsTaking T.takes named [] [] result }
         ensures none { fed_of T.fed result ≡ 0 }
@@ -68,7 +68,7 @@ impl<T: TextTaker> Taking<T> {
         }
     }
 
-    /// Takes a piece behind those before.
+    /// Takes the next piece of the text.
     pub fn feed(&mut self, piece: &[u8])
         requires few { fed_of T.fed self.old + length piece.now < 2 ^ 32 }
         requires short { length piece.now ≤ 65536 }
@@ -83,7 +83,7 @@ impl<T: TextTaker> Taking<T> {
         }
     }
 
-    /// Ends the text that was taken last. Where it is the layout file, its layouts are those of the texts behind it.
+    /// Ends the current text. If it is the layout file, the texts after it are read under its layouts.
     pub fn close(&mut self, alloc: Global)
         ensures closed { (named : Bool) (texts : List (List ℕ)) (bytes : List ℕ) → IsTaking T.takes named texts bytes self.old
             → IsTaking T.takes named (texts ++ bytes ∷ []) [] self.new }
@@ -99,7 +99,11 @@ impl<T: TextTaker> Taking<T> {
         }
     }
 
-    /// What has taken the texts behind the layout file, or why nothing has.
+    /// The taker of the texts after the layout file, after the last text.
+    ///
+    /// # Errors
+    /// `Stop::Refused` with the first faulty line of the layout file; `Stop::Memory` if memory was out for it. A layout file that is named
+    /// but never came is read as an empty one.
     pub fn finish(self, alloc: Global) -> Result<T, Stop<'static>>
         ensures taken { IfOk result (λ taker. (named : Bool) (texts : List (List ℕ)) → IsTaking T.takes named texts [] self
             → (layouts : Layouts) × (layouts_for named texts ≡ Ok layouts) × T.takes layouts (texts_behind named texts) taker []) }
@@ -114,7 +118,7 @@ impl<T: TextTaker> Taking<T> {
     }
 }
 
-// What takes texts under the layouts of a file, or why nothing does.
+// A taker of texts under the layouts of this file, or why there is none.
 fn begun<T: TextTaker>(alloc: Global, file: &Collected) -> Result<T, Stop<'static>>
     ensures taken { IfOk result (λ taker. (text : List ℕ) → Collects text file.now
         → (layouts : Layouts) × (layouts_read text ≡ Ok layouts) × T.takes layouts [] taker []) }

@@ -30,7 +30,7 @@ use Rattle.vlog_cells.proofs.Modules.{IsUnder, module-under}
 use Rattle.vlog_cells.proofs.Passed.{first-within, gates-rise, own, size}
 use Rattle.vlog_cells.proofs.Wired.{shown-cell}
 
--- the slot of a register stands before the first wire's
+-- the slot of a register comes before the first wire's
 pub register-slot : (m : Parts) (layout : Layout) (name : List ℕ) (slot : ℕ) → IsLaidOut m layout → Some slot ≡ (places_in layout.places).registers name → slot < layout.first_wire
 register-slot m layout name slot laid is =
     subst (λ end. slot < end) (sym laid.first_wire)

@@ -1,4 +1,4 @@
--- What cells stand for, once wires that copy have the cells of what they copy.
+-- The roots of cells, after wires that only copy became aliases of what they copy.
 use Rattle.std.proofs.Common.{◌≡◌, ℕ, zero, suc, ◌+◌, ◌<◌, ◌≤◌, Bool, true, false, cond, eqb, List, [], ◌∷◌, Option, Some, None, ap, ap₂, arith, fold, get_or, inl, inr, length, refl, set, subst, sym, ◌∙◌}
 use Rattle.std.specs.Prelude.{◌&&◌}
 use Rattle.std.proofs.lemmas.Bool.{cases_Bool, cases_eq, cases_lt, eqb-true}
@@ -79,7 +79,7 @@ step-other-case held roots slot cell None apart = refl
 step-other : (z : ℕ) (held : List Bool) (roots : List ℕ) (gate : Gate) (cell : ℕ) → (cell ≡ gate.slot → ⊥) → root (root_step z held roots gate) cell ≡ root roots cell
 step-other z held roots gate cell apart = step-other-case held roots gate.slot cell (copied z gate) apart
 
--- a wire's cell stands for what it did, or for what a cell stands for that isn't held and that the wire copies
+-- the root of a wire's cell is its own as before, or the root of a cell that isn't held and that the wire copies
 data Joins (z : ℕ) (held : List Bool) (roots after : List ℕ) (gate : Gate) : Type 0 where
   stays : (same : root after gate.slot ≡ root roots gate.slot) → Joins z held roots after gate
   joins : (source : ℕ) (is : copied z gate ≡ Some source) (free : get_or held (root roots source) false ≡ false) (takes : root after gate.slot ≡ root roots source) → Joins z held roots after gate
@@ -272,13 +272,13 @@ roots-known z held first count total gates numbered names =
       apart = λ cell inside on. first-own total cell inside;
     })
 
--- cells that aren't wires' stand for themselves
+-- cells that no wire has are their own roots
 pub roots-own : (z : ℕ) (held : List Bool) (first count total : ℕ) (gates : List Gate) (cell : ℕ) → AreNumbered first count total gates → (cell < count → cell < first) → cell < total
     → root (fold (root_step z held) (first_roots total) gates) cell ≡ cell
 roots-own z held first count total gates cell numbered source inside =
     steps-other z held first count total (first_roots total) gates cell numbered source ∙ first-own total cell inside
 
--- ---- registers that are set at once
+-- ---- registers with an asynchronous set or reset
 
 held-kept : (settles : List Settle) (held : List Bool) (cell : ℕ) → get_or held cell false ≡ true → get_or (held_by held settles) cell false ≡ true
 held-kept [] held cell is = is
@@ -302,7 +302,7 @@ held-targets (settle ∷ settles) held zero none inside within =
 held-targets (settle ∷ settles) held (suc place) none inside within =
     held-targets settles (set held settle.target true) place none (omega (arith, inside)) (omega (arith, within, length-set held settle.target true))
 
--- ---- what cells stand for is in range, whatever the wires
+-- ---- roots are in range, whatever the wires
 
 set-below : (roots : List ℕ) (cell value other total : ℕ) → ((k : ℕ) → root roots k < total) → value < total → root (set roots cell value) other < total
 set-below roots cell value other total below less =

@@ -25,7 +25,7 @@ set-case : (acts bit : Bool) (bits : List Bool) (place : ℕ) → set bits place
 set-case true bit bits place = refl
 set-case false bit bits place = set-get_or bits place false
 
--- a value that has another bit only where it acts
+-- a value that differs only in the lanes in which it acts
 pub lane-change : {V : Type 0} (at : V → ℕ → Bool) (lane : ℕ) (values : List V) (place : ℕ) (value : V) (acts bit : Bool) → at value lane ≡ cond acts bit (cell_at (lane_bits at lane values) place)
     → lane_bits at lane (set values place value) ≡ cond acts (set (lane_bits at lane values) place bit) (lane_bits at lane values)
 lane-change at lane values place value acts bit is =

@@ -10,7 +10,7 @@ pub mod Lists
 pub mod Stored
 -- wires rise, and read only what comes before
 pub mod Order
--- what cells stand for, once wires that copy have the cells of what they copy
+-- the roots of cells, after wires that only copy became aliases of what they copy
 pub mod Joining
 -- items over cells do what they do over bits and words
 pub mod Operands
@@ -32,7 +32,7 @@ pub mod Parted
 pub mod Words
 -- the lists of the wires on which cells bear
 pub mod Listed
--- where the bits of inputs and wires stand
+-- the cells of the bits of inputs and wires
 pub mod Slots
 -- what the cells of a lane have, and what a lane shows after a call
 pub mod Boards

@@ -12,7 +12,7 @@ use Rattle.vlog_cells.proofs.Order.{later-apart, reads-none, same-value, slot-wi
 
 -- ---- marks
 
--- where each word is full, each place is marked
+-- if each word is full, each wire is marked
 pub marked-full : (count word : ℕ) → ((k : ℕ) → k < 64 → bit_of word k ≡ true) → (place : ℕ) → place < 64 * count → is_marked (replicate count word) place ≡ true
 marked-full count word full place within = ap (λ w. bit_of w (place % 64)) (get_or-replicate count (place / 64) word 0 (omega (arith, within))) ∙ full (place % 64) (omega arith)
 
@@ -55,7 +55,7 @@ marks-more old places i p marks marks_now within known own others =
 
 -- ---- a write
 
--- a cell that gets a bit, and the wires on which it bears marked
+-- a cell that gets a bit, and its fan-out marked
 pub write-tracked : (gates : List Gate) (readers : List (Vec ℕ Global)) (cell : ℕ) (bit : Bool) (cells : List Bool) (marks marks_now places : List ℕ)
     → places ≡ get_or (lists_of readers) cell [] → length marks_now ≡ length marks
     → ((place : ℕ) → place < 64 * length marks → is_marked marks_now place ≡ (has places place || is_marked marks place))
@@ -89,7 +89,7 @@ gates-passed active gates from end cells marks off swept = record {
       ];
 }
 
--- a place behind the last wire loses its mark
+-- an index after the last wire loses its mark
 pub past-swept : (active : Bool) (gates : List Gate) (place : ℕ) (cells : List Bool) (marks marks_now : List ℕ) → length gates ≤ place → length marks_now ≡ length marks
     → ((other : ℕ) → other ≢ place → is_marked marks_now other ≡ is_marked marks other)
     → IsSwept active gates place cells marks → IsSwept active gates (place + 1) cells marks_now
@@ -127,7 +127,7 @@ done-more first count gates place bit cells rising room within is done p below i
           subst (λ q. IsEven (set cells (gate_at gates place).slot bit) (gate_at gates q)) (sym same) (own-now first count gates place bit cells rising room within is)
     ]
 
--- it stays marked where it may not have it
+-- it stays marked if it may be out of date
 pub gate-swept : (active left bit : Bool) (first count : ℕ) (gates : List Gate) (place : ℕ) (cells : List Bool) (marks marks_now marks_last : List ℕ) → AreRising first count gates → count ≤ length cells → place < length gates
     → (active ≡ true → bit ≡ gate_value cells (gate_at gates place)) → (left ≡ false → bit ≡ gate_value cells (gate_at gates place))
     → length marks_last ≡ length marks_now → (place < 64 * length marks_now → is_marked marks_last place ≡ left) → ((other : ℕ) → other ≢ place → is_marked marks_last other ≡ is_marked marks_now other)
@@ -157,7 +157,7 @@ block-off marks block from end few off place low high =
     let below : place % 64 < end = omega (arith, low, high, few) in
     ap (λ b. bit_of (get_or marks b 0) (place % 64)) quotient ∙ off (place % 64) at_least below
 
--- where each wire is marked
+-- if each wire is marked
 pub tracked-first : (gates : List Gate) (cells : List Bool) (marks : List ℕ) → length gates ≤ 64 * length marks → ((place : ℕ) → place < 64 * length marks → is_marked marks place ≡ true) → IsTracked gates cells marks
 tracked-first gates cells marks room all_marked = record {
   room = room;

@@ -1,4 +1,4 @@
--- The wires of a module are in order, and the registers that they set at once stand before them.
+-- The wires of a module are in order, and the registers with an asynchronous set or reset come before them.
 use Rattle.std.proofs.Common.{◌≡◌, ℕ, zero, suc, ◌+◌, ◌*◌, ◌<◌, Bool, true, false, cond, List, [], ◌∷◌, ◌++◌, Option, Some, None, arith, get_or, length, length-append, ltb, refl, subst, sym}
 use Rattle.std.specs.Prelude.{◌&&◌, bytes_eq, map}
 use Rattle.std.specs.List.{cons_option, filter_map}
@@ -138,9 +138,9 @@ module-numbered m first is =
     (wires-numbered (places_of m).words (input_names m.ports ++ register_names m.items) m.items (bit_count m) (word_count m)
     (sym (length-append (input_names m.ports ++ register_names m.items) (wire_names m.items))))
 
--- ---- registers that wires set at once
+-- ---- registers with an asynchronous set or reset
 
--- a register that is set at once stands before the wires
+-- such a register comes before the wires
 abbrev IsSetEarly : ℕ → Option Settle → Type 0
 IsSetEarly first (Some settle) = settle.target < first
 IsSetEarly first None = Unit {0}

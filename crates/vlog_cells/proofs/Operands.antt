@@ -1,4 +1,4 @@
--- Items over cells do what they do over bits and words, where the cells show these.
+-- Items over cells do what they do over bits and words, if the cells show these.
 use Rattle.std.proofs.Common.{◌≡◌, ℕ, ◌+◌, ◌*◌, ◌<◌, Bool, true, false, cond, List, [], ◌∷◌, ◌++◌, Option, Some, None, ◌-◌, ap, ap₂, arith, flat_map, inl, inr, fold, length, ltb, refl, set, sym, ◌∙◌}
 use Rattle.std.specs.Prelude.{◌&&◌, map}
 use Rattle.std.proofs.lemmas.Bool.{cases_Bool, ltb-true}
@@ -26,7 +26,7 @@ use Rattle.vlog_cells.specs.Groups.{read_at, write_at}
 use Rattle.vlog_cells.specs.Resolved.{resolved, resolved_flip, resolved_kept, resolved_port, resolved_read, resolved_table, resolved_taken, resolved_write}
 use Rattle.vlog_cells.specs.Roots.{root}
 
--- ---- where operands stand
+-- ---- the cells of operands
 
 slot-inside : (bits words slot : ℕ) (b : Bool) → ltb slot bits ≡ b → cond b slot (zero_cell bits words) < bits + 16 * words + 2
 slot-inside bits words slot true below = omega (arith, ltb-true slot bits below)

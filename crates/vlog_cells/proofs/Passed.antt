@@ -38,7 +38,7 @@ length-tail : (words : List ℕ) → length (tail_of words) ≡ 16 * length word
 length-tail words =
     length-append (parts_below words (16 * length words)) (false ∷ true ∷ []) ∙ ap (λ n. n + 2) (length-parts words (16 * length words))
 
--- a cell that no other one stands for gets a bit
+-- a cell that is no other cell's root gets a bit
 shown-set : (roots : List ℕ) (cells : List Bool) (cell : ℕ) (bit : Bool) → cell < length cells → root roots cell ≡ cell → ((other : ℕ) → other < length roots → root roots other ≡ cell → other ≡ cell)
     → shown_by roots (set cells cell bit) ≡ set (shown_by roots cells) cell bit
 shown-set roots cells cell bit room own alone =
@@ -174,7 +174,7 @@ module _ (m : Parts) (layout : Layout) (circuit : Circuit) (laid : IsLaidOut m l
     wired-shown : Show count (word_count m) roots values words wired
     wired-shown = record { bits_count = values-size; words_count = words_are; size = size; small = small; are = whole }
 
-    -- ---- registers that wires set at once
+    -- ---- registers with an asynchronous set or reset
 
     set-shown : (next : List Bool) (cells : List Bool) (settle : Settle) → settle.target < first → get_or held settle.target false ≡ true → length cells ≡ length wired
         → Show count (word_count m) roots next words cells

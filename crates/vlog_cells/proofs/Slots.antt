@@ -1,4 +1,4 @@
--- Where the bits of inputs and wires stand.
+-- The cells of the bits of inputs and wires.
 use Rattle.std.proofs.Common.{◌≡◌, ℕ, ◌+◌, ◌≤◌, Bool, List, ◌++◌, ap, ap₂, arith, drop, length, length-append, sym, take, ◌∙◌}
 use Rattle.std.proofs.lemmas.List.{drop-map, drop_at, length-map, map-append, take-map, take_at}
 use Rattle.vlog_module.specs.Parts.{Parts}
@@ -15,7 +15,7 @@ use Rattle.vlog_cells.specs.Lanes.{lane_bits}
 pub values-named : {A : Type 0} (entries : List (List ℕ × A)) (names : List (List ℕ)) → names_of entries ≡ names → length (values_of entries) ≡ length names
 values-named {A = A} entries names are = length-map entries (λ (e : List ℕ × A). e.1) ∙ sym (length-map entries (λ (e : List ℕ × A). e.0)) ∙ ap length are
 
--- the inputs stand first
+-- the inputs come first
 pub record InputsAt (layout : Layout) (entry : Entry) (bits : List Bool) : Type 0 where
   pub within : layout.input_count ≤ length bits
   pub are : take layout.input_count bits ≡ values_of entry.inputs
@@ -31,7 +31,7 @@ inputs-read m entry layout list laid named values =
       are = ap (take layout.input_count) bits ∙ take_at inputs rest layout.input_count count;
     }
 
--- the wires stand behind the registers
+-- the wires come after the registers
 pub record WiresAt (layout : Layout) (entry : Entry) (bits : List Bool) : Type 0 where
   pub within : layout.first_wire ≤ length bits
   pub are : drop layout.first_wire bits ≡ values_of entry.wires

@@ -120,7 +120,7 @@ module _ (event : Event) (first count word_count : ℕ) (roots : List ℕ) (bits
         | false ↦ refl
       ])
 
--- ---- the cells behind those of names
+-- ---- the cells after those of names
 
 -- the bits of words, 0 and 1 in a list
 pub tail-part : (words : List ℕ) (place : ℕ) → place < 16 * length words → get_or (tail_of words) place false ≡ part_at words place

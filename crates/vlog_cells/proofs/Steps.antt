@@ -16,7 +16,7 @@ use Rattle.vlog_cells.proofs.Order.{slot-within}
 pub same-cells : {V : Type 0} (cells : List V) (cell : ℕ) (old value : V) → old ≡ get_or cells cell old → old ≡ value → cells ≡ set cells cell value
 same-cells cells cell old value is same = sym (ap (set cells cell) (sym same ∙ is) ∙ set-get_or cells cell old)
 
--- one that gets another, and the wires on which it bears marked
+-- a cell that gets another value, and its fan-out marked
 pub lane-tracked : {V : Type 0} (at : V → ℕ → Bool) (lane : ℕ) (gates : List Gate) (readers : List (Vec ℕ Global)) (cell : ℕ) (value : V) (cells cells_now : List V) (marks marks_now places : List ℕ)
     → cells_now ≡ set cells cell value → places ≡ get_or (lists_of readers) cell [] → length marks_now ≡ length marks
     → ((place : ℕ) → place < 64 * length marks → is_marked marks_now place ≡ (has places place || is_marked marks place))
@@ -65,7 +65,7 @@ gate-same at lane first count gates place kept cells cells_now rising within cel
 
 -- ---- changes that are noted
 
--- what a flip-flop does where it acts
+-- what a flip-flop does if it acts
 pub flip-acts : (active edge enable lanes : Bool) (next : List Bool) (target : ℕ) (value bit : Bool) → edge ≡ true → lanes ≡ cond active enable false → value ≡ bit
     → cond lanes (set next target value) next ≡ cond active (cond (edge && enable) (set next target bit) next) next
 flip-acts active edge enable lanes next target value bit edge_is lanes_is value_is =
@@ -73,13 +73,13 @@ flip-acts active edge enable lanes next target value bit edge_is lanes_is value_
     ∙ (elim active as (λ a. cond (cond a enable false) (set next target bit) next ≡ cond a (cond (true && enable) (set next target bit) next) next) [ true ↦ refl | false ↦ refl ])
     ∙ ap (λ e. cond active (cond (e && enable) (set next target bit) next) next) (sym edge_is)
 
--- where it has no lane
+-- if it acts in no lane
 pub flip-rests : (active edge enable lanes : Bool) (next : List Bool) (target : ℕ) (bit : Bool) → edge ≡ true → lanes ≡ cond active enable false → lanes ≡ false
     → next ≡ cond active (cond (edge && enable) (set next target bit) next) next
 flip-rests active edge enable lanes next target bit edge_is lanes_is none =
     sym (ap (λ l. cond l (set next target bit) next) none) ∙ flip-acts active edge enable lanes next target bit bit edge_is lanes_is refl
 
--- where the event isn't its edge
+-- if the event isn't its edge
 pub flip-off : (active edge enable : Bool) (next : List Bool) (target : ℕ) (bit : Bool) → edge ≡ false → next ≡ cond active (cond (edge && enable) (set next target bit) next) next
 flip-off active edge enable next target bit edge_is =
     (elim active as (λ a. next ≡ cond a next next) [ true ↦ refl | false ↦ refl ])
@@ -90,7 +90,7 @@ fold-set step state [] i x within = absurd (omega (arith, within))
 fold-set step state (y ∷ ys) zero x within = refl
 fold-set step state (y ∷ ys) (suc i) x within = fold-set step (step state y) ys i x (omega (arith, within))
 
--- one more in the place behind the first ones
+-- one more, after the first ones
 pub fold-noted : {A B : Type 0} (step : A → B → A) (state : A) (xs : List B) (i : ℕ) (x : B) → i < length xs → fold step state (take (i + 1) (set xs i x)) ≡ step (fold step state (take i xs)) x
 fold-noted step state xs i x within =
     let next : i + 1 ≡ suc i = omega arith in

@@ -6,7 +6,7 @@ use Rattle.vlog_plan.specs.Steps.{put_written, read_slot, written_by}
 use Rattle.vlog_cells.specs.declared.groups.Group.{Group}
 use Rattle.vlog_cells.specs.Passing.{IsClocked, IsStored}
 
--- the same of equal lists
+-- the definition, at equal lists
 pub stored-like : (active : Bool) (bits : ℕ) (event : Event) (group : Group) (words words_from next_words next_words_now : List ℕ) (memories memories_from next_memories next_memories_now : List (List ℕ)) (before before_from after after_now : List Bool)
     → IsStored active bits event group words_from next_words memories_from next_memories before_from after
     → words_from ≡ words → next_words ≡ next_words_now → memories_from ≡ memories → next_memories ≡ next_memories_now → before_from ≡ before → after ≡ after_now

@@ -141,7 +141,7 @@ same-ins : (count slot : ℕ) (some other : List Bool) (ins : List ℕ) → AreB
 same-ins count slot some other [] before same = refl
 same-ins count slot some other (cell ∷ ins) before same = ap₂ (λ b rest. b ∷ rest) (same cell before.0) (same-ins count slot some other ins before.1 same)
 
--- bits that are the same before a name, with the same words behind
+-- bits that are the same before a name, with the same words after
 same-cells : (count from : ℕ) (some other : List Bool) (words : List ℕ) → length some ≡ count → length other ≡ count → ((cell : ℕ) → cell < from → cell_at some cell ≡ cell_at other cell) → from ≤ count
     → (cell : ℕ) → (cell < count → cell < from) → cell_at (cells_of some words) cell ≡ cell_at (cells_of other words) cell
 same-cells count from some other words size_some size_other same bound cell source =

@@ -1,4 +1,4 @@
--- A module over cells, and what its cells have.
+-- A module over cells, and the values of its cells.
 use Rattle.std.specs.Prelude.{◌≡◌, ◌<◌, ◌+◌, ◌*◌, ℕ, Bool, true, false, ◌==◌, List, [], ◌∷◌, flat_map, get_or, length, map, if◌then◌else◌}
 use Rattle.vlog_plan.specs.Cells.{cell_at, part_at, tail_of, zero_cell}
 use Rattle.vlog_plan.specs.declared.gates.Gate.{Gate}
@@ -10,11 +10,11 @@ use Rattle.vlog_cells.specs.Marks.{IsRead}
 use Rattle.vlog_cells.specs.Resolved.{resolved, resolved_gate, resolved_settle}
 use Rattle.vlog_cells.specs.Roots.{root, roots_of}
 
--- what each cell shows: the bit of the cell that it stands for
+-- the value that each cell shows: that of the cell for which it is an alias
 abbrev pub shown_by : List ℕ → List Bool → List Bool
 shown_by roots cells = map (cell_at cells) roots
 
--- a wire that doesn't copy, over what its inputs stand for
+-- a wire that isn't an alias, with its fan-in over cells that aren't aliases
 abbrev pub kept_gate : List ℕ → Gate → List Gate
 kept_gate roots gate = if root roots gate.slot == gate.slot then resolved_gate roots gate ∷ [] else []
 
@@ -22,7 +22,7 @@ kept_gate roots gate = if root roots gate.slot == gate.slot then resolved_gate r
 abbrev pub ArePartsAt : ℕ → List ℕ → List Bool → Type 0
 ArePartsAt from words cells = (place : ℕ) → place < 16 * length words → get_or cells (from + place) false ≡ part_at words place
 
--- the circuit of a plan, with so many names of one bit, of which the first aren't wires, and so many registers of 16 bits
+-- the circuit of a plan with `bits` names of one bit, of which the first ones aren't wires, and `words` registers of 16 bits
 pub record IsCircuit (first bits words : ℕ) (plan : Plan) (circuit : Circuit) : Type 0 where
   pub bits_are : circuit.bits ≡ bits
   pub roots : circuit.roots.items ≡ roots_of (bits + 16 * words + 2) (zero_cell bits words) plan.gates.items plan.settles.items
@@ -35,7 +35,7 @@ pub record IsCircuit (first bits words : ℕ) (plan : Plan) (circuit : Circuit) 
   pub falling : (pin : ℕ) (none : Group) → pin < length circuit.falling.items
       → IsGroup (record { pin = pin; bit = false }) first bits words circuit.roots.items plan (get_or circuit.falling.items pin none)
 
--- the cells that aren't wires' have these bits, the bits of these words, 0 and 1
+-- the cells that no wire has: these have these bits, the bits of these words, 0 and 1
 pub record AreSources (first : ℕ) (bits : List Bool) (words : List ℕ) (cells : List Bool) : Type 0 where
   pub below : (cell : ℕ) → cell < first → cell_at cells cell ≡ cell_at bits cell
   pub behind : (place : ℕ) → place < 16 * length words + 2 → get_or cells (length bits + place) false ≡ get_or (tail_of words) place false

@@ -1,4 +1,4 @@
--- What an event runs: the clocked items whose edge it is, over cells.
+-- What an event runs: the clocked items that are sensitive to its edge, over cells.
 use Rattle.std.specs.Prelude.{◌≡◌, ℕ, ◌<◌, Bool, ◌&&◌, List, [], ◌∷◌, ◌++◌, flat_map, get_or, length, map, nat_lt, slice_set, if◌then◌else◌}
 use Rattle.vlog_plan.specs.declared.event.Event.{Event}
 use Rattle.vlog_plan.specs.declared.plan.Flip.{Flip}
@@ -9,7 +9,7 @@ use Rattle.vlog_plan.specs.Steps.{is_edge_of}
 use Rattle.vlog_cells.specs.declared.groups.Group.{Group}
 use Rattle.vlog_cells.specs.Resolved.{resolved_flip, resolved_read, resolved_write}
 
--- a flip-flop, where its register is below the first wire
+-- a flip-flop that is sensitive to the event, if its register comes before the first wire
 abbrev pub flip_at : Event → ℕ → ℕ → ℕ → List ℕ → Flip → List Flip
 flip_at event first bits words roots flip =
     if is_edge_of event flip.edge && nat_lt flip.target first then resolved_flip bits words roots flip ∷ [] else []
@@ -25,7 +25,7 @@ pub record IsGroup (event : Event) (first bits words : ℕ) (roots : List ℕ) (
   pub reads : group.reads.items ≡ flat_map (read_at event bits words roots) plan.reads.items
   pub writes : group.writes.items ≡ flat_map (write_at event bits words roots) plan.writes.items
 
--- ---- the groups of all inputs, one behind the other
+-- ---- the groups of all inputs, one after another
 
 abbrev pub flips_in : List Group → List (List Flip)
 flips_in groups = map (λ group. group.flips.items) groups
@@ -40,11 +40,11 @@ writes_in groups = map (λ group. group.writes.items) groups
 abbrev pub with_items : {A : Type 0} → List (List A) → ℕ → List A → List (List A)
 with_items lists pin items = slice_set lists pin (get_or lists pin [] ++ items)
 
--- the event of an input that gets this bit
+-- the event that this input gets this bit
 abbrev pub event_of : ℕ → Bool → Event
 event_of pin bit = record { pin = pin; bit = bit }
 
--- there is a list for each of so many inputs, and it has what each item gives at that input
+-- there is a list for each of `count` inputs, and it has what each item gives at that input
 pub record AreParted {A B : Type 0} (given : ℕ → A → List B) (count : ℕ) (items : List A) (lists : List (List B)) : Type 0 where
   pub count_is : length lists ≡ count
   pub lists_are : (pin : ℕ) → pin < count → get_or lists pin [] ≡ flat_map (given pin) items

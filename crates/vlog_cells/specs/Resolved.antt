@@ -1,4 +1,4 @@
--- Items over cells: each operand is the cell that it stands for, where there are so many names of one bit and registers of 16 bits.
+-- Items over cells: each operand is a cell that is no alias. There are `bits` names of one bit and `words` registers of 16 bits.
 use Rattle.std.specs.Prelude.{ℕ, List, map}
 use Rattle.vlog_plan.specs.Cells.{operand_cell}
 use Rattle.vlog_plan.specs.declared.gates.Gate.{Gate}
@@ -73,6 +73,6 @@ resolved_write bits words roots write = record {
   bits = map (resolved bits words roots) write.bits;
 }
 
--- a wire over the cells that its inputs stand for
+-- a wire whose fan-in is cells that are no aliases
 abbrev pub resolved_gate : List ℕ → Gate → Gate
 resolved_gate roots gate = record { slot = gate.slot; ins = map (root roots) gate.ins; table = gate.table }

@@ -1,4 +1,4 @@
--- What there is of a circuit at the start.
+-- A circuit at the start.
 use Rattle.std.specs.Prelude.{◌≡◌, ◌<◌, ◌+◌, ◌*◌, ◌/◌, ◌≤◌, ℕ, Bool, List, [], get_or, length, map, true}
 use Rattle.vlog_cells.specs.Circuits.{IsCircuit}
 use Rattle.vlog_cells.specs.Lanes.{AreLanes, lane_bits, list_of}
@@ -10,7 +10,8 @@ use Rattle.vlog_plan.specs.Cells.{cells_of}
 use Rattle.vlog_plan.specs.declared.layout.Layout.{Layout}
 use Rattle.vlog_plan.specs.Steps.{operand_value}
 
--- the circuit is that of the layout, there is room, and the cells have these bits, the bits of these words, 0 and 1, and what wires make of them
+-- the circuit is that of the layout, there is enough room, and the cells have these bits, the bits of these words, 0 and 1; the wires are
+-- computed from these, and the asynchronous sets and resets are done
 pub record IsStarted {V : Type 0} (lanes : ℕ) (at : V → ℕ → Bool) (layout : Layout) (bits : List Bool) (words : List ℕ) (wires : Wires V) : Type 0 where
   pub circuit : IsCircuit layout.first_wire (length bits) (length words) layout.plan wires.circuit
   pub rising : length wires.circuit.rising.items ≡ layout.input_count
@@ -22,7 +23,7 @@ pub record IsStarted {V : Type 0} (lanes : ℕ) (at : V → ℕ → Bool) (layou
   pub settled : (lane count : ℕ) → lane < lanes → AreRising layout.first_wire count wires.circuit.gates.items → count ≤ length bits
       → IsSettled true layout.first_wire count wires.circuit.gates.items wires.circuit.settles.items (cells_of bits words) (lane_bits at lane wires.cells.items) wires.marks.items
 
--- and each lane has outputs, these words and these memories, and there is room for writes
+-- also, each lane has its outputs, these words and these memories, and there is enough room for writes
 pub record AreStarted {V : Type 0} (lanes : ℕ) (at : V → ℕ → Bool) (layout : Layout) (bits : List Bool) (words : List ℕ) (memories : List (List ℕ)) (made : Started V) : Type 0 where
   pub wires : IsStarted lanes at layout bits words made.wires
   pub outputs : (lane : ℕ) → lane < lanes → lane_bits at lane made.outputs.items ≡ map (operand_value (lane_bits at lane made.wires.cells.items) []) made.wires.circuit.outputs.items

@@ -1,4 +1,4 @@
-// A module that runs in so many lanes.
+// A module that runs in lanes.
 ghost use Rattle.std.specs.Prelude.{◌≡◌, ◌<◌, ◌≤◌, ◌+◌, ◌*◌, ◌/◌, ℕ, IfOk, false, get_or, is_some, length, map, not, true, vec_len, if◌then◌else◌};
 ghost use Rattle.std.specs.Option.{option_map};
 ghost use Rattle.vlog_cells.specs.Circuits.{IsCircuit};
@@ -18,24 +18,25 @@ use std::alloc::{AllocError, Global};
 use vlog_module::Module;
 use vlog_plan::{Event, Layout, Memory, Start, Written, lay_out, word_at, word_in};
 
-/// A module that runs in lanes, each over events of its own: what its names have after the start, and after each call.
+/// A module that runs in lanes, each over its own events. This is an event-driven simulation: an event computes only what its change can
+/// reach.
 ///
-/// All memory is taken when it is made.
+/// All memory is taken when a board is made.
 #[derive(Drop)]
 pub struct Board<V: Value> {
     layout: Layout,
     circuit: Circuit,
-    /// The bits of names, then those of words, 0 and 1. A wire that copies has no bits of its own.
+    /// The bits of names, then those of words, then 0 and 1. A wire that only copies has no cell of its own.
     cells: Vec<V>,
-    /// Marks on wires that may not have their values, 64 in a word.
+    /// Marks on wires that may be out of date, 64 in a word.
     marks: Vec<u64>,
-    /// The registers of 16 bits of each lane.
+    /// The registers of 16 bits, for each lane.
     words: Vec<Vec<u16>>,
     memories: Vec<Vec<Memory>>,
     outputs: Vec<V>,
-    /// Room for the registers of 16 bits of a lane.
+    /// Room for the next registers of 16 bits of a lane.
     next_words: Vec<u16>,
-    /// Room for what writes put in the memories of a lane.
+    /// Room for what writes write to the memories of a lane.
     written: Vec<Option<Written>>,
     /// Room for what an event changes.
     changes: Vec<Change<V>>,
@@ -62,7 +63,10 @@ impl<V: Value> Board<V> {
     ghost use Rattle.vlog_plan.specs.Named.{has_name, values_of};
     ghost use Rattle.vlog_plan.specs.Run.{followed, input_names, is_same_bit, start};
 
-    /// The module after the start in each lane: inputs are 0, registers and memories have their start values.
+    /// The module after the start, in each lane: inputs are 0, registers and memories have their start values.
+    ///
+    /// # Errors
+    /// `AllocError` if memory is out, and for no other cause.
     pub fn new(alloc: Global, module: &Module) -> Result<Board<V>, AllocError>
         ensures { IfOk result (λ board. (lane : ℕ) → lane < V.LANES → Shows board lane «module».now (start «module».now)) }
     {
@@ -102,8 +106,8 @@ impl<V: Value> Board<V> {
         })
     }
 
-    /// Gives an input a bit in some lanes: those that have a 1 in `active` get their bit of `bits`. The others get no event. The input is
-    /// named by its place among the inputs, in the order of the ports, from 0.
+    /// Gives an input a bit in some lanes. A lane that has a 1 in `active` gets its bit of `bits`; the other lanes get no event. `pin` is
+    /// the index of the input among the inputs, in the order of the ports, from 0.
     pub fn event(&mut self, pin: usize, active: V, bits: V)
         requires { pin < input_count self.old }
         ensures shows { (lane : ℕ) (m : Parts) (entry : Entry) → Shows self.old lane m entry
@@ -117,7 +121,7 @@ impl<V: Value> Board<V> {
         self.change(pin, bits, changed);
     }
 
-    /// Gives an input its other bit in some lanes.
+    /// Changes an input in the lanes that have a 1 in `changed`, where it becomes their bit of `bits`.
     fn change(&mut self, pin: usize, bits: V, changed: V)
         requires { pin < input_count self.old }
         ensures same { StaysLaidOut self.old self.new }
@@ -132,7 +136,7 @@ impl<V: Value> Board<V> {
         self.show(changed);
     }
 
-    /// Takes an event that changes its input in active lanes, up to the values of wires.
+    /// Runs the first half of an event that changes its input in active lanes: the clocked items, and then the input.
     fn clock(&mut self, event: Event, active: V)
         requires { event.pin < input_count self.old }
         ensures same { StaysLaidOut self.old self.new }
@@ -162,7 +166,7 @@ impl<V: Value> Board<V> {
         );
     }
 
-    /// Gives wires, and then registers that wires set at once, what they have in active lanes.
+    /// Computes the wires in active lanes, and then the asynchronous sets and resets of registers.
     fn settle(&mut self, active: V)
         ensures same { StaysLaidOut self.old self.new }
         ensures settled { (lane : ℕ) → lane < V.LANES → IsSettledIn (V.at active lane) lane self.old self.new }
@@ -176,7 +180,7 @@ impl<V: Value> Board<V> {
         );
     }
 
-    /// Gives outputs what they have in active lanes.
+    /// Gives the outputs their values in active lanes.
     fn show(&mut self, active: V)
         ensures same { StaysLaidOut self.old self.new }
         ensures shown { (lane : ℕ) → lane < V.LANES → IsShownIn (V.at active lane) lane self.old self.new }
@@ -204,7 +208,7 @@ impl<V: Value> Board<V> {
         &self.outputs
     }
 
-    /// The value of a register of one bit: none of another name.
+    /// The value of the register of one bit with this name, if there is one.
     pub fn register(&self, name: &[u8]) -> Option<V>
         ensures is { (lane : ℕ) (m : Parts) (entry : Entry) → Shows self.now lane m entry
             → option_map (λ value. V.at value lane) result ≡ value_in entry.registers name.now }
@@ -216,7 +220,7 @@ impl<V: Value> Board<V> {
         }
     }
 
-    /// The word of a register of 16 bits in a lane: none of another name.
+    /// The word of the register of 16 bits with this name, in a lane, if there is one.
     pub fn register_word(&self, lane: usize, name: &[u8]) -> Option<u16>
         requires { lane < V.LANES }
         ensures is { (m : Parts) (entry : Entry) → Shows self.now lane m entry → result ≡ value_in entry.words name.now }
@@ -228,7 +232,7 @@ impl<V: Value> Board<V> {
         }
     }
 
-    /// The word of a memory at an address in a lane: none of a name that is no memory.
+    /// The word at an address of the memory with this name, in a lane, if there is one.
     pub fn word(&self, lane: usize, memory: &[u8], address: u8) -> Option<u16>
         requires { lane < V.LANES }
         ensures is { (m : Parts) (entry : Entry) → Shows self.now lane m entry
@@ -248,14 +252,14 @@ impl<V: Value> Board<V> {
         part(&self.cells, 0, self.layout.input_count)
     }
 
-    /// The values of the registers of one bit, in the order of their declaration.
+    /// The values of the registers of one bit, in the order of their declarations.
     pub fn registers(&self) -> &[V]
         ensures { (lane : ℕ) (m : Parts) (entry : Entry) → Shows self.now lane m entry → lane_bits V.at lane result.now ≡ values_of entry.registers }
     {
         part(&self.cells, self.layout.input_count, self.layout.first_wire)
     }
 
-    /// The registers of 16 bits of a lane, in the order of their declaration.
+    /// The registers of 16 bits of a lane, in the order of their declarations.
     pub fn words(&self, lane: usize) -> &[u16]
         requires { lane < V.LANES }
         ensures is { result.now ≡ list_of lane self.now.words.items }
@@ -272,7 +276,7 @@ impl<V: Value> Board<V> {
         &self.memories[lane]
     }
 
-    /// Gives each place the value of a wire, in the order of their declaration. There have to be as many places as wires.
+    /// Copies the values of all wires, in the order of their declarations, to `wires`, which has to be as long.
     pub fn copy_wires(&self, wires: &mut [V])
         ensures { (lane : ℕ) (m : Parts) (entry : Entry) → Shows self.now lane m entry → length wires.old ≡ length (wire_names m.items)
             → lane_bits V.at lane wires.new ≡ values_of entry.wires }

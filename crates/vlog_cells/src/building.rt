@@ -8,7 +8,7 @@ use crate::roots::root;
 use std::alloc::{AllocError, Global};
 use vlog_plan::{Gate, Operand, Settle};
 
-/// Adds a wire that doesn't copy.
+/// Adds a wire, if it isn't an alias.
 fn push_gate(gates: &mut Vec<Gate>, roots: &[usize], gate: &Gate) -> Result<(), AllocError>
     ensures { OnOk result (gates.new.items ≡ gates.old.items ++ kept_gate roots.now gate.now) }
 {
@@ -18,7 +18,7 @@ fn push_gate(gates: &mut Vec<Gate>, roots: &[usize], gate: &Gate) -> Result<(), 
     Ok(())
 }
 
-/// The wires that don't copy.
+/// The wires that aren't aliases.
 pub(crate) fn gates_of(
     alloc: Global,
     roots: &[usize],
@@ -33,7 +33,7 @@ pub(crate) fn gates_of(
     Ok(kept)
 }
 
-/// The registers that wires set at once, by the wires' cells.
+/// The asynchronous sets and resets of registers, over cells that are no aliases.
 pub(crate) fn settles_of(
     alloc: Global,
     bits: usize,

@@ -1,4 +1,4 @@
-// Changes of cells, computed before any of them takes effect.
+// Changes of cells, all of which are computed before any of them takes effect.
 ghost use Rattle.std.specs.Prelude.{◌≡◌, ◌<◌, ◌≤◌, ◌+◌, ℕ, Bool, List, [], false, fold, length, not, take, true, if◌then◌else◌};
 ghost use Rattle.vlog_cells.specs.Changes.{change_slot, changed_by, step_in};
 ghost use Rattle.vlog_cells.specs.Lanes.{lane_bits};
@@ -21,21 +21,21 @@ pub(crate) struct Change<V> {
     pub(crate) value: V,
 }
 
-/// Whether a value has a 1 in no lane.
+/// Whether a value is 0 in every lane.
 pub(crate) fn is_none<V: Value>(value: V) -> bool
     ensures { result ≡ true → (lane : ℕ) → lane < V.LANES → V.at value lane ≡ false }
 {
     !value.differs(V::every(false))
 }
 
-/// In each lane whether both values have a 1 there.
+/// In each lane, whether both values have a 1 there.
 pub(crate) fn both<V: Value>(one: V, other: V) -> V
     ensures { (lane : ℕ) → lane < V.LANES → V.at result lane ≡ (if V.at one lane then V.at other lane else false) }
 {
     V::select(one, other, V::every(false))
 }
 
-/// The lanes in which an event gives an input another bit than it has.
+/// The active lanes in which an event changes its input.
 pub(crate) fn changed_lanes<V: Value>(active: V, bits: V, old: V) -> V
     ensures { (lane : ℕ) → lane < V.LANES → V.at result lane ≡ (if V.at active lane then not (is_same_bit (V.at bits lane) (V.at old lane)) else false) }
 {
@@ -43,7 +43,7 @@ pub(crate) fn changed_lanes<V: Value>(active: V, bits: V, old: V) -> V
     both(active, V::select(bits, other, old))
 }
 
-/// In each lane the bit of a table whose number four operands write, the lowest first.
+/// In each lane, the bit of a truth table at the index that four operands spell, the lowest bit first.
 fn operands_bit<V: Value>(cells: &[V], ins: &[Operand; 4], table: u16) -> V
     ensures { (lane : ℕ) → lane < V.LANES → V.at result lane ≡ bit_of table (operands_value (lane_bits V.at lane cells.now) [] ins.now) }
 {
@@ -52,14 +52,14 @@ fn operands_bit<V: Value>(cells: &[V], ins: &[Operand; 4], table: u16) -> V
     V::of_table(table, a, b, c, d)
 }
 
-/// The value of a table.
+/// The value of a LUT.
 fn table_at<V: Value>(cells: &[V], table: &Table) -> V
     ensures { (lane : ℕ) → lane < V.LANES → V.at result lane ≡ table_value (lane_bits V.at lane cells.now) [] table.now }
 {
     operands_bit(cells, &table.ins, table.word)
 }
 
-/// The next value of a register.
+/// The next value of a flip-flop's register, if the flip-flop is enabled.
 fn next_value<V: Value>(cells: &[V], flip: &Flip) -> V
     ensures { (lane : ℕ) → lane < V.LANES → V.at result lane ≡ (if operand_value (lane_bits V.at lane cells.now) [] flip.now.reset then flip.now.set
         else table_value (lane_bits V.at lane cells.now) [] flip.now.table) }
@@ -68,7 +68,7 @@ fn next_value<V: Value>(cells: &[V], flip: &Flip) -> V
     V::select(reset, V::every(flip.set), table_at(cells, &flip.table))
 }
 
-/// Notes a change in the place behind the first so many, where there is one, and tells how many are noted then.
+/// Notes a change, if there is one, after the first `count` changes, and returns how many are noted then.
 fn note<V: Value>(changes: &mut [Change<V>], count: usize, change: Option<Change<V>>) -> usize
     requires { count < length changes.old }
     ensures count { result ≤ count + 1 }
@@ -84,7 +84,7 @@ fn note<V: Value>(changes: &mut [Change<V>], count: usize, change: Option<Change
     }
 }
 
-/// What a flip-flop does at an event in active lanes: none where it does nothing.
+/// The change that a flip-flop makes at an event in active lanes, if it makes one.
 fn flip_change<V: Value>(flip: &Flip, event: Event, active: V, cells: &[V]) -> Option<Change<V>>
     ensures { (lane : ℕ) (next : List Bool) → lane < V.LANES
         → changed_by V.at lane next result ≡ step_in (V.at active lane) (flip_slot event (lane_bits V.at lane cells.now) []) next flip.now }
@@ -103,7 +103,7 @@ fn flip_change<V: Value>(flip: &Flip, event: Event, active: V, cells: &[V]) -> O
     })
 }
 
-/// Notes what flip-flops do at an event in active lanes, in the first places, and tells how many these are.
+/// Notes what flip-flops change at an event in active lanes, from the first entry on, and returns how many changes these are.
 pub(crate) fn note_flips<V: Value>(
     flips: &[Flip],
     event: Event,
@@ -123,7 +123,7 @@ pub(crate) fn note_flips<V: Value>(
     count
 }
 
-/// Which register a wire sets at once in active lanes: none where it sets none.
+/// The change that an asynchronous set or reset makes in active lanes, if it makes one.
 fn settle_change<V: Value>(settle: &Settle, active: V, cells: &[V]) -> Option<Change<V>>
     ensures { (lane : ℕ) (next : List Bool) → lane < V.LANES
         → changed_by V.at lane next result ≡ step_in (V.at active lane) (settle_slot (lane_bits V.at lane cells.now)) next settle.now }
@@ -139,7 +139,7 @@ fn settle_change<V: Value>(settle: &Settle, active: V, cells: &[V]) -> Option<Ch
     })
 }
 
-/// Notes which registers wires set at once in active lanes, in the first places, and tells how many these are.
+/// Notes what asynchronous sets and resets change in active lanes, from the first entry on, and returns how many changes these are.
 pub(crate) fn note_settles<V: Value>(
     settles: &[Settle],
     active: V,
@@ -158,7 +158,7 @@ pub(crate) fn note_settles<V: Value>(
     count
 }
 
-/// Gives a cell a value in some lanes, and marks the wires on which it bears where it changes.
+/// Gives a cell a value in some lanes, and marks the cell's fan-out if it changes.
 pub(crate) fn write_lanes<V: Value>(
     readers: &[Vec<usize>],
     change: Change<V>,
@@ -173,7 +173,7 @@ pub(crate) fn write_lanes<V: Value>(
     write(readers, change.cell, value, cells, marks);
 }
 
-/// Changes cells.
+/// Makes the changes that are noted.
 pub(crate) fn commit<V: Value>(
     readers: &[Vec<usize>],
     changes: &[Change<V>],

@@ -8,22 +8,22 @@ use crate::roots::roots_of;
 use std::alloc::{AllocError, Global};
 use vlog_plan::{Event, Gate, Layout, Operand, Settle};
 
-/// A module over cells: each name of one bit has one, then each bit of the registers of 16 bits, then 0 and 1.
+/// A module over cells: each name of one bit has a cell, then each bit of the registers of 16 bits, then 0 and 1.
 #[derive(Drop)]
 pub(crate) struct Circuit {
     /// How many names of one bit there are.
     pub(crate) bits: usize,
-    /// The cell that each cell stands for.
+    /// The root of each cell: the cell for which it is an alias, or the cell itself.
     pub(crate) roots: Vec<usize>,
-    /// The wires that don't copy, in the order of the text.
+    /// The wires that aren't aliases, in the order of the text, which is a topological order.
     pub(crate) gates: Vec<Gate>,
-    /// The wires on which each cell bears, by their places.
+    /// The fan-out of each cell, as indexes of wires; the wire whose cell it is counts too.
     pub(crate) readers: Vec<Vec<usize>>,
     pub(crate) settles: Vec<Settle>,
     pub(crate) outputs: Vec<Operand>,
-    /// What each input runs when it becomes 1.
+    /// What the rising edge of each input runs.
     pub(crate) rising: Vec<Group>,
-    /// What each input runs when it becomes 0.
+    /// What the falling edge of each input runs.
     pub(crate) falling: Vec<Group>,
 }
 
@@ -48,7 +48,7 @@ impl Circuit {
     }
 }
 
-/// The circuit of a layout with so many names of one bit and registers of 16 bits.
+/// The circuit of a layout with `bits` names of one bit and `words` registers of 16 bits.
 pub(crate) fn circuit_of(
     alloc: Global,
     layout: &Layout,

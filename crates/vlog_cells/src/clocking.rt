@@ -1,4 +1,4 @@
-// What an event does before wires get their values.
+// The first half of an event, before wires are computed.
 ghost use Rattle.std.specs.Prelude.{◌≡◌, ◌<◌, ◌≤◌, ◌+◌, ◌*◌, ℕ, List, length};
 ghost use Rattle.vlog_cells.specs.Lanes.{AreLanes, lane_bits, list_of};
 ghost use Rattle.vlog_cells.specs.Marks.{IsRead, IsTracked};
@@ -11,7 +11,7 @@ use crate::trigger::Trigger;
 use crate::value::Value;
 use vlog_plan::{Memory, Written};
 
-/// Takes an event that changes its input in active lanes. What the clocked items assign is computed before any of it takes effect.
+/// Runs an event that changes its input in active lanes. What the clocked items assign is computed before any of it takes effect.
 pub(crate) fn clock<V: Value>(
     trigger: &Trigger<V>,
     cells: &mut [V],

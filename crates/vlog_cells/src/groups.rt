@@ -1,4 +1,4 @@
-// What an event of a clock runs, apart from what other events run.
+// What each edge of an input runs: its sensitivity lists.
 ghost use Rattle.std.specs.Prelude.{◌≡◌, ◌<◌, ◌+◌, ◌*◌, ◌++◌, ◌^◌, [], ℕ, IfOk, OnOk, get_or, length, replicate};
 ghost use Rattle.vlog_cells.specs.Groups.{AreParted, IsGroup, event_of, flip_at, flips_in, read_at, reads_in, with_items, write_at, writes_in};
 ghost use Rattle.vlog_cells.specs.declared.groups.Group.{Group as group_of};
@@ -8,7 +8,7 @@ use crate::resolved::{resolved_flip, resolved_read, resolved_write};
 use std::alloc::{AllocError, Global};
 use vlog_plan::{Event, Flip, Plan, Read, Write, is_edge_of};
 
-/// The clocked items whose edge an event is, over cells.
+/// The clocked items that are sensitive to an event, over cells.
 #[derive(Drop)]
 pub(crate) struct Group {
     pub(crate) flips: Vec<Flip>,
@@ -19,7 +19,7 @@ pub(crate) struct Group {
 impl Group {
     ghost use Rattle.std.specs.Prelude.{◌≡◌, [], false};
 
-    /// Whether there are reads or writes.
+    /// Whether there are reads or writes of memories.
     pub(crate) fn has_ports(&self) -> bool
         ensures reads { result ≡ false → self.now.reads.items ≡ [] }
         ensures writes { result ≡ false → self.now.writes.items ≡ [] }
@@ -28,7 +28,7 @@ impl Group {
     }
 }
 
-/// A group that runs nothing for each of so many inputs. It takes no memory for what it may run.
+/// An empty group for each of this many inputs. It takes no memory for items yet.
 fn empty_groups(alloc: Global, pins: usize) -> Result<Vec<Group>, AllocError>
     ensures flips { IfOk result (λ groups. flips_in groups.items ≡ replicate pins []) }
     ensures reads { IfOk result (λ groups. reads_in groups.items ≡ replicate pins []) }
@@ -45,7 +45,7 @@ fn empty_groups(alloc: Global, pins: usize) -> Result<Vec<Group>, AllocError>
     Ok(groups)
 }
 
-/// Adds a flip-flop, where the event is its edge. One whose register isn't below the first wire does nothing.
+/// Adds a flip-flop, if it is sensitive to the event. A flip-flop whose register doesn't come before the first wire is left out.
 fn push_flip(
     flips: &mut Vec<Flip>,
     event: Event,
@@ -64,7 +64,7 @@ fn push_flip(
     Ok(())
 }
 
-/// Adds a flip-flop to the group of the input that clocks it, where that input has its edge when it gets this bit.
+/// Adds a flip-flop to the group of the input that clocks it, if it is sensitive to that input's change to this bit.
 fn add_flip(
     groups: &mut Vec<Group>,
     bit: bool,
@@ -96,7 +96,7 @@ fn add_flip(
     Ok(())
 }
 
-/// Adds the flip-flops, each to the group of the input that clocks it, where that input has its edge when it gets this bit.
+/// Adds each flip-flop to the group of the input that clocks it, if it is sensitive to that input's change to this bit.
 fn add_flips(
     groups: &mut Vec<Group>,
     bit: bool,
@@ -118,7 +118,7 @@ fn add_flips(
     Ok(())
 }
 
-/// Adds a read, where the event is its edge.
+/// Adds a read, if it is sensitive to the event.
 fn push_read(
     reads: &mut Vec<Read>,
     event: Event,
@@ -136,7 +136,7 @@ fn push_read(
     Ok(())
 }
 
-/// Adds a read to the group of the input that clocks it, where that input has its edge when it gets this bit.
+/// Adds a read to the group of the input that clocks it, if it is sensitive to that input's change to this bit.
 fn add_read(
     groups: &mut Vec<Group>,
     bit: bool,
@@ -159,7 +159,7 @@ fn add_read(
     Ok(())
 }
 
-/// Adds the reads, each to the group of the input that clocks it, where that input has its edge when it gets this bit.
+/// Adds each read to the group of the input that clocks it, if it is sensitive to that input's change to this bit.
 fn add_reads(
     groups: &mut Vec<Group>,
     bit: bool,
@@ -180,7 +180,7 @@ fn add_reads(
     Ok(())
 }
 
-/// Adds a write, where the event is its edge.
+/// Adds a write, if it is sensitive to the event.
 fn push_write(
     writes: &mut Vec<Write>,
     event: Event,
@@ -198,7 +198,7 @@ fn push_write(
     Ok(())
 }
 
-/// Adds a write to the group of the input that clocks it, where that input has its edge when it gets this bit.
+/// Adds a write to the group of the input that clocks it, if it is sensitive to that input's change to this bit.
 fn add_write(
     groups: &mut Vec<Group>,
     bit: bool,
@@ -221,7 +221,7 @@ fn add_write(
     Ok(())
 }
 
-/// Adds the writes, each to the group of the input that clocks it, where that input has its edge when it gets this bit.
+/// Adds each write to the group of the input that clocks it, if it is sensitive to that input's change to this bit.
 fn add_writes(
     groups: &mut Vec<Group>,
     bit: bool,
@@ -242,7 +242,7 @@ fn add_writes(
     Ok(())
 }
 
-/// What the events run that give one of the first so many inputs this bit.
+/// For each of this many inputs, what its change to this bit runs.
 pub(crate) fn groups_of(
     alloc: Global,
     pins: usize,

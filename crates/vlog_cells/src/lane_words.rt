@@ -1,4 +1,4 @@
-// Words with a bit for each of sixty-four lanes.
+// Words that are bit-parallel lanes: one bit for each of sixty-four lanes.
 ghost use Rattle.std.specs.Prelude.{◌≡◌, ◌<◌, ◌≤◌, ◌+◌, ◌==◌, ℕ, [], ◌∷◌, if◌then◌else◌};
 ghost use Rattle.vlog_plan.specs.Values.{bit_of, number_of};
 
@@ -10,7 +10,7 @@ pub(crate) fn lane_bit(word: u64, lane: u32) -> bool
     (word >> lane) & 1 == 1
 }
 
-/// In each lane the bit of the one word where the choice is 1, and of the other elsewhere.
+/// In each lane, the bit of `one` if the choice is 1, else that of `other`.
 pub(crate) fn one_of(choice: u64, one: u64, other: u64) -> u64
     ensures { (lane : ℕ) → bit_of result lane ≡ (if bit_of choice lane then bit_of one lane else bit_of other lane) }
 {
@@ -24,7 +24,7 @@ pub(crate) fn every(bit: bool) -> u64
     if bit { u64::MAX } else { 0 }
 }
 
-/// A word with a 1 in one lane alone.
+/// A word with a 1 in this lane alone.
 pub(crate) fn only(lane: u32) -> u64
     requires { lane < 64 }
     ensures { (other : ℕ) → bit_of result other ≡ (other == lane) }
@@ -32,7 +32,7 @@ pub(crate) fn only(lane: u32) -> u64
     1 << lane
 }
 
-/// A word with this bit in one lane, and its own in the others.
+/// A word with this bit in this lane, and its old bits in the others.
 pub(crate) fn with_bit(word: u64, lane: u32, bit: bool) -> u64
     requires { lane < 64 }
     ensures { (other : ℕ) → other < 64 → bit_of result other ≡ (if other == lane then bit else bit_of word other) }
@@ -40,7 +40,7 @@ pub(crate) fn with_bit(word: u64, lane: u32, bit: bool) -> u64
     one_of(only(lane), every(bit), word)
 }
 
-/// Bit `k` of a table.
+/// Bit `k` of a truth table.
 fn bit_of(table: u16, k: u32) -> bool
     requires { k < 16 }
     ensures { result ≡ bit_of table k }
@@ -48,7 +48,7 @@ fn bit_of(table: u16, k: u32) -> bool
     (table >> k) & 1 == 1
 }
 
-/// In each lane one of two bits of a table, from `k` on.
+/// In each lane, one of two bits of a truth table, from `k` on.
 fn of_two(table: u16, k: u32, a: u64) -> u64
     requires { k + 2 ≤ 16 }
     ensures { (lane : ℕ) → lane < 64 → bit_of result lane ≡ bit_of table (k + number_of (bit_of a lane ∷ [])) }
@@ -56,7 +56,7 @@ fn of_two(table: u16, k: u32, a: u64) -> u64
     one_of(a, every(bit_of(table, k + 1)), every(bit_of(table, k)))
 }
 
-/// In each lane one of four bits of a table, from `k` on.
+/// In each lane, one of four bits of a truth table, from `k` on.
 fn of_four(table: u16, k: u32, a: u64, b: u64) -> u64
     requires { k + 4 ≤ 16 }
     ensures { (lane : ℕ) → lane < 64 → bit_of result lane ≡ bit_of table (k + number_of (bit_of a lane ∷ bit_of b lane ∷ [])) }
@@ -64,7 +64,7 @@ fn of_four(table: u16, k: u32, a: u64, b: u64) -> u64
     one_of(b, of_two(table, k + 2, a), of_two(table, k, a))
 }
 
-/// In each lane one of eight bits of a table, from `k` on.
+/// In each lane, one of eight bits of a truth table, from `k` on.
 fn of_eight(table: u16, k: u32, a: u64, b: u64, c: u64) -> u64
     requires { k + 8 ≤ 16 }
     ensures { (lane : ℕ) → lane < 64 → bit_of result lane ≡ bit_of table (k + number_of (bit_of a lane ∷ bit_of b lane ∷ bit_of c lane ∷ [])) }
@@ -72,7 +72,7 @@ fn of_eight(table: u16, k: u32, a: u64, b: u64, c: u64) -> u64
     one_of(c, of_four(table, k + 4, a, b), of_four(table, k, a, b))
 }
 
-/// In each lane the bit of a table whose number four bits write, the lowest first.
+/// In each lane, the bit of a truth table at the index that four bits spell, the lowest bit first.
 pub(crate) fn of_table(table: u16, a: u64, b: u64, c: u64, d: u64) -> u64
     ensures { (lane : ℕ) → lane < 64 → bit_of result lane ≡ bit_of table (number_of (bit_of a lane ∷ bit_of b lane ∷ bit_of c lane ∷ bit_of d lane ∷ [])) }
 {

@@ -1,7 +1,7 @@
-//! A module over cells, of which an event computes only what its change can reach.
+//! The event-driven simulation of a module, in bit-parallel lanes: an event computes only what its change can reach.
 //!
-//! Each name of one bit and each bit of a register of 16 bits has a cell; a wire that copies has the cell of what it copies. A cell has
-//! a bit for each lane.
+//! Each name of one bit and each bit of a register of 16 bits has a cell; a wire that only copies is an alias of the cell that it copies. A
+//! cell has a bit for each lane.
 #![tactic(auto)]
 
 mod board;

@@ -1,4 +1,4 @@
-// Marks on wires whose cells may not have their values. A word has the marks of 64 wires, that of the first in its lowest bit.
+// Marks on wires that may be out of date. A word has the marks of 64 wires, that of the first wire in its lowest bit.
 ghost use Rattle.std.specs.Prelude.{◌≡◌, ◌≢◌, ◌<◌, ◌≤◌, ◌+◌, ◌*◌, ◌/◌, ◌||◌, ℕ, [], IfOk, List, get_or, length, slice_set, true, false};
 ghost use Rattle.vlog_cells.specs.Lanes.{lane_bits};
 ghost use Rattle.vlog_cells.specs.Marks.{IsRead, IsTracked, has, is_marked, lists_of};
@@ -10,7 +10,7 @@ use crate::reading::{cell_at, set_cell};
 use crate::value::Value;
 use std::alloc::{AllocError, Global};
 
-/// Sets the mark of a wire, where there is one, or takes it away.
+/// Sets or clears the mark of a wire, if there is such a wire.
 pub(crate) fn set_mark(marks: &mut [u64], place: usize, mark: bool)
     ensures own { place < 64 * length marks.old → is_marked marks.new place ≡ mark }
     ensures others { (other : ℕ) → other ≢ place → is_marked marks.new other ≡ is_marked marks.old other }
@@ -21,7 +21,7 @@ pub(crate) fn set_mark(marks: &mut [u64], place: usize, mark: bool)
     }
 }
 
-/// The first bit of a word from one on that is 1, and 64 where there is none; bit 0 is the lowest.
+/// The index of the first 1 in a word from this bit on, and 64 if there is none; bit 0 is the lowest.
 pub(crate) fn next_one(word: u64, from: u32) -> u32
     requires { from ≤ 64 }
     ensures past { from ≤ result }
@@ -37,7 +37,7 @@ pub(crate) fn next_one(word: u64, from: u32) -> u32
     }
 }
 
-/// Marks wires.
+/// Marks these wires.
 fn mark_all(places: &[usize], marks: &mut [u64])
     ensures { (place : ℕ) → place < 64 * length marks.old → is_marked marks.new place ≡ (has places.now place || is_marked marks.old place) }
 {
@@ -46,7 +46,7 @@ fn mark_all(places: &[usize], marks: &mut [u64])
     }
 }
 
-/// The wires on which a cell bears.
+/// The fan-out of a cell.
 fn readers_at(readers: &[Vec<usize>], cell: usize) -> &[usize]
     ensures { result.now ≡ get_or (lists_of readers.now) cell [] }
 {
@@ -57,7 +57,7 @@ fn readers_at(readers: &[Vec<usize>], cell: usize) -> &[usize]
     }
 }
 
-/// Gives a cell a value, and where this is another one marks the wires on which the cell bears.
+/// Gives a cell a value, and marks the cell's fan-out if the value is new.
 pub(crate) fn write<V: Value>(
     readers: &[Vec<usize>],
     cell: usize,
@@ -75,7 +75,7 @@ pub(crate) fn write<V: Value>(
     }
 }
 
-/// Marks on so many wires, all of them set.
+/// Marks for this many wires, all of them set.
 pub(crate) fn marks_of(alloc: Global, count: usize) -> Result<Vec<u64>, AllocError>
     ensures room { IfOk result (λ marks. length marks.items ≡ count / 64 + 1) }
     ensures marks { IfOk result (λ marks. (place : ℕ) → place < 64 * length marks.items → is_marked marks.items place ≡ true) }

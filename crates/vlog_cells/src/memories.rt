@@ -1,4 +1,4 @@
-// What reads and writes of memories do in a lane.
+// Reads and writes of memories, in a lane.
 ghost use Rattle.std.specs.Prelude.{◌≡◌, ◌<◌, ◌≤◌, [], fold, length, map, slice_set};
 ghost use Rattle.vlog_cells.specs.Lanes.{lane_bits};
 ghost use Rattle.vlog_plan.specs.Run.{masked, moved_down, moved_up};
@@ -12,7 +12,7 @@ use vlog_plan::{
     is_edge_of, word_in,
 };
 
-/// Whether a port of a memory acts.
+/// Whether a port of a memory acts at an event.
 fn is_acting<V: Value>(port: &MemoryPort, event: Event, cells: &[V], lane: u32) -> bool
     requires { lane < V.LANES }
     ensures { result ≡ is_acting event (lane_bits V.at lane cells.now) [] port.now }
@@ -22,7 +22,7 @@ fn is_acting<V: Value>(port: &MemoryPort, event: Event, cells: &[V], lane: u32) 
         && operand_bit(cells, lane, port.enable)
 }
 
-/// The address that eight operands write.
+/// The address that eight operands spell.
 fn address_of<V: Value>(cells: &[V], lane: u32, address: &[Operand; 8]) -> u8
     requires { lane < V.LANES }
     ensures { result ≡ operands_value (lane_bits V.at lane cells.now) [] address.now }
@@ -30,7 +30,7 @@ fn address_of<V: Value>(cells: &[V], lane: u32, address: &[Operand; 8]) -> u8
     number(cells, lane, address) as u8
 }
 
-/// How far a field is moved up.
+/// How far a field is shifted up.
 fn shift_of<V: Value>(cells: &[V], lane: u32, field: &Field) -> u32
     requires { lane < V.LANES }
     ensures is { result ≡ operands_value (lane_bits V.at lane cells.now) [] field.now.shift }
@@ -39,7 +39,7 @@ fn shift_of<V: Value>(cells: &[V], lane: u32, field: &Field) -> u32
     number(cells, lane, &field.shift)
 }
 
-/// A word that is moved down, and of which the bits of a pattern stay.
+/// A word that is shifted down and masked by a pattern.
 fn moved_down(word: u16, shift: u32, pattern: u16) -> u16
     requires { shift < 8 }
     ensures { result ≡ moved_down word shift pattern }
@@ -47,7 +47,7 @@ fn moved_down(word: u16, shift: u32, pattern: u16) -> u16
     (word >> shift) & pattern
 }
 
-/// A pattern that is moved up.
+/// A pattern that is shifted up.
 fn moved_up(pattern: u16, shift: u32) -> u16
     requires { shift < 8 }
     ensures { result ≡ moved_up pattern shift }
@@ -66,7 +66,7 @@ fn taken_word<V: Value>(cells: &[V], lane: u32, taken: &Taken, word: u16) -> u16
     }
 }
 
-/// Gives the word of a slot, where there is such a slot.
+/// Sets the word in a slot, if there is such a slot.
 fn set_word_at(words: &mut [u16], slot: usize, word: u16)
     ensures { words.new ≡ slice_set words.old slot word }
 {
@@ -75,7 +75,7 @@ fn set_word_at(words: &mut [u16], slot: usize, word: u16)
     }
 }
 
-/// Gives the registers of reads that act what they take of memories.
+/// Does the reads: gives their registers what they take of memories, if their ports act.
 fn run_reads<V: Value>(
     reads: &[Read],
     event: Event,
@@ -100,7 +100,7 @@ fn run_reads<V: Value>(
     }
 }
 
-/// The word that sixteen operands write.
+/// The word that sixteen operands spell.
 fn word_of<V: Value>(cells: &[V], lane: u32, operands: &[Operand; 16]) -> u16
     requires { lane < V.LANES }
     ensures { result ≡ operands_value (lane_bits V.at lane cells.now) [] operands.now }
@@ -108,14 +108,14 @@ fn word_of<V: Value>(cells: &[V], lane: u32, operands: &[Operand; 16]) -> u16
     number(cells, lane, operands) as u16
 }
 
-/// A word whose bits stay where the mask is 1, and are new elsewhere.
+/// A word that is written under a mask, where a bit that is 1 keeps the old bit.
 fn masked(word: u16, mask: u16, bits: u16) -> u16
     ensures { result ≡ masked word mask bits }
 {
     (word & mask) | (bits & !mask)
 }
 
-/// The mask of what stays of a word.
+/// The mask of the bits of a word that a write leaves as they are.
 fn kept_mask<V: Value>(cells: &[V], lane: u32, kept: &Kept) -> u16
     requires { lane < V.LANES }
     ensures { result ≡ kept_mask (lane_bits V.at lane cells.now) [] kept.now }
@@ -126,7 +126,7 @@ fn kept_mask<V: Value>(cells: &[V], lane: u32, kept: &Kept) -> u16
     }
 }
 
-/// The word that a write puts in its place, where it acts.
+/// The word that a write writes, if its port acts.
 fn written_by<V: Value>(
     write: &Write,
     event: Event,
@@ -153,7 +153,7 @@ fn written_by<V: Value>(
     }
 }
 
-/// Notes what a write does.
+/// Notes what a write writes.
 fn note(written: &mut [Option<Written>], place: usize, found: Option<Written>)
     ensures { written.new ≡ slice_set written.old place found }
 {
@@ -162,7 +162,7 @@ fn note(written: &mut [Option<Written>], place: usize, found: Option<Written>)
     }
 }
 
-/// Notes what each write does.
+/// Notes what each write writes.
 fn prepare_writes<V: Value>(
     writes: &[Write],
     event: Event,
@@ -180,7 +180,7 @@ fn prepare_writes<V: Value>(
     }
 }
 
-/// Puts a word in a memory, where there is such a memory.
+/// Writes a word to a memory, if there is such a memory.
 fn set_word(memories: &mut [Memory], memory: usize, address: u8, word: u16)
     ensures { memories.new ≡ set_word memories.old memory address word }
 {
@@ -189,7 +189,7 @@ fn set_word(memories: &mut [Memory], memory: usize, address: u8, word: u16)
     }
 }
 
-/// Puts a word in its place, where there is one.
+/// Writes the word of a write, if there is one.
 fn put_written(memories: &mut [Memory], found: Option<Written>)
     ensures { memories.new ≡ put_written memories.old found }
 {
@@ -199,7 +199,7 @@ fn put_written(memories: &mut [Memory], found: Option<Written>)
     }
 }
 
-/// Puts the words of writes in their places.
+/// Writes the words that are noted.
 fn run_writes(written: &[Option<Written>], memories: &mut [Memory])
     ensures { memories.new ≡ fold put_written memories.old written.now }
 {
@@ -208,7 +208,7 @@ fn run_writes(written: &[Option<Written>], memories: &mut [Memory])
     }
 }
 
-/// Gives memories what writes put in them, and computes the next words of registers, in a lane.
+/// Does the writes of a lane, and computes the next words of its registers. Reads take the words from before the writes.
 pub(crate) fn run_memories<V: Value>(
     group: &Group,
     event: Event,

@@ -1,4 +1,4 @@
-// What outputs have.
+// The values of outputs.
 ghost use Rattle.std.specs.Prelude.{◌≡◌, ◌<◌, ℕ, [], IfOk, length, map, if◌then◌else◌};
 ghost use Rattle.vlog_cells.specs.Lanes.{lane_bits};
 ghost use Rattle.vlog_plan.specs.Steps.{operand_value};
@@ -29,7 +29,7 @@ pub(crate) fn write_outputs<V: Value>(
     }
 }
 
-/// The outputs in all lanes.
+/// The values of the outputs in all lanes, at the start.
 pub(crate) fn first_outputs<V: Value>(
     alloc: Global,
     operands: &[Operand],

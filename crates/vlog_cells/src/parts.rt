@@ -1,4 +1,4 @@
-// The bits of registers of 16 bits in their cells.
+// The bits of registers of 16 bits, in their cells.
 ghost use Rattle.std.specs.Prelude.{◌≡◌, ◌≢◌, ◌<◌, ◌≤◌, ◌+◌, ◌*◌, ◌^◌, ℕ, List, false, get_or, length};
 ghost use Rattle.vlog_cells.specs.Changes.{with_word};
 ghost use Rattle.vlog_cells.specs.Lanes.{lane_bits};
@@ -13,14 +13,14 @@ use crate::reading::{cell_at, set_cell};
 use crate::value::Value;
 use vlog_plan::{bit_of, copy_bits, set_bit, word_at};
 
-/// The bit of a word at its place.
+/// The bit of words at an index: bit k of word w has the index 16 w + k.
 fn part_at(words: &[u16], place: usize) -> bool
     ensures { result ≡ part_at words.now place }
 {
     bit_of(word_at(words, place / 16), (place % 16) as u32)
 }
 
-/// Puts the bits of words in their places.
+/// Writes the bits of words, in order.
 fn fill_parts(words: &[u16], parts: &mut [bool])
     ensures { parts.new ≡ parts_below words.now (length parts.old) }
 {
@@ -30,7 +30,7 @@ fn fill_parts(words: &[u16], parts: &mut [bool])
     }
 }
 
-/// Puts bits, the bits of words, 0 and 1 in their cells.
+/// Writes bits, the bits of words, 0 and 1 to their cells.
 pub(crate) fn fill_cells(bits: &[bool], words: &[u16], cells: &mut [bool])
     requires { length cells.old ≡ length bits.now + 16 * length words.now + 2 }
     ensures { cells.new ≡ cells_of bits.now words.now }
@@ -42,7 +42,7 @@ pub(crate) fn fill_cells(bits: &[bool], words: &[u16], cells: &mut [bool])
     copy_bits(&[false, true], constants);
 }
 
-/// Gives each place the value of a cell: that of the first cell to the first place, and so on.
+/// Copies to each entry of `shown` the value of its root.
 pub(crate) fn show_cells<V: Value>(roots: &[usize], cells: &[V], shown: &mut [V])
     ensures { length shown.old ≡ length roots.now → (lane : ℕ) → lane < V.LANES → lane_bits V.at lane shown.new ≡ shown_by roots.now (lane_bits V.at lane cells.now) }
 {
@@ -52,7 +52,7 @@ pub(crate) fn show_cells<V: Value>(roots: &[usize], cells: &[V], shown: &mut [V]
     }
 }
 
-/// Gives the sixteen cells from one on the bits of a word, in a lane.
+/// Writes the bits of a word to the sixteen cells from one on, in a lane.
 fn write_word<V: Value>(
     readers: &[Vec<usize>],
     from: usize,
@@ -78,7 +78,7 @@ fn write_word<V: Value>(
     }
 }
 
-/// Gives the sixteen cells from one on, which have the bits of a word in a lane, those of another.
+/// Writes the bits of a word to the sixteen cells from one on, in a lane. These have the bits of the word from before.
 fn exchange_word<V: Value>(
     readers: &[Vec<usize>],
     from: usize,
@@ -102,7 +102,7 @@ fn exchange_word<V: Value>(
     }
 }
 
-/// Gives the cells from one on, which have the bits of words in a lane, those of as many others.
+/// Writes the bits of words to the cells from one on, in a lane. These have the bits of the words from before.
 pub(crate) fn write_words<V: Value>(
     readers: &[Vec<usize>],
     from: usize,

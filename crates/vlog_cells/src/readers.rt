@@ -1,11 +1,11 @@
-// Which wires a cell bears on: those that read it, and the one that has it.
+// The fan-out of cells: for each cell, the wires that read it, and the wire whose cell it is.
 ghost use Rattle.std.specs.Prelude.{◌≡◌, [], IfOk, OnOk, fold, replicate};
 ghost use Rattle.vlog_cells.specs.Marks.{AreWithin, IsRead, lists_of, with_gate, with_reader};
 
 use std::alloc::{AllocError, Global};
 use vlog_plan::Gate;
 
-/// An empty list for each of so many cells. They take no memory yet.
+/// An empty list for each of this many cells. They take no memory yet.
 fn no_readers(alloc: Global, count: usize) -> Result<Vec<Vec<usize>>, AllocError>
     ensures { IfOk result (λ readers. lists_of readers.items ≡ replicate count []) }
 {
@@ -26,7 +26,7 @@ fn add_reader(readers: &mut Vec<Vec<usize>>, cell: usize, place: usize) -> Resul
     Ok(())
 }
 
-/// Adds a wire to the lists of cells.
+/// Adds a wire to the lists of these cells.
 fn add_readers(
     readers: &mut Vec<Vec<usize>>,
     cells: &[usize],
@@ -40,7 +40,7 @@ fn add_readers(
     Ok(())
 }
 
-/// Adds a wire to the lists of the cells that bear on it.
+/// Adds a wire to the lists of its cell and of its fan-in.
 fn add_gate(readers: &mut Vec<Vec<usize>>, place: usize, gate: &Gate) -> Result<(), AllocError>
     ensures { OnOk result (lists_of readers.new.items ≡ with_gate place (lists_of readers.old.items) gate.now) }
 {
@@ -48,7 +48,7 @@ fn add_gate(readers: &mut Vec<Vec<usize>>, place: usize, gate: &Gate) -> Result<
     add_reader(readers, gate.slot, place)
 }
 
-/// The wires on which each of so many cells bears.
+/// The fan-out of each of this many cells.
 pub(crate) fn readers_of(
     alloc: Global,
     count: usize,

@@ -1,4 +1,4 @@
-// What items read of cells.
+// The values of cells that items read.
 ghost use Rattle.std.specs.Prelude.{◌≡◌, ◌<◌, ◌≤◌, ◌^◌, ℕ, [], drop, false, get_or, length, slice_set, take};
 ghost use Rattle.vlog_cells.specs.Lanes.{lane_bits};
 ghost use Rattle.vlog_plan.specs.Steps.{operand_value, operands_value};
@@ -6,7 +6,7 @@ ghost use Rattle.vlog_plan.specs.Steps.{operand_value, operands_value};
 use crate::value::Value;
 use vlog_plan::Operand;
 
-/// The value of a cell, and 0 past the last.
+/// The value of a cell, and 0 past the last cell.
 pub(crate) fn cell_at<V: Value>(cells: &[V], cell: usize) -> V
     ensures is { result ≡ get_or cells.now cell result }
     ensures bits { (lane : ℕ) → lane < V.LANES → V.at result lane ≡ get_or (lane_bits V.at lane cells.now) cell false }
@@ -18,7 +18,7 @@ pub(crate) fn cell_at<V: Value>(cells: &[V], cell: usize) -> V
     }
 }
 
-/// Gives a cell a value, where there is such a cell.
+/// Sets the value of a cell, if there is such a cell.
 pub(crate) fn set_cell<V: Value>(cells: &mut [V], cell: usize, value: V)
     ensures { cells.new ≡ slice_set cells.old cell value }
 {
@@ -27,7 +27,7 @@ pub(crate) fn set_cell<V: Value>(cells: &mut [V], cell: usize, value: V)
     }
 }
 
-/// The value of an operand, which is a cell or a constant.
+/// The value of an operand: a cell or a constant.
 pub(crate) fn operand_at<V: Value>(cells: &[V], operand: Operand) -> V
     ensures { (lane : ℕ) → lane < V.LANES → V.at result lane ≡ operand_value (lane_bits V.at lane cells.now) [] operand }
 {
@@ -46,7 +46,7 @@ pub(crate) fn operand_bit<V: Value>(cells: &[V], lane: u32, operand: Operand) ->
     operand_at(cells, operand).bit(lane)
 }
 
-/// The number that operands write in a lane, the lowest bit first.
+/// The number that operands spell in a lane, the lowest bit first.
 pub(crate) fn number<V: Value>(cells: &[V], lane: u32, operands: &[Operand]) -> u32
     requires few { length operands.now ≤ 16 }
     requires within { lane < V.LANES }
@@ -61,7 +61,7 @@ pub(crate) fn number<V: Value>(cells: &[V], lane: u32, operands: &[Operand]) -> 
     number
 }
 
-/// What stands from one place to another, where there are so many.
+/// The elements from one index up to another; none if the list is too short.
 pub(crate) fn part<T>(items: &[T], from: usize, end: usize) -> &[T]
     ensures { from ≤ end → end ≤ length items.now → result.now ≡ drop from (take end items.now) }
 {

@@ -1,4 +1,4 @@
-// Items over cells: each operand is the cell that it stands for. There are `bits` names of one bit and `words` registers of 16 bits.
+// Items over cells: each operand is a cell that is no alias. There are `bits` names of one bit and `words` registers of 16 bits.
 ghost use Rattle.std.specs.Prelude.{◌≡◌, ◌<◌, ◌+◌, ◌*◌, ◌^◌, IfOk, map};
 ghost use Rattle.vlog_cells.specs.Resolved.{cell_of, resolved, resolved_field, resolved_flip, resolved_gate, resolved_kept, resolved_port, resolved_read, resolved_settle, resolved_table, resolved_taken, resolved_write};
 
@@ -7,7 +7,7 @@ use vlog_plan::{
     Field, Flip, Gate, Kept, MemoryPort, Operand, Read, Settle, Table, Taken, Write, operand_cell,
 };
 
-/// The cell of an operand.
+/// The cell of an operand: the root of its own cell.
 fn cell_of(bits: usize, words: usize, roots: &[usize], operand: Operand) -> usize
     requires { bits + 16 * words + 2 < 2 ^ 64 }
     ensures { result ≡ cell_of bits words roots.now operand }
@@ -23,7 +23,7 @@ pub(crate) fn resolved(bits: usize, words: usize, roots: &[usize], operand: Oper
     Operand::Slot(cell_of(bits, words, roots, operand))
 }
 
-/// So many operands as cells.
+/// A list of operands as cells.
 fn resolved_all<const N: usize>(
     bits: usize,
     words: usize,
@@ -40,7 +40,7 @@ fn resolved_all<const N: usize>(
     cells
 }
 
-/// A table over cells.
+/// A LUT over cells.
 fn resolved_table(bits: usize, words: usize, roots: &[usize], table: &Table) -> Table
     requires { bits + 16 * words + 2 < 2 ^ 64 }
     ensures { result ≡ resolved_table bits words roots.now table.now }
@@ -66,7 +66,7 @@ pub(crate) fn resolved_flip(bits: usize, words: usize, roots: &[usize], flip: &F
     }
 }
 
-/// A register that a wire sets at once, by the wire's cell.
+/// The asynchronous set or reset of a register, over cells.
 pub(crate) fn resolved_settle(bits: usize, words: usize, roots: &[usize], settle: &Settle) -> Settle
     requires { bits + 16 * words + 2 < 2 ^ 64 }
     ensures { result ≡ resolved_settle bits words roots.now settle.now }
@@ -126,7 +126,7 @@ pub(crate) fn resolved_read(bits: usize, words: usize, roots: &[usize], read: &R
     }
 }
 
-/// What stays of a word, over cells.
+/// Which bits a write leaves as they are, over cells.
 fn resolved_kept(bits: usize, words: usize, roots: &[usize], kept: &Kept) -> Kept
     requires { bits + 16 * words + 2 < 2 ^ 64 }
     ensures { result ≡ resolved_kept bits words roots.now kept.now }
@@ -149,7 +149,7 @@ pub(crate) fn resolved_write(bits: usize, words: usize, roots: &[usize], write: 
     }
 }
 
-/// A wire over the cells that its inputs stand for.
+/// A wire whose fan-in is cells that are no aliases.
 pub(crate) fn resolved_gate(roots: &[usize], gate: &Gate) -> Gate
     ensures { result ≡ resolved_gate roots.now gate.now }
 {

@@ -1,11 +1,11 @@
-// The cell of each name: a wire that copies has the cell of what it copies.
+// The root of each cell: a wire that only copies is an alias of the cell that it copies.
 ghost use Rattle.std.specs.Prelude.{◌≡◌, IfOk, fold, slice_set};
 ghost use Rattle.vlog_cells.specs.Roots.{copied, first_roots, held_by, root, root_step, roots_of};
 
 use std::alloc::{AllocError, Global};
 use vlog_plan::{Gate, Settle, bit_at, set_bit};
 
-/// The cell that a cell stands for.
+/// The root of a cell.
 pub(crate) fn root(roots: &[usize], cell: usize) -> usize
     ensures { result ≡ root roots.now cell }
 {
@@ -15,7 +15,7 @@ pub(crate) fn root(roots: &[usize], cell: usize) -> usize
     }
 }
 
-/// The cell that a wire copies, where it does.
+/// The cell that a wire copies, if it only copies.
 fn copied(zero: usize, gate: &Gate) -> Option<usize>
     ensures { result ≡ copied zero gate.now }
 {
@@ -27,7 +27,7 @@ fn copied(zero: usize, gate: &Gate) -> Option<usize>
     }
 }
 
-/// Gives a cell the cell that it stands for.
+/// Sets the root of a cell.
 fn set_root(roots: &mut [usize], cell: usize, root: usize)
     ensures { roots.new ≡ slice_set roots.old cell root }
 {
@@ -36,7 +36,7 @@ fn set_root(roots: &mut [usize], cell: usize, root: usize)
     }
 }
 
-/// Lets a wire that copies have the cell of what it copies. A cell that is held isn't shared.
+/// Makes a wire that only copies an alias of the cell that it copies, unless that cell is held.
 fn join(zero: usize, held: &[bool], roots: &mut [usize], gate: &Gate)
     ensures { roots.new ≡ root_step zero held.now roots.old gate.now }
 {
@@ -51,7 +51,7 @@ fn join(zero: usize, held: &[bool], roots: &mut [usize], gate: &Gate)
     }
 }
 
-/// Joins wires, one after the other.
+/// Does so for all wires, one after another.
 fn join_all(zero: usize, held: &[bool], roots: &mut [usize], gates: &[Gate])
     ensures { roots.new ≡ fold (root_step zero held.now) roots.old gates.now }
 {
@@ -60,7 +60,7 @@ fn join_all(zero: usize, held: &[bool], roots: &mut [usize], gates: &[Gate])
     }
 }
 
-/// Each cell stands for itself.
+/// Each cell is its own root.
 fn first_roots(alloc: Global, count: usize) -> Result<Vec<usize>, AllocError>
     ensures { IfOk result (λ roots. roots.items ≡ first_roots count) }
 {
@@ -71,7 +71,7 @@ fn first_roots(alloc: Global, count: usize) -> Result<Vec<usize>, AllocError>
     Ok(roots)
 }
 
-/// Holds the registers that wires set at once.
+/// Holds the registers with an asynchronous set or reset: they get no aliases.
 fn hold(settles: &[Settle], held: &mut [bool])
     ensures { held.new ≡ held_by held.old settles.now }
 {
@@ -80,8 +80,8 @@ fn hold(settles: &[Settle], held: &mut [bool])
     }
 }
 
-/// The cell that each of so many cells stands for. Wires that copy a register that is set at once keep cells of their own, since they
-/// have its bit from before.
+/// The root of each of `count` cells. A wire that copies a register with an asynchronous set or reset keeps a cell of its own, since it has
+/// the register's bit from before the set or reset.
 pub(crate) fn roots_of(
     alloc: Global,
     count: usize,

@@ -1,4 +1,4 @@
-// The wires get their values, then the registers that wires set at once.
+// The second half of an event: the wires, then the asynchronous sets and resets of registers.
 ghost use Rattle.std.specs.Prelude.{◌≡◌, ◌<◌, ◌≤◌, ◌+◌, ◌/◌, ℕ, false, length};
 ghost use Rattle.vlog_cells.specs.Lanes.{lane_bits};
 ghost use Rattle.vlog_cells.specs.Marks.{AreRising, IsRead, IsTracked};
@@ -9,8 +9,8 @@ use crate::circuit::Circuit;
 use crate::sweep::run_gates;
 use crate::value::Value;
 
-/// Gives the marked wires their values in active lanes, and then registers that wires set at once their bits. These mark wires for the
-/// next time.
+/// Computes the marked wires in active lanes, and then the asynchronous sets and resets of registers. These mark their fan-out for the next
+/// event.
 pub(crate) fn settle<V: Value>(
     circuit: &Circuit,
     active: V,

@@ -1,4 +1,4 @@
-// What stands in cells at the start, the same in all lanes, and room for what an event changes.
+// The cells at the start, which are the same in all lanes, and room for what an event changes.
 ghost use Rattle.std.specs.Prelude.{◌≡◌, ◌<◌, ◌≤◌, ◌+◌, ◌*◌, ◌/◌, ℕ, IfOk, false, get_or, length, map, replicate, true};
 ghost use Rattle.vlog_cells.specs.Lanes.{lane_bits};
 ghost use Rattle.vlog_cells.specs.Marks.{AreRising, IsRead, is_marked};
@@ -25,7 +25,7 @@ pub(crate) struct Wires<V: Value> {
     pub(crate) changes: Vec<Change<V>>,
 }
 
-/// What lanes have at the start, and room for what writes put in the memories of a lane.
+/// The state of all lanes at the start, and room for what writes write to the memories of a lane.
 #[derive(Drop)]
 pub(crate) struct Started<V: Value> {
     pub(crate) wires: Wires<V>,
@@ -37,7 +37,7 @@ pub(crate) struct Started<V: Value> {
 
 ghost use Rattle.vlog_cells.specs.Starting.{AreStarted, IsStarted};
 
-/// A list of its own for each of so many lanes.
+/// A copy of a list for each lane.
 pub(crate) fn copies<T: Copy + Drop>(
     alloc: Global,
     list: &[T],
@@ -52,7 +52,7 @@ pub(crate) fn copies<T: Copy + Drop>(
     Ok(lists)
 }
 
-/// Gives values bits that are the same in all lanes.
+/// Sets values to bits, the same in all lanes.
 fn fill<V: Value>(bits: &[bool], values: &mut [V])
     requires { length values.old ≡ length bits.now }
     ensures { (lane : ℕ) → lane < V.LANES → lane_bits V.at lane values.new ≡ bits.now }
@@ -72,7 +72,7 @@ pub(crate) fn spread<V: Value>(alloc: Global, bits: &[bool]) -> Result<Vec<V>, A
     Ok(values)
 }
 
-/// Cells with these bits, the bits of words, 0 and 1 in each lane, where there is room for one lane.
+/// Cells with these bits, the bits of words, 0 and 1 in each lane. `room` has room for the cells of one lane.
 fn first_cells<V: Value>(
     alloc: Global,
     bits: &[bool],
@@ -88,7 +88,7 @@ fn first_cells<V: Value>(
     spread(alloc, &room)
 }
 
-/// Room for so many flip-flops, and for so many registers that wires set at once.
+/// Room for the changes of all flip-flops, or of all asynchronous sets and resets.
 fn changes_room<V: Value>(
     alloc: Global,
     flips: usize,
@@ -105,7 +105,7 @@ fn changes_room<V: Value>(
     vec![in alloc; none; flips.max(settles)]
 }
 
-/// Gives the wires their values, all of which are marked.
+/// Computes all wires, which are all marked.
 fn settle_first<V: Value>(
     circuit: &Circuit,
     cells: &mut [V],
@@ -121,7 +121,7 @@ fn settle_first<V: Value>(
     settle(circuit, V::every(true), cells, marks, changes);
 }
 
-/// The circuit of a layout with these bits and words, where there is room for the cells of one lane. Its wires have their values.
+/// The circuit of a layout with these bits and words, its wires computed. `room` has room for the cells of one lane.
 pub(crate) fn wires_of<V: Value>(
     alloc: Global,
     layout: &Layout,
@@ -146,7 +146,7 @@ pub(crate) fn wires_of<V: Value>(
     })
 }
 
-/// What so many lanes have at the start, which have these bits, words and memories, where there is room for the cells of one lane.
+/// The state of all lanes at the start, with these bits, words and memories. `room` has room for the cells of one lane.
 pub(crate) fn started_of<V: Value>(
     alloc: Global,
     layout: &Layout,

@@ -11,7 +11,7 @@ use crate::trigger::Trigger;
 use crate::value::Value;
 use vlog_plan::{Memory, Written, copy_words};
 
-/// Gives the registers of 16 bits and the memories of a lane, and the cells of the registers, what they have after an event.
+/// Runs the reads and writes of an event in a lane: registers of 16 bits, their cells, and memories.
 fn store<V: Value>(
     trigger: &Trigger<V>,
     lane: u32,
@@ -47,7 +47,7 @@ fn store<V: Value>(
     copy_words(next_words, words);
 }
 
-/// Takes an event in a lane, where it is active.
+/// Runs the reads and writes of an event in a lane, if it is active.
 fn store_lane<V: Value>(
     trigger: &Trigger<V>,
     lane: u32,
@@ -87,7 +87,7 @@ fn store_lane<V: Value>(
     }
 }
 
-/// Takes an event in each active lane.
+/// Runs the reads and writes of an event in each active lane.
 fn store_lanes<V: Value>(
     trigger: &Trigger<V>,
     cells: &mut [V],
@@ -114,7 +114,7 @@ fn store_lanes<V: Value>(
     }
 }
 
-/// Gives registers of 16 bits and memories what they have after an event in active lanes, where the event runs any reads or writes.
+/// Runs the reads and writes of an event in each active lane, if the event has any.
 pub(crate) fn store_all<V: Value>(
     trigger: &Trigger<V>,
     cells: &mut [V],

@@ -1,4 +1,4 @@
-// The values of marked wires, in the order of the text.
+// Computes marked wires, in the order of the text.
 ghost use Rattle.std.specs.Prelude.{◌≡◌, ◌<◌, ◌≤◌, ◌+◌, ◌*◌, ◌/◌, ℕ, false, length, map};
 ghost use Rattle.vlog_cells.specs.Lanes.{lane_bits};
 ghost use Rattle.vlog_cells.specs.Marks.{AreRising, IsRead, IsSwept, IsTracked, StaySources};
@@ -10,7 +10,7 @@ use crate::reading::cell_at;
 use crate::value::Value;
 use vlog_plan::Gate;
 
-/// In each lane the bit of a table whose number four cells write, the lowest first.
+/// In each lane, the bit of a truth table at the index that four cells spell, the lowest bit first.
 fn cells_value<V: Value>(cells: &[V], ins: &[usize; 4], table: u16) -> V
     ensures { (lane : ℕ) → lane < V.LANES → V.at result lane ≡ bit_of table (number_of (map (cell_at (lane_bits V.at lane cells.now)) ins.now)) }
 {
@@ -26,7 +26,7 @@ fn gate_value<V: Value>(cells: &[V], gate: &Gate) -> V
     cells_value(cells, &gate.ins, gate.table)
 }
 
-/// Gives a wire its value in active lanes. Its mark stays where it hasn't its value in another lane. Past the last wire there is no mark.
+/// Computes a wire in active lanes. It stays marked if it is out of date in another lane. Past the last wire there are no marks.
 fn run_gate<V: Value>(
     gates: &[Gate],
     readers: &[Vec<usize>],
@@ -52,7 +52,7 @@ fn run_gate<V: Value>(
     }
 }
 
-/// Gives the marked wires of a block, of which each has 64, their values in active lanes.
+/// Computes the marked wires of a block of 64 wires, in active lanes.
 fn run_block<V: Value>(
     gates: &[Gate],
     readers: &[Vec<usize>],
@@ -83,7 +83,7 @@ fn run_block<V: Value>(
     }
 }
 
-/// Gives the marked wires their values in active lanes, in their order.
+/// Computes the marked wires in active lanes, in the order of the text, which is a topological order.
 pub(crate) fn run_gates<V: Value>(
     gates: &[Gate],
     readers: &[Vec<usize>],

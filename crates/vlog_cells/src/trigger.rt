@@ -9,7 +9,7 @@ pub(crate) struct Trigger<'a, V: Value> {
     pub(crate) event: Event,
     pub(crate) active: V,
     pub(crate) group: &'a Group,
-    /// The wires on which each cell bears.
+    /// The fan-out of each cell.
     pub(crate) readers: &'a [Vec<usize>],
     /// How many names of one bit there are.
     pub(crate) bits: usize,

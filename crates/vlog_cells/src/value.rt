@@ -1,11 +1,11 @@
-// Values of cells: a bit for each of some lanes.
+// Values of cells: one bit for each lane.
 ghost use Rattle.std.specs.Prelude.{◌≡◌, ◌<◌, ◌==◌, ℕ, Bool, [], ◌∷◌, false, if◌then◌else◌};
 ghost use Rattle.vlog_plan.specs.Values.{bit_of, number_of};
 
 use crate::lane_words::{every, lane_bit, of_table, one_of, only};
 use vlog_plan::bit_of;
 
-/// A bit for each of some lanes; lanes count from 0.
+/// The value of a cell: one bit for each lane. Lanes count from 0.
 pub trait Value: Copy + Drop {
     ghost LANES: { ℕ };
 
@@ -19,16 +19,16 @@ pub trait Value: Copy + Drop {
     fn every(bit: bool) -> Self
         ensures { (lane : ℕ) → lane < LANES → at result lane ≡ bit };
 
-    /// 1 in one lane alone.
+    /// 1 in this lane alone, and 0 in the others.
     fn only(lane: u32) -> Self
         requires { lane < LANES }
         ensures { (other : ℕ) → other < LANES → at result other ≡ (other == lane) };
 
-    /// In each lane the bit of the one value where the choice is 1, and of the other elsewhere.
+    /// In each lane, the bit of `one` if the choice is 1, else that of `other`.
     fn select(choice: Self, one: Self, other: Self) -> Self
         ensures { (lane : ℕ) → lane < LANES → at result lane ≡ (if at choice lane then at one lane else at other lane) };
 
-    /// In each lane the bit of a table whose number four bits write, the lowest first.
+    /// In each lane, the bit of a truth table at the index that four bits spell, the lowest bit first.
     fn of_table(table: u16, a: Self, b: Self, c: Self, d: Self) -> Self
         ensures { (lane : ℕ) → lane < LANES → at result lane ≡ bit_of table (number_of (at a lane ∷ at b lane ∷ at c lane ∷ at d lane ∷ [])) };
 
@@ -76,7 +76,7 @@ impl Value for bool {
     }
 }
 
-/// Sixty-four lanes; lane 0 has the lowest bit.
+/// Sixty-four bit-parallel lanes; lane 0 has the lowest bit.
 impl Value for u64 {
     ghost use Rattle.vlog_plan.specs.Values.{bit_of};
 

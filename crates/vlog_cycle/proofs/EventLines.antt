@@ -20,7 +20,7 @@ use Rattle.vlog_cycle.specs.Events.{TellsEvent, bit_event, bit_part, bit_written
 
 -- ---- lines
 
--- the first line, without the blanks at its end, and those behind it
+-- the first line, without the spaces and tabs at its end, and the lines after it
 pub one-line : (text first content rest : List ℕ) → lines_of text ≡ first ∷ lines_of rest → content ≡ trimmed first → cut_lines text ≡ content ∷ cut_lines rest
 one-line text first content rest lines is = ap (map trimmed) lines ∙ ap (λ line. line ∷ cut_lines rest) (sym is)
 

@@ -54,7 +54,7 @@ refuses_forms : event_fault chip.ports (codes "\nio_0_1_0 1\nio_0_1_0  1\nmodule
 unfolding event_of lines_of trimmed first_fault first_below chip input output
 refuses_forms = refl
 
--- blanks at a line's end don't count, before CR LF either, and a line that is then empty is passed over
+-- spaces and tabs at a line's end don't count, also before CR LF, and an empty line is skipped
 cuts_lines : events_of chip.ports (codes " \t\nio_0_1_0 1 \t\n\n \r\nio_0_1_0 0\t\r\n  ") ≡ event 0 true ∷ event 0 false ∷ []
 unfolding event_of lines_of trimmed chip input output event
 cuts_lines = refl
@@ -68,7 +68,7 @@ counts_lines : event_fault chip.ports (codes "\n \nio_0_1_0 1\n\t\nio_0_3_0 1 \n
 unfolding event_of lines_of trimmed first_fault first_below chip input output
 counts_lines = refl
 
--- a blank before the name, or a second one behind it
+-- a space before the name, or a second one after it
 refuses_blanks : event_fault chip.ports (codes "io_0_1_0 1\n io_0_1_0 1\n") ≡ Some (Form 2)
 unfolding event_of lines_of trimmed first_fault first_below chip input output
 refuses_blanks = refl
@@ -111,7 +111,7 @@ shifts = refl
 bits_of : List Bool → List Atom
 bits_of bits = map Bit bits
 
--- word 5 is 1234; at an edge it is written with ABCD where the mask 00FF is 0, and read before
+-- word 5 is 1234; at an edge it is read, and then ABCD is written to it under the mask 00FF
 memory : Parts
 memory = record {
   name = codes "memory";
@@ -155,7 +155,7 @@ writes_narrow = refl
 cuts_patterns : moved_up 43691 1 ≡ 21846
 cuts_patterns = refl
 
--- ---- registers that a wire sets at once
+-- ---- registers with an asynchronous set or reset
 
 -- at falling edges of `c` the register gets what it hasn't; it is 1 while `r` is, and the wire that reads it sees that
 toggle : Parts

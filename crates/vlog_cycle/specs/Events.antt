@@ -1,5 +1,5 @@
--- Lists of events: a line for each, the name of an input, one space, and the bit. Spaces and tabs at a line's end don't
--- count, and a line that is then empty is passed over.
+-- Lists of events. Each line is one event: the name of an input, one space, and the bit. Spaces and tabs at a line's end don't count, and
+-- an empty line is skipped.
 use Rattle.std.specs.Prelude.{◌≡◌, ℕ, ◌+◌, ◌-◌, Bool, true, false, List, [], ◌∷◌, Option, Some, None, Result, Ok, Err, bytes_eq, drop, flat_map, length, map, take, if◌then◌else◌}
 use Rattle.std.specs.Option.{option_to_list}
 use Rattle.std.specs.Result.{result_err, result_ok}
@@ -12,22 +12,22 @@ use Rattle.vlog_cycle.specs.declared.event.EventFault.{EventFault}
 use Rattle.vlog_cycle.specs.declared.event.EventFault.TheVariants.{Form, Pin, Memory}
 use Rattle.vlog_plan.specs.Run.{pin_of}
 
--- the lines of a text, each without the blanks at its end
+-- the lines of a text, each without the spaces and tabs at its end
 abbrev pub cut_lines : List ℕ → List (List ℕ)
 cut_lines bytes = map trimmed (lines_of bytes)
 
--- the line without its last two bytes, which are to be a space and the bit
+-- a line without its last two bytes, which have to be a space and the bit
 abbrev pub name_part : List ℕ → List ℕ
 name_part line = take (length line - 2) line
 
 abbrev pub bit_part : List ℕ → List ℕ
 bit_part line = drop (length line - 2) line
 
--- the bit that a space and a digit write
+-- the bit that a space and a digit spell
 abbrev pub bit_written : List ℕ → Option Bool
 bit_written bytes = if bytes_eq bytes (32 ∷ 48 ∷ []) then Some false else if bytes_eq bytes (32 ∷ 49 ∷ []) then Some true else None
 
--- what a line gives whose name is this input, if it is one
+-- the event of a line whose name is the input with this index; a fault if its name is no input
 abbrev pub pin_event : ℕ → Option ℕ → Bool → Result Event EventFault
 pin_event line (Some pin) bit = Ok (record { pin = pin; bit = bit })
 pin_event line None bit = Err (Pin line)
@@ -36,12 +36,12 @@ abbrev pub bit_event : ℕ → Option ℕ → Option Bool → Result Event Event
 bit_event line pin (Some bit) = pin_event line pin bit
 bit_event line pin None = Err (Form line)
 
--- what a line that isn't empty gives: first its form counts, then whether its name is an input
+-- the event of a line that isn't empty; its form is judged first, then its name
 unfoldable pub event_of : (List ℕ → Option ℕ) → ℕ → List ℕ → Result Event EventFault
 event_of pins line content =
     if is_word (name_part content) then bit_event line (pins (name_part content)) (bit_written (bit_part content)) else Err (Form line)
 
--- an empty line gives nothing
+-- the event of a line; an empty line has none
 abbrev pub line_event : (List ℕ → Option ℕ) → List ℕ → List Event
 line_event pins [] = []
 line_event pins (byte ∷ bytes) = option_to_list (result_ok (event_of pins 0 (byte ∷ bytes)))
@@ -50,19 +50,19 @@ abbrev pub line_fault : (List ℕ → Option ℕ) → ℕ → List ℕ → Optio
 line_fault pins line [] = None
 line_fault pins line (byte ∷ bytes) = result_err (event_of pins line (byte ∷ bytes))
 
--- the first faulty one of lines, counted from 1, and what is wrong with it
+-- the first faulty line, counted from 1, and what is wrong with it
 unfoldable pub first_fault : (List ℕ → Option ℕ) → List (List ℕ) → Option EventFault
 first_fault pins lines = first_below (length lines) (λ place. line_fault pins (place + 1) (line_at lines place))
 
--- the fault of a text
+-- the fault of a text, if it has one
 abbrev pub event_fault : List Port → List ℕ → Option EventFault
 event_fault ports bytes = first_fault (pin_of ports) (cut_lines bytes)
 
--- the events of a text without faults
+-- the events of a text that has no fault
 abbrev pub events_of : List Port → List ℕ → List Event
 events_of ports bytes = flat_map (line_event (pin_of ports)) (cut_lines bytes)
 
--- a refusal for another cause than memory tells the fault
+-- a fault that is answered is the fault of the text; out of memory says nothing of the text
 abbrev pub TellsEvent : Option EventFault → EventFault → Type 0
 TellsEvent fault (Memory e) = Unit {0}
 TellsEvent fault told = fault ≡ Some told

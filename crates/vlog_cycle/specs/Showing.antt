@@ -1,11 +1,11 @@
--- When a runner shows an entry of a module.
+-- When a runner has the state of an entry.
 use Rattle.std.specs.Prelude.{ℕ}
 use Rattle.vlog_module.specs.Parts.{Parts}
 use Rattle.vlog_cells.specs.Boards.{Shows as LaneShows, input_count as lane_inputs}
 use Rattle.vlog_cycle.specs.declared.runner.Runner.{Runner}
 use Rattle.vlog_plan.specs.Entries.{Entry}
 
--- its only lane shows it
+-- the runner's only lane has the state of the entry
 abbrev pub Shows : Runner → Parts → Entry → Type 0
 Shows runner m entry = LaneShows runner.board 0 m entry
 

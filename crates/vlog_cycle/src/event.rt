@@ -1,15 +1,15 @@
-// Why a list of events isn't read.
+// Why a list of events is refused.
 
 ghost use Rattle.std.specs.Prelude.{◌≡◌};
 
 use std::alloc::AllocError;
 
-/// Why a list of events isn't read. The first faulty line counts; lines count from 1.
+/// Why a list of events is refused: the first faulty line. Lines count from 1.
 #[derive(Clone, Copy, Debug, PartialEq, Eq)]
 pub enum EventFault {
     /// The line isn't a name, one space, and `0` or `1`.
     Form { line: u64 },
-    /// The name is no input.
+    /// The name isn't an input of the module.
     Pin { line: u64 },
     /// Out of memory. It may come in place of any other answer.
     Memory(AllocError),

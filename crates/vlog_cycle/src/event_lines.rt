@@ -1,4 +1,4 @@
-// Lists of events, line by line.
+// Reads lists of events line by line.
 ghost use Rattle.std.specs.Prelude.{◌≡◌, ◌<◌, ◌++◌, ◌∷◌, [], All, Option, None, flat_map, length, IfErr, IfOk, OnOk};
 ghost use Rattle.vlog_cycle.specs.Events.{bit_written, cut_lines, event_fault, pin_event, event_of, events_of, first_fault, line_event, line_fault, TellsEvent};
 ghost use Rattle.vlog_cycle.specs.declared.event.EventFault.{EventFault as fault_of};
@@ -11,8 +11,12 @@ use text_lines::{first_line, trimmed};
 use vlog_module::{Module, is_word};
 use vlog_plan::{Event, Slots, pins_of};
 
-/// The events of a text: on each line the name of an input, one space, and `0` or `1`. Spaces and tabs at a line's end
-/// don't count, and a line that is then empty is passed over.
+/// The events of a text. Each line has the name of an input, one space, and `0` or `1`. Spaces and tabs at a line's end don't count, and
+/// an empty line is skipped.
+///
+/// # Errors
+/// The first faulty line, counted from 1: [`EventFault::Form`] if it isn't a name, one space, and `0` or `1`, else [`EventFault::Pin`] if
+/// its name isn't an input of the module. [`EventFault::Memory`] if memory is out; it may come in place of any other answer.
 pub fn read_events(alloc: Global, module: &Module, bytes: &[u8]) -> Result<Vec<Event>, EventFault>
     ensures read { IfOk result (λ events. events.items ≡ events_of «module».now.ports bytes.now) }
     ensures inputs { IfOk result (λ events. All (λ event. event.pin < length (input_names «module».now.ports)) events.items) }
@@ -44,7 +48,7 @@ pub(crate) fn read_lines(
     Ok(events)
 }
 
-/// Adds the event of a line without blanks at its end.
+/// Adds the event of a line, which has no spaces and tabs at its end. An empty line has none.
 fn take_line(
     events: &mut Vec<Event>,
     pins: &Slots,
@@ -89,7 +93,7 @@ fn event_of(pins: &Slots, line: u64, content: &[u8]) -> Result<Event, EventFault
     }
 }
 
-/// The event of a line whose name is this input, if it is one.
+/// The event of a line whose name is the input with this index; a fault if its name is no input.
 fn pin_event(line: u64, pin: Option<usize>, bit: bool) -> Result<Event, EventFault>
     ensures { result ≡ pin_event line pin bit }
 {
@@ -99,7 +103,7 @@ fn pin_event(line: u64, pin: Option<usize>, bit: bool) -> Result<Event, EventFau
     }
 }
 
-/// The bit that a space and a digit write.
+/// The bit that a space and a digit spell.
 fn bit_written(bytes: &[u8]) -> Option<bool>
     ensures { result ≡ bit_written bytes.now }
 {

@@ -1,4 +1,4 @@
-//! Runs modules of the Verilog subset over lists of events.
+//! Runs modules of the Verilog subset over lists of events, as an event-driven simulation.
 #![tactic(auto)]
 
 mod event;
@@ -11,5 +11,5 @@ pub use event_lines::read_events;
 pub use runner::Runner;
 pub use text::run_text;
 
-// The events that a runner and a list take.
+// The events of a run and of a list.
 pub use vlog_plan::Event;

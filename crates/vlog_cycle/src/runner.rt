@@ -7,9 +7,20 @@ use vlog_cells::Board;
 use vlog_module::Module;
 use vlog_plan::Event;
 
-/// A module that runs: what its names have after the start, and after each event.
+/// A module that runs: its state after the start, and after each event.
 ///
-/// All memory is taken when it is made.
+/// All memory is taken when a runner is made.
+///
+/// # Example
+/// ```ignore
+/// // The output of `module` is the opposite of its input.
+/// let mut runner = Runner::new(alloc, &module)?;
+/// assert!(runner.outputs() == [true].as_slice());
+/// runner.event(0, true);
+/// assert!(runner.outputs() == [false].as_slice());
+/// runner.run(&[Event { pin: 0, bit: false }, Event { pin: 0, bit: true }]);
+/// assert!(runner.outputs() == [false].as_slice());
+/// ```
 #[derive(Drop)]
 pub struct Runner {
     board: Board<bool>,
@@ -25,6 +36,9 @@ impl Runner {
     ghost use Rattle.vlog_cycle.specs.Showing.{Shows, input_count};
 
     /// The module after the start: inputs are 0, registers and memories have their start values.
+    ///
+    /// # Errors
+    /// `AllocError` if memory is out, and for no other cause.
     pub fn new(alloc: Global, module: &Module) -> Result<Runner, AllocError>
         ensures { IfOk result (λ runner. Shows runner «module».now (start «module».now)) }
     {
@@ -33,7 +47,7 @@ impl Runner {
         })
     }
 
-    /// Gives an input a bit. The input is named by its place among the inputs, in the order of the ports, from 0.
+    /// Gives an input a bit. `pin` is the index of the input among the inputs, in the order of the ports, from 0.
     pub fn event(&mut self, pin: usize, bit: bool)
         requires { pin < input_count self.old }
         ensures shows { (m : Parts) (entry : Entry) → Shows self.old m entry
@@ -43,7 +57,7 @@ impl Runner {
         self.board.event(pin, true, bit);
     }
 
-    /// Gives inputs their bits, one event after another.
+    /// Runs events, one after another.
     pub fn run(&mut self, events: &[Event])
         requires { All (λ event. event.pin < input_count self.old) events.now }
         ensures from_start { (m : Parts) → Shows self.old m (start m) → Shows self.new m (last_of (start m) (module_run m events.now)) }
@@ -70,7 +84,7 @@ impl Runner {
         self.board.outputs()
     }
 
-    /// The bit of a register of one bit: none of another name.
+    /// The bit of the register of one bit with this name, if there is one.
     pub fn register(&self, name: &[u8]) -> Option<bool>
         ensures is { (m : Parts) (entry : Entry) → Shows self.now m entry → result ≡ value_in entry.registers name.now }
         ensures declared { (m : Parts) (entry : Entry) → Shows self.now m entry → is_some result ≡ has_name (register_names m.items) name.now }
@@ -78,7 +92,7 @@ impl Runner {
         self.board.register(name)
     }
 
-    /// The word of a register of 16 bits: none of another name.
+    /// The word of the register of 16 bits with this name, if there is one.
     pub fn register_word(&self, name: &[u8]) -> Option<u16>
         ensures is { (m : Parts) (entry : Entry) → Shows self.now m entry → result ≡ value_in entry.words name.now }
         ensures declared { (m : Parts) (entry : Entry) → Shows self.now m entry → is_some result ≡ has_name (word_names m.items) name.now }
@@ -86,7 +100,7 @@ impl Runner {
         self.board.register_word(0, name)
     }
 
-    /// The word of a memory at an address: none of a name that is no memory.
+    /// The word at an address of the memory with this name, if there is one.
     pub fn word(&self, memory: &[u8], address: u8) -> Option<u16>
         ensures is { (m : Parts) (entry : Entry) → Shows self.now m entry
             → result ≡ option_map (λ words. get_or words address 0) (value_in entry.memories memory.now) }
@@ -102,21 +116,21 @@ impl Runner {
         self.board.input_bits()
     }
 
-    /// The bits of the registers of one bit, in the order of their declaration.
+    /// The bits of the registers of one bit, in the order of their declarations.
     pub fn registers(&self) -> &[bool]
         ensures { (m : Parts) (entry : Entry) → Shows self.now m entry → result.now ≡ values_of entry.registers }
     {
         self.board.registers()
     }
 
-    /// The registers of 16 bits, in the order of their declaration.
+    /// The registers of 16 bits, in the order of their declarations.
     pub fn words(&self) -> &[u16]
         ensures { (m : Parts) (entry : Entry) → Shows self.now m entry → result.now ≡ values_of entry.words }
     {
         self.board.words(0)
     }
 
-    /// Gives each place the bit of a wire, in the order of their declaration. There have to be as many places as wires.
+    /// Copies the bits of all wires, in the order of their declarations, to `wires`, which has to be as long.
     pub fn copy_wires(&self, wires: &mut [bool])
         ensures { (m : Parts) (entry : Entry) → Shows self.now m entry → length wires.old ≡ length (wire_names m.items) → wires.new ≡ values_of entry.wires }
     {

@@ -11,9 +11,12 @@ use std::alloc::{AllocError, Global};
 use vlog_module::Module;
 use vlog_plan::Event;
 
-/// The text of a run: one line after the start and one after each event. A line has the bits of the outputs in the
-/// order of the ports. With `registers` it goes on with one space and the registers of one bit in the order of their
-/// declaration, then for each register of 16 bits one space and four lower-case hexadecimal digits.
+/// The text of a run: one line after the start, and one after each event. A line has the bits of the outputs in the order of the ports.
+/// With `registers` there follow one space and the registers of one bit in the order of their declarations, then one space and four
+/// lower-case hexadecimal digits for each register of 16 bits.
+///
+/// # Errors
+/// `AllocError` if memory is out, and for no other cause.
 pub fn run_text(
     alloc: Global,
     module: &Module,
@@ -33,7 +36,7 @@ pub fn run_text(
     Ok(text)
 }
 
-/// Adds the line of what a runner shows.
+/// Adds the line of a runner's state.
 fn push_line(text: &mut Vec<u8>, runner: &Runner, registers: bool) -> Result<(), AllocError>
     ensures { (m : Parts) (entry : Entry) → Shows runner.now m entry → OnOk result (text.new.items ≡ text.old.items ++ entry_line registers entry) }
 {
@@ -42,7 +45,7 @@ fn push_line(text: &mut Vec<u8>, runner: &Runner, registers: bool) -> Result<(),
     push_byte(text, b'\n')
 }
 
-/// Adds the registers, where they are asked for.
+/// Adds the registers, if they are asked for.
 fn push_registers(text: &mut Vec<u8>, runner: &Runner, registers: bool) -> Result<(), AllocError>
     ensures { (m : Parts) (entry : Entry) → Shows runner.now m entry
         → OnOk result (text.new.items ≡ text.old.items ++ (if registers then registers_text entry else [])) }

@@ -74,7 +74,7 @@ module _ (fabric : Fabric) (design : Kept) (kept : IsKeptOf fabric design) where
       let within : class < fabric.nets = omega arith in
       ap (right_by fabric) (kept.drivers.each class within ∙ ap (λ found. map drive_of (option_to_list found)) is)
 
-  -- the class of a net, where it has a driver
+  -- the class of joined nets that a net belongs to, if it has a driver
   pub driven-some : (net : ℕ) → net < nets_in design → (class : ℕ) → class ≡ class_in design.parts.links net → (found : Option KeptDrive) (drive : KeptDrive)
       → found ≡ driver_in design.drivers class → found ≡ Some drive → Some class ≡ (if is_connected fabric net then Some (class_of fabric.joins net) else None)
   driven-some net below class of_class found drive of_found is =

@@ -43,7 +43,7 @@ use Rattle.vlog_emit.proofs.Kept.{end-is}
 
 -- ---- nets that may be missing
 
--- a net that may be missing is there where each net is that it can be
+-- a net that may be missing exists if each net that it can be exists
 net-from : (nets : ℕ) (net : Option ℕ) → ((n : ℕ) → net ≡ Some n → n < nets) → IsNetIn nets net
 net-from nets None each = tt
 net-from nets (Some n) each = each n refl

@@ -14,27 +14,27 @@ use Rattle.fabric.specs.Kept.{Kept, IsKeptOf}
 abbrev pub EachFabric : Kept → (Fabric → Type 0) → Type 0
 EachFabric design Holds = (fabric : Fabric) → IsKeptOf fabric design → Holds fabric
 
--- how many nets there are
+-- the number of nets
 abbrev pub nets_in : Kept → ℕ
 nets_in design = length design.drivers.places
 
--- the net or the pin that an input of a table reads is there
+-- the net or the input pin that an input of a LUT reads exists
 abbrev pub IsSourceIn : Kept → Source → Type 0
 IsSourceIn design (Net net) = IsNetIn (nets_in design) net
 IsSourceIn design (SourcePin place) = place < length design.inputs
 
--- those of all its inputs are
+-- the nets and the input pins that the inputs of a LUT read exist
 abbrev pub IsTableIn : Kept → Table → Type 0
 IsTableIn design table = All (IsSourceIn design) table.ins
 
--- the nets and pins that a register reads are there
+-- the nets and the input pins that a register reads exist
 pub record IsRegisterIn (design : Kept) (register : Register) : Type 0 where
   pub clk : IsNetIn (nets_in design) register.clk
   pub cen : IsNetIn (nets_in design) register.cen
   pub sr : IsNetIn (nets_in design) register.sr
   pub table : IsTableIn design register.table
 
--- the pins, registers, RAMs and nets of a rule are there
+-- the pins, registers, RAMs and nets of a rule exist
 abbrev pub IsRuleIn : Kept → Rule → Type 0
 IsRuleIn design (PinBit place) = place < length design.inputs
 IsRuleIn design (Constant bit) = Unit {0}

@@ -17,7 +17,7 @@ use net_extract::{Register, Source, Table};
 use std::alloc::{AllocError, Global};
 use vlog_module::{Atom, Atoms, Lut, Name};
 
-/// The class of a net, where it has a driver.
+/// The class of joined nets that a net belongs to, or `None` if it has no driver.
 fn driven_class(design: &Design, net: u32) -> Option<u32>
     requires { net < nets_in design.now }
     ensures { EachFabric design.now (λ fabric. result ≡ (if is_connected fabric net then Some (class_of fabric.joins net) else None)) }
@@ -29,7 +29,7 @@ fn driven_class(design: &Design, net: u32) -> Option<u32>
     }
 }
 
-/// What is read of an input: the wire of its class, and the stated value where it isn't connected.
+/// What an input reads: the wire of its class of joined nets, or the stated value if it is unconnected.
 #[tactic(auto, unfolding(fabric_module::specs::Rights::input_atom))]
 pub(crate) fn input_atom(
     alloc: Global,
@@ -46,7 +46,7 @@ pub(crate) fn input_atom(
     }
 }
 
-/// The same of an input that has a net.
+/// What an input with a net reads: the wire of the net's class of joined nets, or the stated value if that has no driver.
 fn net_atom(alloc: Global, design: &Design, stated: bool, net: u32) -> Result<Atom, AllocError>
     requires { net < nets_in design.now }
     ensures { IfOk result (λ atom. EachFabric design.now (λ fabric. atom ≡ input_atom fabric stated (Some net))) }
@@ -60,7 +60,7 @@ fn net_atom(alloc: Global, design: &Design, stated: bool, net: u32) -> Result<At
     }
 }
 
-/// What is read of a list of inputs, each 0 where it isn't connected.
+/// What a list of inputs reads. An unconnected one is 0.
 pub(crate) fn port_atoms(
     alloc: Global,
     design: &Design,
@@ -77,7 +77,7 @@ pub(crate) fn port_atoms(
     Ok(atoms)
 }
 
-/// A bit of the high part of an address: 0 where the mode has no such bit.
+/// A bit of the high part of an address: 0 if the mode has no such bit.
 fn shift_atom(
     alloc: Global,
     design: &Design,
@@ -96,7 +96,7 @@ fn shift_atom(
     }
 }
 
-/// The high part of an address in three atoms, the lowest first.
+/// The high part of an address as three atoms, the lowest first.
 pub(crate) fn shift_atoms(
     alloc: Global,
     design: &Design,
@@ -116,7 +116,7 @@ pub(crate) fn shift_atoms(
     Ok(atoms)
 }
 
-/// What is written in a mode: for each place of a word the data for the bit of a narrow word that stands there.
+/// The write data in a mode: for each bit of a word, the data for the bit of a narrow word that lies there.
 pub(crate) fn data_atoms(
     alloc: Global,
     design: &Design,
@@ -135,7 +135,7 @@ pub(crate) fn data_atoms(
     Ok(atoms)
 }
 
-/// The port bit that has the data for a place of a word.
+/// The port bit that has the data for a bit of a word.
 fn data_bit(mode: u8, place: u8) -> usize
     requires mode { mode ≤ 3 }
     requires place { place < 16 }
@@ -150,7 +150,7 @@ fn data_bit(mode: u8, place: u8) -> usize
     }
 }
 
-/// The word of a mode, whose bits are 1 where a narrow word of high part 0 has bits.
+/// The word of a mode whose bits are 1 at the bits of the narrow word with high part 0, and 0 elsewhere.
 pub(crate) fn pattern_of(mode: u8) -> u16
     requires { mode ≤ 3 }
     ensures { result ≡ pattern_of mode }
@@ -179,7 +179,7 @@ pub(crate) fn output_atom(alloc: Global, design: &Design, rule: &Rule) -> Result
     }
 }
 
-/// The name of the input pin at a place.
+/// The name of the port of the input pin with that index.
 pub(crate) fn input_name(alloc: Global, design: &Design, place: usize) -> Result<Name, AllocError>
     requires { place < length design.now.inputs }
     ensures { IfOk result (λ name. EachFabric design.now (λ fabric. name ≡ input_name fabric place)) }
@@ -188,7 +188,7 @@ pub(crate) fn input_name(alloc: Global, design: &Design, place: usize) -> Result
     port_name(alloc, &inputs[place])
 }
 
-/// What is read of an input of a table.
+/// What an input of a LUT reads.
 fn source_atom(alloc: Global, design: &Design, source: Source) -> Result<Atom, AllocError>
     requires { IsSourceIn design.now source }
     ensures { IfOk result (λ atom. EachFabric design.now (λ fabric. atom ≡ source_atom fabric source)) }
@@ -202,7 +202,7 @@ fn source_atom(alloc: Global, design: &Design, source: Source) -> Result<Atom, A
     }
 }
 
-/// What is read of input `k` of a table.
+/// What input `k` of a LUT reads.
 fn table_atom(alloc: Global, design: &Design, table: &Table, k: usize) -> Result<Atom, AllocError>
     requires place { k < 4 }
     requires within { IsSourceIn design.now (get_or table.now.ins k (Net None)) }
@@ -211,7 +211,7 @@ fn table_atom(alloc: Global, design: &Design, table: &Table, k: usize) -> Result
     source_atom(alloc, design, table.ins[k])
 }
 
-/// A table with its four inputs.
+/// A LUT with its four inputs.
 pub(crate) fn lut_of(alloc: Global, design: &Design, table: &Table) -> Result<Lut, AllocError>
     requires { IsTableIn design.now table.now }
     ensures { IfOk result (λ lut. EachFabric design.now (λ fabric. lut ≡ lut_of fabric table.now)) }
@@ -227,7 +227,7 @@ pub(crate) fn lut_of(alloc: Global, design: &Design, table: &Table) -> Result<Lu
     })
 }
 
-/// The wire of a net, where it is driven.
+/// The wire of a net, or `None` if it has no driver.
 fn net_wire(alloc: Global, design: &Design, net: u32) -> Result<Option<Name>, AllocError>
     requires { net < nets_in design.now }
     ensures { IfOk result (λ wire. EachFabric design.now (λ fabric. wire ≡ driven_wire fabric (Some net))) }
@@ -241,7 +241,7 @@ fn net_wire(alloc: Global, design: &Design, net: u32) -> Result<Option<Name>, Al
     }
 }
 
-/// The same of a net that may be missing.
+/// The wire of a net, or `None` if the net is missing or has no driver.
 fn driven_wire(alloc: Global, design: &Design, net: Option<u32>) -> Result<Option<Name>, AllocError>
     requires { IsNetIn (nets_in design.now) net }
     ensures { IfOk result (λ wire. EachFabric design.now (λ fabric. wire ≡ driven_wire fabric net)) }
@@ -252,7 +252,7 @@ fn driven_wire(alloc: Global, design: &Design, net: Option<u32>) -> Result<Optio
     }
 }
 
-/// The wire that sets a register at once, where there is one.
+/// The wire that is the asynchronous set or reset of a register, or `None` if it has none.
 pub(crate) fn setting_wire(
     alloc: Global,
     design: &Design,
@@ -268,7 +268,7 @@ pub(crate) fn setting_wire(
     }
 }
 
-/// Four atoms.
+/// A list of four atoms.
 fn four_atoms(
     alloc: Global,
     first: Atom,

@@ -19,7 +19,7 @@ use fabric_module::module_is_fabric;
 use std::alloc::{AllocError, Global};
 use vlog_module::{Item, Module, Name};
 
-/// Adds what has a state: the registers, and the read registers and the memories of RAMs.
+/// Appends the items that hold state: the registers, and the read registers and the memories of RAMs.
 fn append_state(alloc: Global, design: &Design, items: &mut Vec<Item>) -> Result<(), AllocError>
     ensures { OnOk result (items.new.items ≡ items.old.items ++ (map register_item design.now.parts.registers.items ++ (map read_register design.now.parts.rams.items ++ map ram_memory design.now.parts.rams.items))) }
 {
@@ -28,7 +28,7 @@ fn append_state(alloc: Global, design: &Design, items: &mut Vec<Item>) -> Result
     append_memories(alloc, design.rams(), items)
 }
 
-/// Adds what has a value: the wires in their order, and the outputs.
+/// Appends the items that have a value: the wires in their order, and the outputs.
 fn append_values(alloc: Global, design: &Design, items: &mut Vec<Item>) -> Result<(), AllocError>
     ensures { OnOk result (EachFabric design.now (λ fabric. items.new.items ≡ items.old.items ++ (map (class_wire fabric) design.now.order ++ map (output_assign fabric) (outputs_of fabric)))) }
 {
@@ -36,7 +36,7 @@ fn append_values(alloc: Global, design: &Design, items: &mut Vec<Item>) -> Resul
     append_outputs(alloc, design, design.outputs(), items)
 }
 
-/// Adds what changes the state: the registers, and the ports of RAMs.
+/// Appends the items that change the state: those of the registers, and of the ports of RAMs.
 fn append_changes(alloc: Global, design: &Design, items: &mut Vec<Item>) -> Result<(), AllocError>
     ensures { OnOk result (EachFabric design.now (λ fabric. items.new.items ≡ items.old.items ++ (flat_map (register_items fabric) fabric.registers ++ (flat_map (read_items fabric) fabric.rams ++ flat_map (write_items fabric) fabric.rams)))) }
 {
@@ -61,12 +61,22 @@ fn items_of(alloc: Global, design: &Design) -> Result<Vec<Item>, AllocError>
 /// The module of a design, under a name.
 ///
 /// It runs as the fabric that the database and the image configure: at the start and after each event the two hold the same values.
-/// Its ports are the pins, its registers and memories the state of registers and RAMs, and its wires the classes of nets that have
-/// a driver, in the order of [`Design::order`]. Where LUTs read only the inputs that they use, each other input of a LUT is written
-/// as 0.
+/// Its ports are the pins, its registers and memories are the state of registers and RAMs, and its wires are the classes of joined nets
+/// that have a driver, in the order of [`Design::order`]. If the LUTs of the design read only the inputs that they use, each other input
+/// of a LUT is written as 0.
 ///
 /// # Errors
-/// `AllocError` where memory is out, and for no other cause.
+/// `AllocError` if memory is out, and for no other cause.
+///
+/// # Example
+/// ```ignore
+/// let design = fabric::design(alloc, &db, &image)?;
+/// if vlog_module::is_name(name) {
+///     let module = vlog_emit::emit(alloc, &design, name)?;
+///     let text = vlog_print::print(alloc, &module)?;
+///     save(text.as_slice());
+/// }
+/// ```
 pub fn emit(alloc: Global, design: &Design, name: &[u8]) -> Result<Module, AllocError>
     requires { IsName name.now }
     ensures name { IfOk result (λ made. made.name ≡ name.now) }

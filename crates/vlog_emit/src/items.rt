@@ -42,7 +42,7 @@ fn port_of(alloc: Global, pin: &Pin) -> Result<Port, AllocError>
     })
 }
 
-/// Adds the ports of a pin.
+/// Appends the ports of a pin.
 pub(crate) fn append_ports(
     alloc: Global,
     pin: &Pin,
@@ -59,14 +59,14 @@ pub(crate) fn append_ports(
     Ok(())
 }
 
-/// Whether a pin is an output that can be switched off.
+/// Whether a pin is a tri-state output.
 fn is_tri_state(pin: &Pin) -> bool
     ensures { result ≡ is_tri_state pin.now }
 {
     pin.output && pin.kind == PinKind::TriState
 }
 
-/// A register.
+/// The declaration of a register.
 pub(crate) fn register_item(alloc: Global, register: &Register) -> Result<Item, AllocError>
     ensures { IfOk result (λ item. item ≡ register_item register.now) }
 {
@@ -74,7 +74,7 @@ pub(crate) fn register_item(alloc: Global, register: &Register) -> Result<Item, 
     Ok(Item::Register { name, start: false })
 }
 
-/// The read register of a RAM.
+/// The declaration of the read register of a RAM.
 pub(crate) fn read_register(alloc: Global, ram: &RamCell) -> Result<Item, AllocError>
     ensures { IfOk result (λ item. item ≡ read_register ram.now) }
 {
@@ -82,7 +82,7 @@ pub(crate) fn read_register(alloc: Global, ram: &RamCell) -> Result<Item, AllocE
     Ok(Item::Word { name, start: 0 })
 }
 
-/// The memory of a RAM.
+/// The declaration of the memory of a RAM.
 pub(crate) fn ram_memory(alloc: Global, ram: &RamCell) -> Result<Item, AllocError>
     ensures { IfOk result (λ item. item ≡ ram_memory ram.now) }
 {
@@ -90,7 +90,7 @@ pub(crate) fn ram_memory(alloc: Global, ram: &RamCell) -> Result<Item, AllocErro
     Ok(Item::Memory { name })
 }
 
-/// The wire of a class.
+/// The wire of a class of joined nets.
 pub(crate) fn class_wire(alloc: Global, design: &Design, class: u32) -> Result<Item, AllocError>
     requires design { IsDesign design.now }
     requires within { class < nets_in design.now }
@@ -101,7 +101,7 @@ pub(crate) fn class_wire(alloc: Global, design: &Design, class: u32) -> Result<I
     Ok(Item::Wire { name, right })
 }
 
-/// The value of an output.
+/// The assignment of an output.
 pub(crate) fn output_assign(
     alloc: Global,
     design: &Design,
@@ -115,7 +115,7 @@ pub(crate) fn output_assign(
     Ok(Item::Assign { name, value })
 }
 
-/// The port that is the clock of a net, where one is.
+/// The port at which the clock chain from a clock net ends, or `None` if there is no net or the chain ends elsewhere.
 #[tactic(auto, unfolding(fabric_module::specs::Written::clock_name))]
 fn clock_name(alloc: Global, design: &Design, net: Option<u32>) -> Result<Option<Name>, AllocError>
     requires design { IsDesign design.now }
@@ -128,7 +128,7 @@ fn clock_name(alloc: Global, design: &Design, net: Option<u32>) -> Result<Option
     }
 }
 
-/// The port at which the chain from a clock net ends, where it ends at one.
+/// The port at which the clock chain from a clock net ends, or `None` if it ends elsewhere.
 fn end_name(alloc: Global, design: &Design, net: u32) -> Result<Option<Name>, AllocError>
     requires design { IsDesign design.now }
     requires within { net < nets_in design.now }
@@ -144,7 +144,7 @@ fn end_name(alloc: Global, design: &Design, net: u32) -> Result<Option<Name>, Al
     }
 }
 
-/// A register whose reset waits for the clock.
+/// The item of a register with a synchronous set or reset.
 fn flip_item(
     alloc: Global,
     design: &Design,
@@ -169,7 +169,7 @@ fn flip_item(
     })
 }
 
-/// A register that a wire sets at once, by its clock.
+/// The item of a register with an asynchronous set or reset, and a clock.
 fn at_once_item(
     alloc: Global,
     design: &Design,
@@ -194,7 +194,7 @@ fn at_once_item(
     })
 }
 
-/// A register that a wire sets at once and that has no clock.
+/// The item of a register with an asynchronous set or reset, but no clock.
 fn set_item(alloc: Global, register: &Register, reset: Name) -> Result<Item, AllocError>
     ensures { IfOk result (λ item. item ≡ Item.SetAtOnce reset register.now.«set» (register_name register.now)) }
 {
@@ -206,7 +206,7 @@ fn set_item(alloc: Global, register: &Register, reset: Name) -> Result<Item, All
     })
 }
 
-/// What a register is written as, by the wire that sets it at once and by its clock.
+/// The item that changes a register, by the wire of its asynchronous set or reset and by its clock. There is none if it has neither.
 fn item_by(
     alloc: Global,
     design: &Design,
@@ -234,7 +234,7 @@ fn item_by(
     }
 }
 
-/// Adds what a register is written as.
+/// Appends the item that changes a register, if there is one.
 pub(crate) fn append_register(
     alloc: Global,
     design: &Design,
@@ -294,7 +294,7 @@ fn read_item(alloc: Global, design: &Design, ram: &RamCell, clock: Name) -> Resu
     })
 }
 
-/// Adds the read port of a RAM, where it has a clock.
+/// Appends the read port of a RAM, if it has a clock.
 pub(crate) fn append_read(
     alloc: Global,
     design: &Design,
@@ -394,7 +394,7 @@ fn write_item(
     }
 }
 
-/// Adds the write port of a RAM, where it has a clock.
+/// Appends the write port of a RAM, if it has a clock.
 pub(crate) fn append_write(
     alloc: Global,
     design: &Design,

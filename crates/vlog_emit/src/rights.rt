@@ -1,4 +1,4 @@
-// The right sides of wires.
+// The right-hand sides of wires.
 ghost use Rattle.std.specs.Prelude.{◌≡◌, ◌<◌, length, IfOk};
 ghost use Rattle.net_extract.specs.Within.{IsNetIn};
 ghost use Rattle.fabric_wiring.specs.Drives.{rule_of};
@@ -15,7 +15,7 @@ use net_extract::Register;
 use std::alloc::{AllocError, Global};
 use vlog_module::{Atom, Name, Right};
 
-/// The name of the read register of the RAM at a place.
+/// The name of the read register of the used RAM with an index.
 fn read_at(alloc: Global, design: &Design, ram: usize) -> Result<Name, AllocError>
     requires { ram < length design.now.parts.rams.items }
     ensures { IfOk result (λ name. EachFabric design.now (λ fabric. name ≡ read_at fabric ram)) }
@@ -24,7 +24,7 @@ fn read_at(alloc: Global, design: &Design, ram: usize) -> Result<Name, AllocErro
     read_name(alloc, &rams[ram])
 }
 
-/// An atom alone.
+/// An atom as a right-hand side.
 fn right_alone(atom: Atom) -> Right
     ensures { result ≡ right_alone atom }
 {
@@ -49,7 +49,7 @@ fn right_of_input(
     Ok(right_alone(atom))
 }
 
-/// What at least two of three inputs are.
+/// The majority of three inputs.
 fn right_of_majority(
     alloc: Global,
     design: &Design,
@@ -68,7 +68,7 @@ fn right_of_majority(
     Ok(Right::Majority { a, b, c })
 }
 
-/// The value of a register that a wire may set at once.
+/// The value of a register, which may have a wire that is its asynchronous set or reset.
 fn right_of_register(
     alloc: Global,
     design: &Design,
@@ -82,7 +82,7 @@ fn right_of_register(
     Ok(register_right(register, wire, target))
 }
 
-/// The same by the wire.
+/// The value of the register `target`: while `wire` sets or resets it asynchronously, it is the set bit, else what the register holds.
 fn register_right(register: &Register, wire: Option<Name>, target: Name) -> Right
     requires { target ≡ register_name register.now }
     ensures { result ≡ register_right register.now wire }
@@ -97,7 +97,7 @@ fn register_right(register: &Register, wire: Option<Name>, target: Name) -> Righ
     }
 }
 
-/// The right side that has the value of a driver.
+/// The right-hand side that has the value of a driver.
 #[tactic(auto, unfolding(fabric_module::specs::Rights::right_of))]
 fn right_of(alloc: Global, design: &Design, rule: Rule) -> Result<Right, AllocError>
     requires { IsRuleIn design.now rule }
@@ -118,7 +118,7 @@ fn right_of(alloc: Global, design: &Design, rule: Rule) -> Result<Right, AllocEr
     }
 }
 
-/// The right side of the wire of a class.
+/// The right-hand side of the wire of a class of joined nets.
 pub(crate) fn class_right(alloc: Global, design: &Design, class: u32) -> Result<Right, AllocError>
     requires design { IsDesign design.now }
     requires within { class < nets_in design.now }

@@ -29,7 +29,7 @@ pub(crate) fn ports_of(alloc: Global, pins: &[Pin]) -> Result<Vec<Port>, AllocEr
     Ok(ports)
 }
 
-/// Adds registers.
+/// Appends the declarations of registers.
 pub(crate) fn append_registers(
     alloc: Global,
     registers: &[Register],
@@ -44,7 +44,7 @@ pub(crate) fn append_registers(
     Ok(())
 }
 
-/// Adds the read registers of RAMs.
+/// Appends the declarations of the read registers of RAMs.
 pub(crate) fn append_words(
     alloc: Global,
     rams: &[RamCell],
@@ -59,7 +59,7 @@ pub(crate) fn append_words(
     Ok(())
 }
 
-/// Adds the memories of RAMs.
+/// Appends the declarations of the memories of RAMs.
 pub(crate) fn append_memories(
     alloc: Global,
     rams: &[RamCell],
@@ -74,7 +74,7 @@ pub(crate) fn append_memories(
     Ok(())
 }
 
-/// Adds the wires of classes.
+/// Appends the wires of classes of joined nets.
 pub(crate) fn append_wires(
     alloc: Global,
     design: &Design,
@@ -92,7 +92,7 @@ pub(crate) fn append_wires(
     Ok(())
 }
 
-/// Adds the values of outputs.
+/// Appends the assignments of outputs.
 pub(crate) fn append_outputs(
     alloc: Global,
     design: &Design,
@@ -109,7 +109,7 @@ pub(crate) fn append_outputs(
     Ok(())
 }
 
-/// Adds what registers are written as.
+/// Appends the items that change registers.
 pub(crate) fn append_register_items(
     alloc: Global,
     design: &Design,
@@ -126,7 +126,7 @@ pub(crate) fn append_register_items(
     Ok(())
 }
 
-/// Adds the read ports of RAMs.
+/// Appends the read ports of RAMs.
 pub(crate) fn append_reads(
     alloc: Global,
     design: &Design,
@@ -144,7 +144,7 @@ pub(crate) fn append_reads(
     Ok(())
 }
 
-/// Adds the write ports of RAMs.
+/// Appends the write ports of RAMs.
 pub(crate) fn append_writes(
     alloc: Global,
     design: &Design,
@@ -162,7 +162,7 @@ pub(crate) fn append_writes(
     Ok(())
 }
 
-/// Adds the start words of the RAM at a place.
+/// Appends the start words of the used RAM with that index.
 fn append_start_words(
     alloc: Global,
     design: &Design,
@@ -187,7 +187,7 @@ fn append_start_words(
     Ok(())
 }
 
-/// Adds the start words of RAMs.
+/// Appends the start words of RAMs.
 pub(crate) fn append_starts(
     alloc: Global,
     design: &Design,

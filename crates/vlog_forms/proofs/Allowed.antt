@@ -66,7 +66,7 @@ names-allowed scope all place (one ∷ found) none =
 
 -- ---- numbers in range
 
--- how large an index may be that stands before any other value
+-- how large an index may be that comes before any other value
 unfoldable next_limit : List Slot → ℕ
 next_limit [] = 0
 next_limit (slot.Index limit ∷ slots) = limit
@@ -96,7 +96,7 @@ index-within (slot.AtomsAgain first n ∷ slots) values fit = index-within slots
 index-within (slot.Atoms n ∷ slots) values fit = index-within slots values fit.1
 index-within (wanted ∷ slots) values fit = absurd fit.0
 
--- whether an index up to a limit is in range behind a name
+-- whether an index up to a limit is in range after a name
 abbrev role_within : Role → ℕ → Bool
 role_within ReadsBit limit = nat_le limit 15
 role_within Starts limit = nat_le limit 255
@@ -126,7 +126,7 @@ behind-none : (values : List Value) → behind 0 values ≡ values
 unfolding behind
 behind-none values = refl
 
--- the values behind the first of those that stand from a place on
+-- the values after the first of those from an index on
 rest-behind : (all : List Value) (place : ℕ) (value : Value) (values : List Value) → behind place all ≡ value ∷ values → behind (place + 1) all ≡ values
 rest-behind all place value values is =
     let one : place + 1 ≡ suc place = omega arith in

@@ -15,9 +15,9 @@ use Rattle.vlog_forms.proofs.Pairs.{ok_first, ok_second}
 use Rattle.vlog_forms.proofs.Exact.{read_tokens-whole}
 use Rattle.vlog_forms.proofs.ValueKinds.{FitsAtom}
 
--- ---- what is read stands there
+-- ---- what is read is in the text
 
--- `k]` stands there
+-- `k]` is in the text
 record PartStands (spots : List Spot) (k : ℕ) (rest : List Spot) : Type 0 where
   tokens : tokens_in spots ≡ token.number k ∷ token.fixed sign.CloseBracket ∷ tokens_in rest
   small : nat_le k 15 ≡ true
@@ -55,7 +55,7 @@ part-stands end k (first ∷ spots) rest reads =
     let stands = index-stands end first.offset k first.token spots rest reads in
     record { tokens = cc (stands.0, stands.2); small = stands.1 }
 
--- an atom stands there, and is what is found next
+-- an atom is in the text, and is the next value that is read
 pub record AtomStands (found : List Found) (spots : List Spot) (after : List Found) (rest : List Spot) : Type 0 where
   pub offset : ℕ
   pub one : Atom
@@ -101,7 +101,7 @@ pub atom-stands : (end : ℕ) (found : List Found) (spots : List Spot) (after : 
 atom-stands end found [] after rest reads = absurd cc
 atom-stands end found (head ∷ spots) after rest reads = from-stands end found head head.token spots after rest refl reads
 
--- ---- what stands there is read
+-- ---- what is in the text is read
 
 -- whether `[` comes next
 abbrev pub opens_next : List TokenValue → Bool

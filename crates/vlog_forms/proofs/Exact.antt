@@ -1,4 +1,4 @@
--- Reading tokens that have to stand there.
+-- Reading tokens that have to come next.
 use Rattle.std.proofs.Common.{◌≡◌, ℕ, Bool, true, false, List, [], ◌∷◌, ◌++◌, refl, ap, ◌∙◌}
 use Rattle.std.specs.Prelude.{Result, Ok, Err, if◌then◌else◌}
 use Rattle.vlog_tokens.specs.Tokens.{TokenValue, Spot}
@@ -16,7 +16,7 @@ whole_step true wanted more first spots rest stuck left same reads behind =
     cc
 whole_step false wanted more first spots rest stuck left same reads behind = absurd cc
 
--- what is read stands there
+-- what is read is in the text
 pub read_tokens-whole : (end : ℕ) (wanted : List TokenValue) (spots rest : List Spot) → read_tokens end wanted spots ≡ Ok rest → tokens_in spots ≡ wanted ++ tokens_in rest
 read_tokens-whole end [] spots rest reads = let same : spots ≡ rest = cc in ap tokens_in same
 read_tokens-whole end (wanted ∷ more) [] rest reads = absurd cc
@@ -28,7 +28,7 @@ abbrev pub AreReal : List TokenValue → Type 0
 AreReal [] = Unit {0}
 AreReal (one ∷ more) = IsReal one × AreReal more
 
--- spots behind some tokens, and the tokens that they have
+-- spots after some tokens, and the tokens that they have
 abbrev pub Behind : Result (List Spot) ℕ → List TokenValue → Type 0
 Behind reading tail = (rest : List Spot) × (reading ≡ Ok rest) × (tokens_in rest ≡ tail)
 
@@ -38,7 +38,7 @@ exact_step wanted first left tail real same behind =
     let passes : is_same_token wanted first.token ≡ true = rw same (same-token wanted real) in
     (behind.0, ap (λ b. if b then left else Err first.offset) passes ∙ behind.1, behind.2)
 
--- what stands there is read
+-- what is in the text is read
 pub read_tokens-exact : (end : ℕ) (wanted : List TokenValue) (spots : List Spot) (tail : List TokenValue) → AreReal wanted → tokens_in spots ≡ wanted ++ tail → Behind (read_tokens end wanted spots) tail
 read_tokens-exact end [] spots tail real stands = (spots, refl, stands)
 read_tokens-exact end (wanted ∷ more) [] tail real stands = absurd cc

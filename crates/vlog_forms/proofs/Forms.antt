@@ -50,14 +50,14 @@ whole_case end given one forms spots whole (Err stuck) (Ok other) is more reads 
     let found = more cc in record { among = later found.among; reads = found.reads }
 whole_case end given one forms spots whole (Err stuck) (Err other) is more reads = absurd cc
 
--- what is whole is read
+-- the form that fits is read
 pub forms-read : (end : ℕ) (given : List Found) (forms : List Form) (spots : List Spot) (whole : Whole) → read_forms end given forms spots ≡ Ok whole → IsRead end given forms spots whole
 unfolding read_forms
 forms-read end given [] spots whole reads = absurd cc
 forms-read end given (one ∷ forms) spots whole reads =
     whole_case end given one forms spots whole (read_slots end (slots_of one) given spots) (read_forms end given forms spots) refl (forms-read end given forms spots whole) reads
 
--- some form is whole
+-- some form fits
 abbrev pub SomeWhole : Result Whole ℕ → Type 0
 SomeWhole reading = (whole : Whole) × (reading ≡ Ok whole)
 
@@ -65,7 +65,7 @@ later_case : (one : Form) (reading : Reading (List Found)) (others : Result Whol
 later_case one (Ok step) others some = (record { form = one; found = step.0; spots = step.1 }, refl)
 later_case one (Err stuck) others some = (some.0, ap (or_further stuck) some.1)
 
--- where one among the forms is read, some form is whole
+-- if one of the forms fits, then some form is found
 pub some-whole : (end : ℕ) (given : List Found) (one : Form) (forms : List Form) (spots : List Spot) (step : List Found × List Spot) → IsAmong one forms
     → read_slots end (slots_of one) given spots ≡ Ok step → SomeWhole (read_forms end given forms spots)
 unfolding read_forms
@@ -75,7 +75,7 @@ some-whole end given one (_ ∷ forms) spots step here reads =
 some-whole end given one (other ∷ forms) spots step (later among) reads =
     later_case other (read_slots end (slots_of other) given spots) (read_forms end given forms spots) (some-whole end given one forms spots step among reads)
 
--- ---- the facts of each form that reading needs; a port's name stands before its declaration
+-- ---- the facts of each form that reading needs; a port's name is given before its declaration
 
 abbrev pub given_count : Form → ℕ
 given_count form.Input = 1

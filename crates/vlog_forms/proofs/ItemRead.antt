@@ -167,7 +167,7 @@ form-case : (b : Bool) (end : ℕ) (one : Form) (spots rest : List Spot) (found 
 form-case true end one spots rest found is reads = (read-shape-of end one spots rest found is reads).1
 form-case false end one spots rest found is reads = simple-shape end one spots rest found is reads
 
--- what is whole is the form that the tokens show
+-- the form that fits is the one that the tokens show
 pub whole-shape : (end : ℕ) (spots : List Spot) (whole : Whole) → read_forms end [] all_forms spots ≡ Ok whole → shape (tokens_in spots) ≡ whole.form
 whole-shape end spots whole reads =
     let is = forms-read end [] all_forms spots whole reads in

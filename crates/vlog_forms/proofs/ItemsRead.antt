@@ -122,7 +122,7 @@ item-none scope offset one found allowed is =
 
 -- ---- items one after another
 
--- items that may come one after another behind others
+-- items that may follow others, one after another
 unfoldable pub MayFollow : List Port → List Item → List Item → Type 0
 MayFollow ports before [] = Unit {0}
 MayFollow ports before (one ∷ items) = IsAllowed (scope_of ports before) one × MayFollow ports (before ++ one ∷ []) items
@@ -147,7 +147,7 @@ item-not_end (item.Write falling clock clock_enable enable memory address mask b
 item-not_end (item.WriteNarrow falling clock clock_enable enable memory address pattern shift bits) = refl
 item-not_end (item.Start memory k word) = refl
 
--- what the items of a module and `endmodule` are, where every output is assigned
+-- the reading of a module's items and of `endmodule`, if every output is assigned
 pub items-spelled : (most end : ℕ) (name : List ℕ) (ports : List Port) (before items : List Item) (spots : List Spot) → length items < most
     → MayFollow ports before items → are_assigned ports (before ++ items) ≡ true
     → tokens_in spots ≡ flat_map item_tokens items ++ token.fixed sign.Endmodule ∷ []

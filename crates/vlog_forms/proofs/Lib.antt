@@ -2,9 +2,9 @@
 pub mod Pairs
 -- the definitions on small texts
 pub mod Worked
--- tokens are the same where the test says so
+-- tokens are equal if the test says so
 pub mod Tokens
--- reading tokens that have to stand there
+-- reading tokens that have to come next
 pub mod Exact
 -- values of the kinds that slots take, and slots of one token
 pub mod ValueKinds

@@ -35,7 +35,7 @@ spots-anywhere one other zero (byte ∷ bytes) =
     (spots_from (one + 1) (front_length (byte ∷ bytes) - 1) bytes) (spots_from (other + 1) (front_length (byte ∷ bytes) - 1) bytes)
     (spots-anywhere (one + 1) (other + 1) zero bytes) (spots-anywhere (one + 1) (other + 1) (front_length (byte ∷ bytes) - 1) bytes)
 
--- a blank before a text
+-- a space before a text
 pub plain-blank : (byte : ℕ) (text : List ℕ) → is_blank byte ≡ true → plain (byte ∷ text) ≡ plain text
 unfolding spots_from
 plain-blank byte text blank =

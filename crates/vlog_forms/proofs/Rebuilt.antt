@@ -31,7 +31,7 @@ unfoldable pub rebuilt : List Slot → List Value → List Value
 rebuilt [] values = []
 rebuilt (wanted ∷ slots) values = with_first wanted values (rebuilt slots (left_by wanted values))
 
--- which stay where they fit
+-- which stay as they are if they fit
 pub rebuilt-fit : (slots : List Slot) (values : List Value) → FitAll slots values → rebuilt slots values ≡ values
 unfolding rebuilt FitAll
 rebuilt-fit [] [] fit = refl

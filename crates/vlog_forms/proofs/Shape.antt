@@ -26,7 +26,7 @@ use Rattle.vlog_forms.specs.Items.{item_form, item_tokens, atoms_values, lut_val
 abbrev is_at : Fixed → List TokenValue → ℕ → Bool
 is_at fixed tokens place = is_same_token (token.fixed fixed) (get_or tokens place token.stray)
 
--- the tokens behind the first that is this sign
+-- the tokens after the first that is this sign
 unfoldable pub behind_sign : Fixed → List TokenValue → List TokenValue
 behind_sign fixed [] = []
 behind_sign fixed (one ∷ tokens) = if is_same_token (token.fixed fixed) one then tokens else behind_sign fixed tokens
@@ -41,7 +41,7 @@ right_shape _ tokens = form.WireMajority
 abbrev wire_shape : List TokenValue → Form
 wire_shape tokens = right_shape (get_or tokens 0 token.stray) (drop 1 tokens)
 
--- behind the condition of an item on an edge
+-- the tokens after the condition of an item on an edge
 abbrev clocked_shape : List TokenValue → Form
 clocked_shape tokens =
     if is_at sign.Begin tokens 0 then form.Flip
@@ -49,7 +49,7 @@ clocked_shape tokens =
     else if is_at sign.Not (behind_sign sign.And tokens) 0 then form.WriteNarrow
     else form.Write
 
--- behind `always`: the word `or` stands behind the clock, or `if` behind the edge, or neither
+-- after `always`: the word `or` follows the clock, or `if` follows the edge, or neither
 abbrev always_shape : List TokenValue → Form
 always_shape tokens =
     if is_at sign.OrEdge tokens 4 then form.FlipAtOnce
@@ -68,7 +68,7 @@ shape tokens =
     else if is_at sign.Output tokens 0 then form.Output
     else form.End
 
--- ---- what stands behind a sign, whatever the values are
+-- ---- what follows a sign, whatever the values are
 
 -- a sign that is written in no value
 record IsApart (fixed : Fixed) : Type 0 where
@@ -99,7 +99,7 @@ behind-again fixed [] place tokens apart = refl
 behind-again fixed (one ∷ before) zero tokens apart = behind-value fixed one tokens apart
 behind-again fixed (one ∷ before) (suc place) tokens apart = behind-again fixed before place tokens apart
 
--- what slots make behind the first of them that is this sign; nothing where there is none
+-- the tokens of slots after the first one that is this sign; none if there is no such slot
 unfoldable filled_behind : Fixed → List Slot → List Value → List Value → List TokenValue
 filled_behind fixed [] before after = []
 filled_behind fixed (slot.Fixed other ∷ slots) before after =
@@ -153,7 +153,7 @@ sign-behind fixed (slot.Atom ∷ slots) before after tail apart has =
 
 -- ---- the forms on an edge
 
--- the beginnings of items on an edge, whatever stands behind the condition
+-- the beginnings of items on an edge, whatever follows the condition
 module _ (condition : List Slot) (clock_role : Role) (falling : Bool) (clock : List ℕ) (values : List Value) (tail : List TokenValue) where
   abbrev edge_slots : List Slot
   edge_slots =
@@ -186,7 +186,7 @@ unfolding slots_of filled filled_behind has_sign
 narrow-read falling clock one other target values tail =
     clocked (drop 12 (slots_of form.ReadNarrow)) (role.Takes sort.Input) falling clock (AnAtom one ∷ AnAtom other ∷ Name (role.Assigns sort.Word) target ∷ values) tail refl
 
--- behind the condition of a write, the first `&` stands before the mask
+-- after the condition of a write, the first `&` comes before the mask
 masked-shape : (slots : List Slot) (before values : List Value) (memory : List ℕ) (tail : List TokenValue) → has_sign sign.And slots ≡ true
     → clocked_shape (filled (slot.Space ∷ slot.Name (role.Assigns sort.Memory) ∷ slot.Fixed sign.OpenBracket ∷ slots) before (Name (role.Assigns sort.Memory) memory ∷ values) ++ tail)
     ≡ (if is_at sign.Not (filled_behind sign.And slots (before ++ Name (role.Assigns sort.Memory) memory ∷ []) values ++ tail) 0 then form.WriteNarrow else form.Write)

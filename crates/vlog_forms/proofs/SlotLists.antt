@@ -58,7 +58,7 @@ unfolding FitAll
 FitAll-passed wanted slots values takes more =
     subst (λ b. FitsFirst b wanted values × FitAll slots (if b then drop 1 values else values)) (sym takes) (tt, more)
 
--- ---- what is read stands there
+-- ---- what is read is in the text
 
 -- one slot that was read: it took a value, or it passed tokens
 pub data SlotStands (wanted : Slot) (found : List Found) (spots : List Spot) (after : List Found) (rest : List Spot) : Type 0 where
@@ -163,7 +163,7 @@ slots-stand end (wanted ∷ slots) found spots after rest reads =
     (λ middle left. slot-stands end wanted found spots middle left)
     (λ middle left. slots-stand end slots middle left after rest) reads
 
--- ---- what stands there is read
+-- ---- what is in the text is read
 
 -- whether the next token is one that isn't `[`, whatever the values
 unfoldable pub is_closed : List Slot → Bool
@@ -176,7 +176,7 @@ unfoldable pub are_closed : List Slot → Bool
 are_closed [] = true
 are_closed (wanted ∷ slots) = if takes_atom wanted then (if is_closed slots then are_closed slots else false) else are_closed slots
 
--- whether each repeat is of a value before it, of which there are so many at first
+-- whether each repeat is of an earlier value, if this many values come first
 abbrev pub is_before : ℕ → Slot → Bool
 is_before n (slot.Again place) = nat_lt place n
 is_before n _ = true
@@ -218,7 +218,7 @@ exact-real before slot.Word known = tt
 exact-real before (slot.Index limit) known = tt
 exact-real before slot.Atom known = tt
 
--- the tokens behind a closed slot list don't begin with `[`
+-- the tokens after a closed list of slots don't begin with `[`
 closed-next : (slots : List Slot) (before after : List Value) (tail : List TokenValue) → is_closed slots ≡ true → opens_next (filled slots before after ++ tail) ≡ false
 unfolding is_closed filled
 closed-next (slot.Fixed fixed ∷ slots) before after tail closed = not_false (is_same_token (token.fixed sign.OpenBracket) (token.fixed fixed)) closed
@@ -341,7 +341,7 @@ read_step_passed end wanted slots found values spots middle tail first more =
       left = read.left;
     }
 
--- reading the slots behind one
+-- reading the slots after one slot
 abbrev ReadsMore : ℕ → List Slot → List TokenValue → Type 0
 ReadsMore end slots tail = (found : List Found) (values : List Value) (spots : List Spot) → IsSound (length found) slots → FitAll slots values
     → tokens_in spots ≡ filled slots (values_of found) values ++ tail → SlotsRead (read_slots end slots found spots) found values tail

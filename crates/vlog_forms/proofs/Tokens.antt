@@ -1,4 +1,4 @@
--- Tokens are the same where the test says so.
+-- Tokens are equal if the test says so.
 use Rattle.std.proofs.Common.{◌≡◌, ℕ, Bool, true, false, List, get_or, refl, ap, sym, ◌∙◌, eq-eqb}
 use Rattle.std.specs.Prelude.{Option, Some, None}
 use Rattle.std.proofs.lemmas.Bool.{eqb-true}

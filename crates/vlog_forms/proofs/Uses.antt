@@ -25,7 +25,7 @@ atom-value (atom.Part name j) all place = refl
 atom-next : (all : List Value) (place : ℕ) (one : Atom) (values : List Value) → uses_from all place (value.AnAtom one ∷ values) ≡ atom_uses one ++ uses_from all (place + 1) values
 atom-next all place one values = ap (λ uses. uses ++ uses_from all (place + 1) values) (atom-value one all place)
 
--- the place behind so many atoms
+-- the index after this many atoms
 abbrev behind_atoms : List Atom → ℕ → ℕ
 behind_atoms [] place = place
 behind_atoms (one ∷ list) place = behind_atoms list (place + 1)

@@ -50,7 +50,7 @@ unless_parts None next whole reads = (refl, reads)
 
 -- ---- items
 
--- the items behind a module so far, up to `endmodule`
+-- the items after a module as far as it is read, up to `endmodule`
 pub record ItemsStand (m : Parts) (spots : List Spot) (whole : Parts) : Type 0 where
   pub items : List Item
   pub is : whole ≡ module_of m.name m.ports (m.items ++ items)
@@ -99,7 +99,7 @@ is-item : (b : Bool) (end : ℕ) (one : Form) (spots : List Spot) (step : List F
 is-item true end one spots step is more reads = is
 is-item false end one spots step is more reads = absurd (no-port end one spots step is more reads)
 
--- a form that is whole: what it declares and reads, and that it has a token at least
+-- a form that fits: what it declares and reads, and that it has at least one token
 pub record WholeStands (spots : List Spot) (one : Whole) : Type 0 where
   pub values : AreSoundValues (values_of one.found)
   pub left : AreSoundTokens (tokens_in one.spots)
@@ -130,7 +130,7 @@ whole-stands end spots one sound is =
       );
     }
 
--- what stands behind an item
+-- what follows an item
 abbrev StandsBehind : ℕ → ℕ → Parts → Type 0
 StandsBehind most end whole = (next : Parts) (left : List Spot) → AreSoundTokens (tokens_in left) → items_outcome most end next left ≡ Ok whole → ItemsStand next left whole
 
@@ -262,7 +262,7 @@ abbrev found_more : List Found → List TokenValue
 found_more [] = []
 found_more (one ∷ names) = token.fixed sign.Comma ∷ token.name (name_in (one.value ∷ [])) ∷ found_more names
 
--- names behind a part of PORTS
+-- names after a part of the list of ports
 abbrev turn_tokens : Turn → List Found → List TokenValue
 turn_tokens Named names = found_more names
 turn_tokens Opened [] = []
@@ -495,7 +495,7 @@ listed-sound end spots names rest sound reads =
     let good = sound-parts (turn_tokens Opened names) (token.fixed sign.CloseParen ∷ tokens_in rest) (subst AreSoundTokens is sound) in
     (names-sound names are good.0, good.1.1)
 
--- ---- the whole
+-- ---- the whole text
 
 allowed-at : (ports : List Port) (before items : List Item) → MayFollow ports before items → (i : ℕ) (one : Item) → slice_get items i ≡ Some one → IsAllowed (scope_of ports (before ++ take i items)) one
 unfolding MayFollow
@@ -543,7 +543,7 @@ nothing-apart : IsDistinct bytes_eq []
 unfolding IsDistinct
 nothing-apart = tt
 
--- a text of which the header is read, without a fault behind
+-- a text whose header is read, with no fault after it
 behind_header : (end : ℕ) (spots : List Spot) (head : List Found) (listed : List Spot) (names : List Found) (closed rest : List Spot) (m : Parts) → AreSoundTokens (tokens_in spots)
     → read_slots end header_slots [] spots ≡ Ok (head, listed) → port_names end Opened [] listed ≡ Ok (names, closed) → read_tokens end (token.fixed sign.Semicolon ∷ []) closed ≡ Ok rest
     → header_outcome end (record { head = head; names = names; spots = rest }) ≡ Ok m → TokensStand spots m

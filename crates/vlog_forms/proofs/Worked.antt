@@ -17,7 +17,7 @@ ends_early : vlog_fault_of (codes "module m (") ≡ Some (fault 10 Syntax)
 unfolding vlog_fault_of outcome_of spots_outcome items_outcome ports_outcome port_names read_forms read_slots slots_of item_of atoms_in behind spots_from front_token front_length digits_token digits_length sign_token sign_length name_or_word word_of pair_of sign_of
 ends_early = refl
 
--- a flip-flop that a wire sets at once
+-- a flip-flop with asynchronous set or reset
 set_at_once : vlog_fault_of (codes "module m (c); input c; reg r = 1'b0; wire s = c; wire w = s?1'b1:r; always @(posedge c or posedge s) if (s) r <= 1'b1; else if (1'b1) r <= 16'h5555 >> {1'b0, 1'b0, 1'b0, w}; endmodule") ≡ None
 unfolding vlog_fault_of outcome_of spots_outcome items_outcome ports_outcome port_names read_forms read_slots slots_of item_of atoms_in behind spots_from front_token front_length digits_token digits_length sign_token sign_length name_or_word word_of pair_of sign_of
 set_at_once = refl
@@ -32,7 +32,7 @@ other_reset : vlog_fault_of (codes "module m (c); input c; reg r = 1'b0; wire s 
 unfolding vlog_fault_of outcome_of spots_outcome items_outcome ports_outcome port_names read_forms read_slots slots_of item_of atoms_in behind spots_from front_token front_length digits_token digits_length sign_token sign_length name_or_word word_of pair_of sign_of
 other_reset = refl
 
--- a wire sets a register where it becomes 1 alone
+-- an asynchronous set alone
 set_at_the_other_edge : vlog_fault_of (codes "module m (c); input c; reg r = 1'b0; wire s = c; always @(negedge s) r <= 1'b1; endmodule") ≡ Some (fault 69 Syntax)
 unfolding vlog_fault_of outcome_of spots_outcome items_outcome ports_outcome port_names read_forms read_slots slots_of item_of atoms_in behind spots_from front_token front_length digits_token digits_length sign_token sign_length name_or_word word_of pair_of sign_of
 set_at_the_other_edge = refl

@@ -128,7 +128,7 @@ place-plain (value ∷ values) (suc place) rest within proper shut = place-plain
 
 -- ---- slots
 
--- whether what a slot writes has to end where a word would, and whether a slot ends a word before it
+-- whether a slot's text has to end as a word does, and whether a slot ends the word before it
 abbrev needs_close : Slot → Bool
 needs_close slot.Space = false
 needs_close (slot.Fixed fixed) = is_reserved_word fixed
@@ -206,7 +206,7 @@ exact-plain (slot.AtomsAgain first n) before rest takes small known proper shut 
 exact-plain (slot.Atoms n) before rest takes small known proper shut = refl
 exact-plain one before rest takes small known proper shut = absurd cc
 
--- what is written behind a slot
+-- what is written after a slot
 abbrev PlainMore : List Slot → List ℕ → Type 0
 PlainMore slots rest = (before after : List Value) → are_before (length before) slots ≡ true → AreWritable before → AreWritable after → FitAll slots after
     → plain (written slots before after ++ rest) ≡ filled slots before after ++ plain rest

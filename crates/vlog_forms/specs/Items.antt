@@ -1,4 +1,4 @@
--- The form and the values of an item, and the item of a form and values.
+-- The form and the values of an item, and the item that a form and values make.
 use Rattle.std.specs.Prelude.{◌≡◌, ℕ, zero, suc, Bool, true, false, List, [], ◌∷◌, ◌++◌, map, flat_map, reverse, drop, codes}
 use Rattle.vlog_tokens.specs.declared.fixed.Fixed.TheVariants as sign
 use Rattle.vlog_tokens.specs.Tokens.{TokenValue, spots_of, Spot}
@@ -21,7 +21,7 @@ use Rattle.vlog_forms.specs.Values.{Value}
 use Rattle.vlog_forms.specs.Values.Value.{Name, Edge, Bit, Word, Index, AnAtom}
 use Rattle.vlog_forms.specs.Layout.{slots_of, filled}
 
--- a list of atoms is written with the highest index first
+-- the text has a list of atoms with the highest index first
 abbrev pub atoms_values : List atoms.Atom → List Value
 atoms_values list = map AnAtom (reverse list)
 
@@ -98,11 +98,11 @@ abbrev pub port_form : Bool → Form
 port_form true = form.Output
 port_form false = form.Input
 
--- a declaration of a port; the name stands in PORTS before
+-- the declaration of a port; its name is a value that is given, since the header has it first
 abbrev pub port_tokens : Port → List TokenValue
 port_tokens port = filled (slots_of (port_form port.output)) (Name (Declares sort.Input) port.name ∷ []) []
 
--- names with commas between them
+-- further names, each after a comma
 abbrev pub more_names : List Port → List TokenValue
 more_names [] = []
 more_names (port ∷ ports) = token.fixed sign.Comma ∷ token.name port.name ∷ more_names ports
@@ -125,12 +125,12 @@ module_tokens m =
 abbrev pub tokens_in : List Spot → List TokenValue
 tokens_in spots = map (λ one. one.token) spots
 
--- a text spells a module: it has the module's tokens and no others, and the module is well-formed
+-- a text spells a module: its tokens are the module's tokens, and the module is well-formed
 pub record IsSpelling (text : List ℕ) (m : Parts) : Type 0 where
   pub tokens : tokens_in (spots_of text) ≡ module_tokens m
   pub well_formed : IsModule m
 
--- ---- the item of a form and values; a value of another kind, or none, counts as some value of the kind
+-- ---- the item of a form and values; where a value is missing or of another kind, some value of the right kind takes its place
 
 abbrev pub name_in : List Value → List ℕ
 name_in (Name role name ∷ values) = name
@@ -156,17 +156,17 @@ abbrev pub atom_in : List Value → atoms.Atom
 atom_in (AnAtom one ∷ values) = one
 atom_in _ = atom.Bit false
 
--- so many atoms, in the order of the text
+-- the atoms of the first n values, in the order of the text
 unfoldable pub atoms_in : ℕ → List Value → List atoms.Atom
 atoms_in zero values = []
 atoms_in (suc n) values = atom_in values ∷ atoms_in n (drop 1 values)
 
--- what is left behind so many values, one by one
+-- the values after the first n
 unfoldable pub behind : ℕ → List Value → List Value
 behind zero values = values
 behind (suc n) values = behind n (drop 1 values)
 
--- the table of a word and four atoms
+-- the LUT of a word and four atoms
 abbrev pub lut_in : List Value → Lut
 lut_in values = record { word = word_in values; ins = reverse (atoms_in 4 (drop 1 values)) }
 

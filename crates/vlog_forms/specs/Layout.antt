@@ -1,4 +1,4 @@
--- What the slots of a form and values make: the tokens of an item.
+-- The tokens of an item: those of its form's slots, filled with values.
 use Rattle.std.specs.Prelude.{ℕ, zero, suc, Bool, true, false, List, [], ◌∷◌, ◌++◌, flat_map, take, drop, if◌then◌else◌}
 use Rattle.vlog_tokens.specs.declared.fixed.Fixed.TheVariants as sign
 use Rattle.vlog_tokens.specs.Tokens.{TokenValue}
@@ -9,17 +9,17 @@ use Rattle.vlog_forms.specs.declared.slot.Slot.TheVariants.{Space, Fixed, Litera
 use Rattle.vlog_forms.specs.Table.{table}
 use Rattle.vlog_forms.specs.Values.{Value, value_tokens, tokens_at}
 
--- so many further atoms, each behind a comma, and the closing brace
+-- n further atoms, each after a comma, and the closing brace
 abbrev pub more_slots : ℕ → List Slot
 more_slots zero = Fixed sign.CloseBrace ∷ []
 more_slots (suc n) = Fixed sign.Comma ∷ Space ∷ Atom ∷ more_slots n
 
--- so many atoms with commas between them, and the closing brace
+-- n atoms with commas between them, and the closing brace
 abbrev pub atom_slots : ℕ → List Slot
 atom_slots zero = Fixed sign.CloseBrace ∷ []
 atom_slots (suc n) = Atom ∷ more_slots n
 
--- the same of values that stand before, from a place on
+-- n earlier values again, from the index `first` on, each after a comma, and the closing brace
 abbrev pub again_slots : ℕ → ℕ → List Slot
 again_slots first zero = Fixed sign.CloseBrace ∷ []
 again_slots first (suc n) = Fixed sign.Comma ∷ Space ∷ Again first ∷ again_slots (suc first) n
@@ -28,7 +28,7 @@ abbrev pub first_again_slots : ℕ → ℕ → List Slot
 first_again_slots first zero = Fixed sign.CloseBrace ∷ []
 first_again_slots first (suc n) = Again first ∷ again_slots (suc first) n
 
--- a slot in parts of one token or one value each
+-- the parts of a slot, each of one token or one value
 abbrev pub parts_of : Slot → List Slot
 parts_of (Atoms n) = Fixed sign.OpenBrace ∷ atom_slots n
 parts_of (AtomsAgain first n) = Fixed sign.OpenBrace ∷ first_again_slots first n
@@ -47,14 +47,14 @@ takes_value (Index limit) = true
 takes_value Atom = true
 takes_value _ = false
 
--- the tokens of a slot that takes no value, of which there are none for a blank; the values stand before it
+-- the tokens of a slot that takes no value: a space has none, and a repeat has those of an earlier value
 abbrev pub exact_tokens : List Value → Slot → List TokenValue
 exact_tokens before (Fixed fixed) = token.fixed fixed ∷ []
 exact_tokens before (Literal number) = token.number number ∷ []
 exact_tokens before (Again place) = tokens_at before place
 exact_tokens before _ = []
 
--- the tokens of the first value
+-- the tokens of the first value, if there is one
 abbrev pub first_tokens : List Value → List TokenValue
 first_tokens [] = []
 first_tokens (value ∷ values) = value_tokens value
@@ -62,14 +62,14 @@ first_tokens (value ∷ values) = value_tokens value
 abbrev pub slot_tokens : List Value → List Value → Slot → List TokenValue
 slot_tokens before after slot = if takes_value slot then first_tokens after else exact_tokens before slot
 
--- the values behind a slot, and those before the next one
+-- the values left after a slot, and those used up to it
 abbrev pub left_by : Slot → List Value → List Value
 left_by slot after = if takes_value slot then drop 1 after else after
 
 abbrev pub passed_by : Slot → List Value → List Value → List Value
 passed_by slot before after = if takes_value slot then before ++ take 1 after else before
 
--- the tokens that slots and values make; some values stand in slots before
+-- the tokens of slots that are filled with the values `after`; the values `before` filled earlier slots
 unfoldable pub filled : List Slot → List Value → List Value → List TokenValue
 filled [] before after = []
 filled (slot ∷ slots) before after =

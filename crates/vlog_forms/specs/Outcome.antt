@@ -1,4 +1,4 @@
--- What a text is: a module, or the first fault of the text.
+-- What a text is: the module that it spells, or its first fault.
 use Rattle.std.specs.Prelude.{ℕ, zero, suc, ◌+◌, ◌-◌, nat_lt, Bool, true, false, not, ◌||◌, List, [], ◌∷◌, ◌++◌, length, Option, Some, None, Result, Ok, Err, bytes_eq, if◌then◌else◌}
 use Rattle.std.specs.List.{list_all, list_any}
 use Rattle.vlog_tokens.specs.declared.fixed.Fixed.TheVariants as sign
@@ -33,9 +33,9 @@ pub record Fault : Type 0 where
 abbrev pub fault : ℕ → VlogCause → Fault
 fault offset cause = record { offset = offset; cause = cause }
 
--- ---- the names of an item
+-- ---- the uses of names in an item
 
--- how a name in a role is used, which has a place among the values of its item
+-- how an item uses a name; `place` is the name's index among the values of the item
 abbrev pub role_use : Role → List Value → ℕ → List ℕ → Use
 role_use (Declares sort) values place name = use_as.Declares sort name
 role_use Reads values place name = use_as.Reads name
@@ -48,23 +48,23 @@ role_use AssignsAtOnce values place name =
     use_as.AssignsAtOnce (name_in (behind (place - 1) values)) (bit_in (behind (place + 1) values)) name
 role_use Starts values place name = use_as.Starts name (index_in (behind (place + 1) values))
 
--- the names of a value, which has a place among the values of its item
+-- the uses of names in a value; `place` is its index among the values of the item
 abbrev pub value_uses : Value → List Value → ℕ → List Use
 value_uses (Name role name) values place = role_use role values place name ∷ []
 value_uses (AnAtom (atom.Whole name)) values place = use_as.Reads name ∷ []
 value_uses (AnAtom (atom.Part name k)) values place = use_as.ReadsBit name k ∷ []
 value_uses _ values place = []
 
--- the names of the last values of an item, which stand from a place on
+-- the uses of names in the last values of an item, which begin at the index `place`
 abbrev pub uses_from : List Value → ℕ → List Value → List Use
 uses_from values place [] = []
 uses_from values place (value ∷ more) = value_uses value values place ++ uses_from values (place + 1) more
 
--- the names of values from left to right
+-- the uses of names in values, from left to right
 abbrev pub uses_in : List Value → List Use
 uses_in values = uses_from values 0 values
 
--- the first use that isn't allowed
+-- the fault of the first use that isn't allowed
 abbrev pub use_fault : Scope → ℕ → List Use → Option Fault
 use_fault scope offset [] = None
 use_fault scope offset (used ∷ uses) =
@@ -76,17 +76,17 @@ abbrev pub or_fault : Option Fault → Option Fault → Option Fault
 or_fault (Some one) other = Some one
 or_fault None other = other
 
--- the first fault among the names of the last values of an item, which stand from a place on
+-- the first fault among the last values of an item, which begin at the index `place`
 abbrev pub fault_from : Scope → List Value → ℕ → List Found → Option Fault
 fault_from scope values place [] = None
 fault_from scope values place (one ∷ more) =
     or_fault (use_fault scope one.offset (value_uses one.value values place)) (fault_from scope values (place + 1) more)
 
--- the first name, from left to right, that isn't there, isn't what it is used as, or is declared or assigned before
+-- the first name, from left to right, that isn't declared, isn't what it is used as, or is declared or assigned before
 abbrev pub name_fault : Scope → List Found → Option Fault
 name_fault scope found = fault_from scope (values_of found) 0 found
 
--- the fault of an item that is whole and begins at this offset
+-- the fault of an item that fits a form and begins at this offset
 abbrev pub item_fault : Scope → ℕ → Item → List Found → Option Fault
 item_fault scope offset one found =
     if nat_lt (section_of one) scope.section then Some (fault offset Order) else name_fault scope found
@@ -97,7 +97,7 @@ abbrev pub unless_fault : {A : Type 0} → Option Fault → Result A Fault → R
 unless_fault (Some one) next = Err one
 unless_fault None next = next
 
--- what comes after a reading, which is a fault of syntax where it is stuck
+-- goes on with what was read; if a token didn't fit, it is a syntax fault
 abbrev pub after : {A B : Type 0} → Result A ℕ → (A → Result B Fault) → Result B Fault
 after (Ok given) next = next given
 after (Err stuck) next = Err (fault stuck Syntax)
@@ -106,7 +106,7 @@ after (Err stuck) next = Err (fault stuck Syntax)
 abbrev pub are_assigned : List Port → List Item → Bool
 are_assigned ports items = list_all (λ port. not port.output || is_assigned items port.name) ports
 
--- nothing may stand behind `endmodule`
+-- nothing may follow `endmodule`
 abbrev pub at_end : Parts → List Spot → Result Parts Fault
 at_end m [] = Ok m
 at_end m (first ∷ spots) = Err (fault first.offset Syntax)
@@ -119,14 +119,14 @@ abbrev pub is_end : Form → Bool
 is_end form.End = true
 is_end _ = false
 
--- a module so far
+-- the module as far as it is read
 abbrev pub module_of : List ℕ → List Port → List Item → Parts
 module_of name ports items = record { name = name; ports = ports; items = items }
 
 abbrev pub with_item : Parts → Item → Parts
 with_item m one = module_of m.name m.ports (m.items ++ one ∷ [])
 
--- an item that is whole, at this offset; `more` is what comes behind it
+-- what comes of an item that fits a form and begins at this offset; `more` is what comes of the text after it
 abbrev pub item_outcome : (Parts → List Spot → Result Parts Fault) → Parts → ℕ → Whole → Result Parts Fault
 item_outcome more m offset whole =
     if is_end whole.form then ending m offset whole.spots
@@ -134,13 +134,13 @@ item_outcome more m offset whole =
     let one = item_of whole.form (values_of whole.found) in
     unless_fault (item_fault (scope_of m.ports m.items) offset one whole.found) (more (with_item m one) whole.spots)
 
--- Items one after another, so many at most, behind a module so far.
+-- Items one after another, at most `most` of them, which are added to the module as far as it is read.
 unfoldable pub items_outcome : ℕ → ℕ → Parts → List Spot → Result Parts Fault
 items_outcome zero end m spots = Err (fault end Syntax)
 items_outcome (suc most) end m spots =
     after (read_forms end [] all_forms spots) (item_outcome (items_outcome most end) m (offset_of end spots))
 
--- the declarations of the ports, in the order of their names
+-- the declarations of the ports, in the order of their names in the header
 abbrev pub is_output : Form → Bool
 is_output form.Output = true
 is_output _ = false
@@ -156,7 +156,7 @@ ports_outcome end (name ∷ names) ports spots next =
 
 -- ---- the header
 
--- what was read of PORTS
+-- what the list of ports in the header had last
 pub data Turn : Type 0 where
   -- `(`: a name or `)` may follow
   Opened : Turn
@@ -175,7 +175,7 @@ may_close Opened = true
 may_close Named = true
 may_close Parted = false
 
--- what a token is in PORTS
+-- what a token does in the list of ports
 pub data PortStep : Type 0 where
   TakesName : List ℕ → PortStep
   PartsNames : PortStep
@@ -198,13 +198,13 @@ next_port PartsNames offset names spots more = more Parted names
 next_port Closes offset names spots more = Ok (names, spots)
 next_port Stops offset names spots more = Err offset
 
--- the names of PORTS, up to `)`
+-- the names in the list of ports, up to `)`
 unfoldable pub port_names : ℕ → Turn → List Found → List Spot → Reading (List Found)
 port_names end turn names [] = Err end
 port_names end turn names (first ∷ spots) =
     next_port (port_step turn first.token) first.offset names spots (λ next found. port_names end next found spots)
 
--- the first name that stands among those before it
+-- the first name that is listed twice
 abbrev pub twice_fault : List (List ℕ) → List Found → Option Fault
 twice_fault before [] = None
 twice_fault before (one ∷ names) =
@@ -216,9 +216,9 @@ twice_fault before (one ∷ names) =
 abbrev pub header_slots : List Slot
 header_slots = slot.Fixed sign.Module ∷ slot.Name (Declares sort.Input) ∷ slot.Fixed sign.OpenParen ∷ []
 
--- ---- the whole
+-- ---- the whole text
 
--- the header: the module's name, the names of the ports, and the tokens behind it
+-- the header: the module's name, the names of its ports, and the tokens after it
 pub record Header : Type 0 where
   pub head : List Found
   pub names : List Found
@@ -239,25 +239,25 @@ with_head end (Err stuck) = Err stuck
 abbrev pub read_header : ℕ → List Spot → Result Header ℕ
 read_header end spots = with_head end (read_slots end header_slots [] spots)
 
--- what comes behind the declarations of the ports
+-- what comes of the text after the declarations of the ports
 abbrev pub ports_next : ℕ → List ℕ → List Port → List Spot → Result Parts Fault
 ports_next end name ports spots = items_outcome (suc (length spots)) end (module_of name ports []) spots
 
--- what comes behind the header
+-- what comes of the text after the header
 abbrev pub header_outcome : ℕ → Header → Result Parts Fault
 header_outcome end header =
     unless_fault (twice_fault [] header.names)
     (ports_outcome end header.names [] header.spots (ports_next end (name_in (values_of header.head))))
 
--- what the tokens of a text that ends at this offset are
+-- what comes of the tokens of a text that ends at this offset
 unfoldable pub spots_outcome : ℕ → List Spot → Result Parts Fault
 spots_outcome end spots = after (read_header end spots) (header_outcome end)
 
--- the module that a text spells, else the fault of the text
+-- the module that a text spells, else its first fault
 unfoldable pub outcome_of : List ℕ → Result Parts Fault
 outcome_of text = spots_outcome (length text) (spots_of text)
 
--- the fault of a text, where it spells no module
+-- the fault of a text, if it spells no module
 abbrev pub fault_in : Result Parts Fault → Option Fault
 fault_in (Ok m) = None
 fault_in (Err one) = Some one

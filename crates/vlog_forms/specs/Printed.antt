@@ -44,26 +44,26 @@ token_text (token.word word) = word_text word
 token_text (token.number number) = decimal_text number
 token_text token.stray = []
 
--- a blank is a space
+-- a space is printed; it is no token
 abbrev pub space_text : Slot → List ℕ
 space_text slot.Space = 32 ∷ []
 space_text _ = []
 
--- how tokens are written
+-- how tokens are printed
 abbrev pub tokens_text : List TokenValue → List ℕ
 tokens_text tokens = flat_map token_text tokens
 
--- how a slot is written
+-- how a slot is printed
 abbrev pub slot_text : List Value → List Value → Slot → List ℕ
 slot_text before after one = space_text one ++ tokens_text (slot_tokens before after one)
 
--- how slots and values are written; some values stand in slots before
+-- how slots are printed that are filled with the values `after`; the values `before` filled earlier slots
 unfoldable pub written : List Slot → List Value → List Value → List ℕ
 written [] before after = []
 written (one ∷ slots) before after =
     slot_text before after one ++ written slots (passed_by one before after) (left_by one after)
 
--- a line with two spaces before it
+-- a line that is indented by two spaces
 abbrev pub line_of : List ℕ → List ℕ
 line_of text = 32 ∷ 32 ∷ (text ++ 10 ∷ [])
 
@@ -73,11 +73,11 @@ item_line one = line_of (written (slots_of (item_form one)) [] (item_values one)
 abbrev pub port_line : Port → List ℕ
 port_line port = line_of (written (slots_of (port_form port.output)) (Name (Declares sort.Input) port.name ∷ []) [])
 
--- a name behind a comma and a space
+-- a name after a comma and a space
 abbrev pub next_name : Port → List ℕ
 next_name port = 44 ∷ 32 ∷ port.name
 
--- names with a comma and a space between them
+-- further names, each after a comma and a space
 abbrev pub more_names_text : List Port → List ℕ
 more_names_text ports = flat_map next_name ports
 

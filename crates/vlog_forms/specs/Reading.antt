@@ -24,26 +24,26 @@ found_at offset value = record { offset = offset; value = value }
 abbrev pub values_of : List Found → List Value
 values_of found = map (λ one. one.value) found
 
--- the offset of the first token, and the end of the text where there is none
+-- the offset of the first token, or the end of the text if there is none
 abbrev pub offset_of : ℕ → List Spot → ℕ
 offset_of end [] = end
 offset_of end (first ∷ spots) = first.offset
 
--- The tokens behind these ones, or the offset of the first that differs. `end` is where the text ends.
+-- The tokens that follow these ones, or the offset of the first token that differs. `end` is the length of the text.
 abbrev pub read_tokens : ℕ → List TokenValue → List Spot → Result (List Spot) ℕ
 read_tokens end [] spots = Ok spots
 read_tokens end (wanted ∷ more) [] = Err end
 read_tokens end (wanted ∷ more) (first ∷ spots) =
     if is_same_token wanted first.token then read_tokens end more spots else Err first.offset
 
--- whether the edge of a word is `negedge`
+-- the edge that a token is: `posedge` or `negedge`
 abbrev pub edge_of : TokenValue → Option Value
 edge_of one =
     if is_same_token (token.fixed sign.Posedge) one then Some (Edge false)
     else if is_same_token (token.fixed sign.Negedge) one then Some (Edge true)
     else None
 
--- the value that one token is in a slot
+-- the value that a single token is in a slot, if it fits
 abbrev pub single : Slot → TokenValue → Option Value
 single (slot.Name role) (token.name name) = Some (Name role name)
 single slot.Edge one = edge_of one
@@ -52,11 +52,11 @@ single slot.Word (token.word word) = Some (Word word)
 single (slot.Index limit) (token.number k) = if nat_le k limit then Some (Index k) else None
 single _ _ = None
 
--- What a reading gives and the tokens behind it, or the offset of the token that can't go on.
+-- What was read and the tokens after it, or the offset of the token that doesn't fit.
 abbrev pub Reading : Type 0 → Type 0
 Reading A = Result (A × List Spot) ℕ
 
--- a value behind those that were found before
+-- adds a value to those that were found before
 abbrev pub with_value : List Found → Spot → Option Value → List Spot → Reading (List Found)
 with_value found first (Some value) spots = Ok (found ++ found_at first.offset value ∷ [], spots)
 with_value found first None spots = Err first.offset
@@ -70,16 +70,16 @@ abbrev pub opens : List Spot → Bool
 opens [] = false
 opens (first ∷ spots) = is_same_token (token.fixed sign.OpenBracket) first.token
 
--- an index, and what stands behind it
+-- an index, and the tokens after it
 abbrev pub with_index : ℕ → Result (List Spot) ℕ → Reading ℕ
 with_index k (Ok spots) = Ok (k, spots)
 with_index k (Err stuck) = Err stuck
 
--- `]` behind the index of a bit
+-- `]` after the index of a bit
 abbrev pub close_part : ℕ → ℕ → List Spot → Reading ℕ
 close_part end k spots = with_index k (read_tokens end (token.fixed sign.CloseBracket ∷ []) spots)
 
--- the index of a bit of a register of 16 bits, and `]`
+-- the index of a bit in a register of 16 bits, and `]`
 abbrev pub index_part : ℕ → ℕ → TokenValue → List Spot → Reading ℕ
 index_part end offset (token.number k) spots = if nat_le k 15 then close_part end k spots else Err offset
 index_part end offset _ spots = Err offset
@@ -88,12 +88,12 @@ abbrev pub read_part : ℕ → List Spot → Reading ℕ
 read_part end [] = Err end
 read_part end (first ∷ spots) = index_part end first.offset first.token spots
 
--- what stands behind `[`, where that is the first token
+-- the tokens after the first one, which is `[`
 abbrev pub behind_open : List Spot → List Spot
 behind_open [] = []
 behind_open (first ∷ spots) = spots
 
--- an atom that is found
+-- adds an atom to the values that were found before
 abbrev pub with_atom : List Found → ℕ → Atom → List Spot → Reading (List Found)
 with_atom found offset one spots = Ok (found ++ found_at offset (AnAtom one) ∷ [], spots)
 
@@ -101,7 +101,7 @@ abbrev pub with_part : List Found → ℕ → List ℕ → Reading ℕ → Readi
 with_part found offset name (Ok part) = with_atom found offset (atom.Part name part.0) part.1
 with_part found offset name (Err stuck) = Err stuck
 
--- the atom that begins with a token: where `[` follows a name, it is `NAME[k]`
+-- the atom that begins with this token: a name with `[` after it is `NAME[k]`
 abbrev pub atom_from : ℕ → List Found → ℕ → TokenValue → List Spot → Reading (List Found)
 atom_from end found offset (token.bit bit) spots = with_atom found offset (atom.Bit bit) spots
 atom_from end found offset (token.name name) spots =
@@ -113,12 +113,12 @@ abbrev pub read_atom : ℕ → List Found → List Spot → Reading (List Found)
 read_atom end found [] = Err end
 read_atom end found (first ∷ spots) = atom_from end found first.offset first.token spots
 
--- tokens of which no value is kept
+-- tokens that are no value
 abbrev pub behind_tokens : List Found → Result (List Spot) ℕ → Reading (List Found)
 behind_tokens found (Ok spots) = Ok (found, spots)
 behind_tokens found (Err stuck) = Err stuck
 
--- One slot. What is found before stands first in what it gives.
+-- One slot. Its value is added to the values that were found before.
 abbrev pub read_slot : ℕ → Slot → List Found → List Spot → Reading (List Found)
 read_slot end slot.Atom found spots = read_atom end found spots
 read_slot end wanted found spots =
@@ -134,13 +134,13 @@ unfoldable pub read_slots : ℕ → List Slot → List Found → List Spot → R
 read_slots end [] found spots = Ok (found, spots)
 read_slots end (wanted ∷ slots) found spots = and_then (read_slot end wanted found spots) (read_slots end slots)
 
--- an item that is whole: its form, its values and the tokens behind it
+-- an item that fits a form: the form, its values and the tokens after it
 pub record Whole : Type 0 where
   pub form : Form
   pub found : List Found
   pub spots : List Spot
 
--- the first of two forms that is whole, else the greater reach
+-- the first of two forms that fits, else the offset that was reached by the one that got further
 abbrev pub or_further : ℕ → Result Whole ℕ → Result Whole ℕ
 or_further stuck (Ok whole) = Ok whole
 or_further stuck (Err other) = Err (max stuck other)
@@ -149,8 +149,8 @@ abbrev pub first_whole : Form → Reading (List Found) → Result Whole ℕ → 
 first_whole one (Ok step) others = Ok (record { form = one; found = step.0; spots = step.1 })
 first_whole one (Err stuck) others = or_further stuck others
 
--- The form among these that is whole; else the offset of the token directly behind the greatest reach of them all. Values
--- that the forms repeat may stand before.
+-- The first of these forms that fits, with its values; else the offset of the token at which the form that got furthest stopped.
+-- The values that the forms repeat are given.
 unfoldable pub read_forms : ℕ → List Found → List Form → List Spot → Result Whole ℕ
 read_forms end given [] spots = Err 0
 read_forms end given (one ∷ forms) spots =

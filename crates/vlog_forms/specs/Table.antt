@@ -1,4 +1,4 @@
--- The table of forms: what each has from left to right. In a form of more parts than one line shows, the parts have names.
+-- The table of forms: the slots of each form from left to right.
 use Rattle.std.specs.Prelude.{List, [], ◌∷◌}
 use Rattle.vlog_tokens.specs.declared.fixed.Fixed.TheVariants as sign
 use Rattle.vlog_module.specs.declared.sort.Sort.TheVariants as sort

@@ -1,4 +1,4 @@
--- Values: what stands in the slots of a form that take one.
+-- Values: what fills the slots of a form that take one.
 use Rattle.std.specs.Prelude.{ℕ, zero, suc, Bool, true, false, not, List, [], ◌∷◌, ◌==◌, bytes_eq}
 use Rattle.vlog_tokens.specs.declared.fixed.Fixed.{Fixed}
 use Rattle.vlog_tokens.specs.declared.fixed.Fixed.TheVariants as sign
@@ -22,7 +22,7 @@ pub data Value : Type 0 where
   Index : ℕ → Value
   AnAtom : Atom → Value
 
--- the value that the code keeps
+-- the value that a value of the code stands for
 abbrev pub seen : read.Value → Value
 seen (reads.Name role text) = Name role text.now
 seen (reads.Edge falling) = Edge falling
@@ -33,19 +33,19 @@ seen (reads.AtomBit bit) = AnAtom (atom.Bit bit)
 seen (reads.AtomName text) = AnAtom (atom.Whole text.now)
 seen (reads.AtomPart text k) = AnAtom (atom.Part text.now k)
 
--- how an atom is written
+-- the tokens of an atom
 abbrev pub atom_tokens : Atom → List TokenValue
 atom_tokens (atom.Bit bit) = token.bit bit ∷ []
 atom_tokens (atom.Whole name) = token.name name ∷ []
 atom_tokens (atom.Part name k) =
     token.name name ∷ token.fixed sign.OpenBracket ∷ token.number k ∷ token.fixed sign.CloseBracket ∷ []
 
--- the word of an edge
+-- the reserved word of an edge
 abbrev pub edge_sign : Bool → Fixed
 edge_sign true = sign.Negedge
 edge_sign false = sign.Posedge
 
--- how a value is written
+-- the tokens of a value
 abbrev pub value_tokens : Value → List TokenValue
 value_tokens (Name role name) = token.name name ∷ []
 value_tokens (Edge falling) = token.fixed (edge_sign falling) ∷ []
@@ -54,13 +54,13 @@ value_tokens (Word word) = token.word word ∷ []
 value_tokens (Index index) = token.number index ∷ []
 value_tokens (AnAtom one) = atom_tokens one
 
--- how the value of a place is written; no token fits where there is none
+-- the tokens of the value at an index; a token that nothing fits if there is none
 abbrev pub tokens_at : List Value → ℕ → List TokenValue
 tokens_at [] place = token.stray ∷ []
 tokens_at (value ∷ values) zero = value_tokens value
 tokens_at (value ∷ values) (suc place) = tokens_at values place
 
--- whether two tokens have the same value; a stray byte is like no token
+-- whether two tokens have the same value; a stray byte equals no token
 abbrev pub is_same_bit : Bool → Bool → Bool
 is_same_bit true other = other
 is_same_bit false other = not other

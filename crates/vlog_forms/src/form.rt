@@ -1,6 +1,6 @@
 // The forms.
 
-/// How an item is written.
+/// The form of an item: how it is written.
 #[derive(Clone, Copy, Debug, PartialEq, Eq)]
 pub enum Form {
     /// `input NAME;`
@@ -27,11 +27,11 @@ pub enum Form {
     WireChoose,
     /// `assign NAME = ATOM;`
     Assign,
-    /// `always @(EDGE NAME) if (ATOM) begin if (ATOM) NAME <= BIT; else NAME <= LUT; end`
+    /// `always @(EDGE NAME) if (ATOM) begin if (ATOM) NAME <= BIT; else NAME <= LUT; end`: a flip-flop with synchronous set or reset.
     Flip,
-    /// `always @(EDGE NAME or posedge SR) if (SR) REG <= BIT; else if (ATOM) REG <= LUT;`
+    /// `always @(EDGE NAME or posedge SR) if (SR) REG <= BIT; else if (ATOM) REG <= LUT;`: a flip-flop with asynchronous set or reset.
     FlipAtOnce,
-    /// `always @(posedge SR) REG <= BIT;`
+    /// `always @(posedge SR) REG <= BIT;`: only an asynchronous set or reset, no clock.
     SetAtOnce,
     /// `always @(EDGE NAME) if (ATOM & ATOM) NAME <= NAME[ADDR];`
     Read,

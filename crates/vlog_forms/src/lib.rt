@@ -1,7 +1,7 @@
 //! The forms of the Verilog subset: how each item of a module is written.
 //!
-//! A form is a list of slots. The same list says what is printed and what is read: signs and reserved words stand for
-//! themselves, a slot for a value takes one value of its kind, and a repeat has the tokens of a value that stands before it.
+//! A form is a list of slots, and the same list is used to print and to parse. Signs and reserved words stand for themselves, a slot
+//! for a value takes one value of its kind, and a repeat has the tokens of an earlier value.
 #![tactic(auto)]
 
 mod fault;

@@ -1,41 +1,42 @@
-// Slots: what a form has one after another.
+// Slots: the parts of a form, one after another.
 
 use vlog_module::Sort;
 use vlog_tokens::Fixed;
 
-/// How an item uses a name that stands in a slot of its own.
+/// How an item uses a name that fills a slot of its own.
 #[derive(Clone, Copy, Debug, PartialEq, Eq)]
 pub enum Role {
     /// It declares the name.
     Declares(Sort),
-    /// It reads the value of one bit that the name has.
+    /// It reads the name, which has a value of one bit.
     Reads,
-    /// It reads the bit of a register of 16 bits whose index is the next value.
+    /// It reads a bit of the name, a register of 16 bits; the next value is the index of the bit.
     ReadsBit,
-    /// It takes the name for a clock or a memory.
+    /// It uses the name as a clock, as an asynchronous set or reset, or as a memory.
     Takes(Sort),
-    /// It assigns what the name is.
+    /// It assigns the name.
     Assigns(Sort),
-    /// It reads a register but for the time in which a wire is 1, when the value is a bit: the two values before it.
+    /// It reads the name, a register, by way of its asynchronous set or reset. The two values before it are the wire and the bit: the value
+    /// is the bit while the wire is 1, else the register.
     Chooses,
-    /// It assigns a register, which becomes a bit, the next value, at once where a wire, the value before it, is 1.
+    /// It assigns the name, a register with an asynchronous set or reset: the value before it is the wire, the next one the bit.
     AssignsAtOnce,
-    /// It gives the word of a memory whose index is the next value its start.
+    /// It gives a word of the name, a memory, a start value; the next value is the address of the word.
     Starts,
 }
 
-/// A part of a form. Places of values count from 0, in the order of the form.
+/// A part of a form. The values of a form have indexes from 0, in the order of their slots.
 #[derive(Clone, Copy, Debug)]
 pub enum Slot {
-    /// A blank in what is printed; no token.
+    /// A space in what is printed; no token.
     Space,
     /// A sign or a reserved word.
     Fixed(Fixed),
     /// This number.
     Literal(u8),
-    /// The tokens of the value of this place once more.
+    /// The tokens of the value at this index again.
     Again(u8),
-    /// The atoms of as many places from the first one on once more, in braces.
+    /// The atoms at the indexes from the first number on, as many as the second number, again in braces.
     AtomsAgain(u8, u8),
     /// A name; a value.
     Name(Role),
@@ -43,12 +44,12 @@ pub enum Slot {
     Edge,
     /// `1'b0` or `1'b1`; a value.
     Bit,
-    /// Four hexadecimal digits behind `16'h`; a value.
+    /// Four hexadecimal digits after `16'h`; a value.
     Word,
     /// A number up to this one; a value.
     Index(u8),
     /// A bit, a name or `NAME[k]`; a value.
     Atom,
-    /// So many atoms in braces, the highest index first; each is a value.
+    /// This many atoms in braces, the highest index first; each is a value.
     Atoms(u8),
 }

@@ -7,7 +7,7 @@ use crate::slot::{Role, Slot};
 use vlog_module::Sort;
 use vlog_tokens::Fixed;
 
-/// The slots of a form.
+/// The slots of a form, from left to right.
 pub fn slots(form: Form) -> &'static [Slot]
     ensures { result.now ≡ table form }
 {

@@ -1,8 +1,8 @@
-// Values: what a form leaves open.
+// Values: what fills the open slots of a form.
 
 use crate::slot::Role;
 
-/// What stands in a slot for a value. Names are parts of the text, or of the module.
+/// What fills a slot for a value. Names are borrowed from the text or from the module.
 #[derive(Clone, Copy, Debug)]
 pub enum Value<'a> {
     Name(Role, &'a [u8]),

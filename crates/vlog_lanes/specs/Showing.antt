@@ -1,4 +1,4 @@
--- When a lane shows an entry of a module.
+-- When a lane has the state of an entry.
 use Rattle.std.specs.Prelude.{ℕ}
 use Rattle.vlog_module.specs.Parts.{Parts}
 use Rattle.vlog_cells.specs.Boards.{Shows as LaneShows, input_count as lane_inputs}

@@ -1,11 +1,11 @@
-// Events in lanes.
+// Calls: events in lanes.
 
-/// An input gets bits in some lanes. A lane has its bit of each word: lane 0 the lowest.
+/// One input gets bits in some lanes. Lane k has bit k of each word; lane 0 has the lowest.
 #[derive(Clone, Copy, Debug, PartialEq, Eq)]
 pub struct Call {
-    /// The place of the input among the inputs, in the order of the ports; places count from 0.
+    /// The index of the input among the inputs, in the order of the ports, from 0.
     pub pin: usize,
-    /// 1 in the lanes that get an event.
+    /// 1 in each lane that gets an event.
     pub active: u64,
     pub bits: u64,
 }

@@ -1,4 +1,4 @@
-// A module that runs in sixty-four lanes.
+// A module that runs in sixty-four bit-parallel lanes.
 ghost use Rattle.std.specs.Prelude.{◌≡◌, ◌<◌, ℕ, All, IfOk, get_or, is_some, length, if◌then◌else◌};
 ghost use Rattle.std.specs.Option.{option_map};
 
@@ -7,9 +7,20 @@ use std::alloc::{AllocError, Global};
 use vlog_cells::Board;
 use vlog_module::Module;
 
-/// A module that runs in sixty-four lanes, each over events of its own: what its names have after the start, and after each call.
+/// A module that runs in sixty-four bit-parallel lanes, each over its own events.
 ///
-/// All memory is taken when it is made.
+/// All memory is taken when the lanes are made.
+///
+/// # Example
+/// ```ignore
+/// // The input of `module` is the clock of a register, which becomes 1; the output is the register.
+/// let mut lanes = Lanes::new(alloc, &module)?;
+/// lanes.event(0, 0b01, 0b11);
+/// assert!(lanes.outputs() == [1_u64].as_slice());
+/// lanes.event(0, u64::MAX, 0);
+/// lanes.run(&[Call { pin: 0, active: 0b10, bits: 0b10 }]);
+/// assert!(lanes.outputs() == [3_u64].as_slice());
+/// ```
 #[derive(Drop)]
 pub struct Lanes {
     board: Board<u64>,
@@ -26,7 +37,10 @@ impl Lanes {
     ghost use Rattle.vlog_lanes.specs.Lanes.{lane_event, lane_events, lane_of};
     ghost use Rattle.vlog_lanes.specs.Showing.{Shows, input_count};
 
-    /// The module after the start in each lane: inputs are 0, registers and memories have their start values.
+    /// The module after the start, in each lane: inputs are 0, registers and memories have their start values.
+    ///
+    /// # Errors
+    /// `AllocError` if memory is out, and for no other cause.
     pub fn new(alloc: Global, module: &Module) -> Result<Lanes, AllocError>
         ensures { IfOk result (λ lanes. (lane : ℕ) → lane < 64 → Shows lanes lane «module».now (start «module».now)) }
     {
@@ -35,8 +49,8 @@ impl Lanes {
         })
     }
 
-    /// Gives an input a bit in some lanes: those that have a 1 in `active` get their bit of `bits`, lane 0 the lowest. The others get no
-    /// event. The input is named by its place among the inputs, in the order of the ports, from 0.
+    /// Gives an input a bit in some lanes. A lane that has a 1 in `active` gets its bit of `bits`, where lane 0 has the lowest; the other
+    /// lanes get no event. `pin` is the index of the input among the inputs, in the order of the ports, from 0.
     pub fn event(&mut self, pin: usize, active: u64, bits: u64)
         requires { pin < input_count self.old }
         ensures shows { (lane : ℕ) (m : Parts) (entry : Entry) → lane < 64 → Shows self.old lane m entry
@@ -46,7 +60,7 @@ impl Lanes {
         self.board.event(pin, active, bits);
     }
 
-    /// Gives inputs their bits, one call after another.
+    /// Makes the calls, one after another.
     pub fn run(&mut self, calls: &[Call])
         requires { All (λ call. call.pin < input_count self.old) calls.now }
         ensures from_start { (lane : ℕ) (m : Parts) → lane < 64 → Shows self.old lane m (start m)
@@ -68,14 +82,14 @@ impl Lanes {
         self.board.inputs()
     }
 
-    /// The bits of the outputs in all lanes, in the order of the ports; lane 0 has the lowest bit.
+    /// The bits of the outputs in all lanes, in the order of the ports; lane 0 has the lowest bit of each word.
     pub fn outputs(&self) -> &[u64]
         ensures { (lane : ℕ) (m : Parts) (entry : Entry) → Shows self.now lane m entry → lane_of lane result.now ≡ values_of entry.outputs }
     {
         self.board.outputs()
     }
 
-    /// The bits of a register of one bit in all lanes: none of another name.
+    /// The bits of the register of one bit with this name, in all lanes, if there is one.
     pub fn register(&self, name: &[u8]) -> Option<u64>
         ensures is { (lane : ℕ) (m : Parts) (entry : Entry) → Shows self.now lane m entry
             → option_map (λ word. bit_of word lane) result ≡ value_in entry.registers name.now }
@@ -84,7 +98,7 @@ impl Lanes {
         self.board.register(name)
     }
 
-    /// The word of a register of 16 bits in a lane: none of another name.
+    /// The word of the register of 16 bits with this name, in a lane, if there is one.
     pub fn register_word(&self, lane: usize, name: &[u8]) -> Option<u16>
         requires { lane < 64 }
         ensures is { (m : Parts) (entry : Entry) → Shows self.now lane m entry → result ≡ value_in entry.words name.now }
@@ -93,7 +107,7 @@ impl Lanes {
         self.board.register_word(lane, name)
     }
 
-    /// The word of a memory at an address in a lane: none of a name that is no memory.
+    /// The word at an address of the memory with this name, in a lane, if there is one.
     pub fn word(&self, lane: usize, memory: &[u8], address: u8) -> Option<u16>
         requires { lane < 64 }
         ensures is { (m : Parts) (entry : Entry) → Shows self.now lane m entry

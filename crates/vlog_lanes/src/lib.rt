@@ -1,5 +1,5 @@
-//! Runs a module of the Verilog subset in sixty-four lanes at once, each over events of its own: what a cell has is a word with a bit for
-//! each lane.
+//! Runs a module of the Verilog subset in sixty-four bit-parallel lanes, each over its own events: a cell is a word with one bit for each
+//! lane.
 #![tactic(auto)]
 
 mod call;

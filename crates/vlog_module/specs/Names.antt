@@ -1,13 +1,14 @@
--- Names: a letter or the underscore, then letters, digits and underscores, and no reserved word.
+-- Names: a letter or an underscore, then letters, digits and underscores, but no reserved word (IEEE Std 1364-2005, 3.7 identifiers;
+-- without `$` and escaped identifiers, and with the reserved words of the subset alone).
 use Rattle.std.specs.Prelude.{ℕ, Bool, false, not, ◌&&◌, ◌||◌, ◌==◌, List, [], ◌∷◌, codes, bytes_eq, IsTrue}
 use Rattle.std.specs.List.{list_all, list_any}
 use Rattle.std.specs.Char.{is_ascii_alphabetic, is_ascii_digit}
 
--- a letter or the underscore
+-- a letter or an underscore
 abbrev pub is_letter : ℕ → Bool
 is_letter byte = is_ascii_alphabetic byte || (byte == 95)
 
--- a letter, the underscore or a digit
+-- a letter, an underscore or a digit
 abbrev pub is_name_byte : ℕ → Bool
 is_name_byte byte = is_letter byte || is_ascii_digit byte
 
@@ -16,7 +17,7 @@ abbrev pub is_word : List ℕ → Bool
 is_word [] = false
 is_word (byte ∷ bytes) = is_letter byte && list_all is_name_byte bytes
 
--- the words that aren't names
+-- the reserved words, which can't be names
 unfoldable pub reserved_words : List (List ℕ)
 reserved_words =
     codes "module" ∷ codes "endmodule" ∷ codes "input" ∷ codes "output" ∷ codes "reg" ∷ codes "wire" ∷ codes "assign"

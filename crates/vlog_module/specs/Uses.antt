@@ -14,22 +14,22 @@ use Rattle.vlog_module.specs.declared.item.Item.TheVariants.{Register as Registe
 pub data Use : Type 0 where
   -- it declares the name
   Declares : (sort : Sort) (name : List ℕ) → Use
-  -- it reads the value of one bit that the name has
+  -- it reads the name, which has a value of one bit
   Reads : (name : List ℕ) → Use
-  -- it reads bit k of the register of 16 bits that the name is
+  -- it reads bit k of the name, which is a register of 16 bits
   ReadsBit : (name : List ℕ) (k : ℕ) → Use
-  -- it takes the name for a clock or a memory
+  -- it uses the name as a clock, as an asynchronous set or reset, or as a memory
   Takes : (sort : Sort) (name : List ℕ) → Use
-  -- it assigns what the name is
+  -- it assigns the name
   Assigns : (sort : Sort) (name : List ℕ) → Use
-  -- it reads the register that the name is, but for the time in which this wire is 1, when the value is the bit
+  -- it reads the name, a register with an asynchronous set or reset, by way of that: the bit `set` while the wire `reset` is 1
   Chooses : (reset : List ℕ) (set : Bool) (name : List ℕ) → Use
-  -- it assigns the register that the name is, which becomes the bit at once where this wire is 1
+  -- it assigns the name, a register that the wire `reset` sets (if the bit `set` is 1) or resets asynchronously
   AssignsAtOnce : (reset : List ℕ) (set : Bool) (name : List ℕ) → Use
-  -- it gives word k of the memory its start
+  -- it gives word k of the memory its start value
   Starts : (name : List ℕ) (k : ℕ) → Use
 
--- the name that is used
+-- the name that a use uses
 abbrev pub used_name : Use → List ℕ
 used_name (Declares sort name) = name
 used_name (Reads name) = name
@@ -45,7 +45,7 @@ atom_uses (Bit bit) = []
 atom_uses (Whole name) = Reads name ∷ []
 atom_uses (Part name k) = ReadsBit name k ∷ []
 
--- the names of a list of atoms, which is written with the highest index first
+-- the names of a list of atoms; the text has the atom of the highest index first
 abbrev pub atoms_uses : List Atom → List Use
 atoms_uses [] = []
 atoms_uses (atom ∷ atoms) = atoms_uses atoms ++ atom_uses atom
@@ -61,7 +61,7 @@ right_uses (RightLut lut) = lut_uses lut
 right_uses (Majority a b c) = atom_uses a ++ atom_uses b ++ atom_uses c
 right_uses (Choose reset set target) = Takes Wire reset ∷ Chooses reset set target ∷ []
 
--- the names of an item, without those that its text repeats
+-- the names of an item, from left to right; a name that the text repeats is listed once
 abbrev pub uses_of : Item → List Use
 uses_of (RegisterItem name start) = Declares Register name ∷ []
 uses_of (WordItem name start) = Declares Word name ∷ []

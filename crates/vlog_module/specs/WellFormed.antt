@@ -1,4 +1,4 @@
--- Well-formed modules: which items may stand after others.
+-- Well-formed modules: which items may follow others. The order of the sections is this project's choice.
 use Rattle.std.specs.Prelude.{◌≡◌, ℕ, ◌<◌, ◌≤◌, Bool, true, false, not, ◌&&◌, ◌||◌, ◌==◌, List, [], ◌∷◌, ◌++◌, Option, Some, None, is_none, bytes_eq, fold, map, flat_map, length, take, slice_get, if◌then◌else◌, IsTrue, All}
 use Rattle.std.specs.Bool.{beq}
 use Rattle.std.specs.List.{list_all, list_any, IsDistinct}
@@ -16,7 +16,7 @@ use Rattle.vlog_module.specs.Parts.{Parts}
 use Rattle.vlog_module.specs.Uses.{Use, uses_of, right_uses, used_name}
 use Rattle.vlog_module.specs.Uses.Use.{Declares, Reads, ReadsBit, Takes, Assigns, Chooses, AssignsAtOnce, Starts}
 
--- ---- what stands before an item
+-- ---- what comes before an item
 
 -- the section of an item; the ports are section 1
 abbrev pub section_of : Item → ℕ
@@ -37,39 +37,40 @@ section_of (Start memory k word) = 10
 abbrev pub port_sort : Port → Sort
 port_sort port = if port.output then Output else Input
 
--- a name with what it is declared as
+-- the name that a use declares, with what it is declared as
 abbrev pub declared_by : Use → List (List ℕ × Sort)
 declared_by (Declares sort name) = (name, sort) ∷ []
 declared_by _ = []
 
--- a name that is assigned
+-- the name that a use assigns
 abbrev pub assigned_by : Use → List (List ℕ)
 assigned_by (Assigns sort name) = name ∷ []
 assigned_by (AssignsAtOnce reset set name) = name ∷ []
 assigned_by _ = []
 
--- a memory and the place of a word of it that is given its start
+-- the memory and the index of its word that a use gives a start value
 abbrev pub started_by : Use → List (List ℕ × ℕ)
 started_by (Starts name k) = (name, k) ∷ []
 started_by _ = []
 
--- how a wire reads a register: as it is, or but for the time in which a wire is 1, when the value is a bit
+-- how a wire reads a register: as it is, or by way of its asynchronous set or reset: the bit `set` while the wire `reset` is 1
 pub data Reading : Type 0 where
   plainly : Reading
   unless : (reset : List ℕ) (set : Bool) → Reading
 
--- a name that is read, and how
+-- the name that a use reads, and how
 abbrev pub read_by : Use → List (List ℕ × Reading)
 read_by (Reads name) = (name, plainly) ∷ []
 read_by (Chooses reset set name) = (name, unless reset set) ∷ []
 read_by _ = []
 
--- what a wire reads
+-- the names that a wire reads, and how
 abbrev pub wire_readings : Item → List (List ℕ × Reading)
 wire_readings (WireItem name right) = flat_map read_by (right_uses right)
 wire_readings _ = []
 
--- what items leave for those after them: the section of the last one, the declared names, what wires read, and what is assigned
+-- what the items so far leave for those after them: the section of the last one, the names that are declared, how wires read names, the
+-- names that are assigned, and the words of memories that have a start value
 pub record Scope : Type 0 where
   pub section : ℕ
   pub declared : List (List ℕ × Sort)
@@ -89,11 +90,11 @@ scope_of ports items = record {
 
 -- ---- which item may come next
 
--- what a name is declared as
+-- what a name is declared as, if it is
 abbrev pub sort_in : List (List ℕ × Sort) → List ℕ → Option Sort
 sort_in declared name = value_in declared name
 
--- whether both are the same
+-- whether both are the same kind of name
 abbrev pub is_same_sort : Sort → Sort → Bool
 is_same_sort Input Input = true
 is_same_sort Output Output = true
@@ -115,16 +116,17 @@ has_bit (Some Register) = true
 has_bit (Some Wire) = true
 has_bit _ = false
 
--- whether a register is read but for the time in which this wire is 1, when the value is this bit
+-- whether a register is read by way of this asynchronous set or reset
 abbrev pub is_unless : List ℕ → Bool → Reading → Bool
 is_unless reset set plainly = false
 is_unless reset set (unless other bit) = bytes_eq other reset && beq bit set
 
--- whether each wire that reads the register does so but for the time in which this wire is 1
+-- whether each wire that reads the register does so by way of this asynchronous set or reset
 abbrev pub is_read_unless : List (List ℕ × Reading) → List ℕ → Bool → List ℕ → Bool
 is_read_unless readings reset set name = list_all (λ one. not (bytes_eq one.0 name) || is_unless reset set one.1) readings
 
--- whether the name is declared before as what it is used as, and a register that is assigned at once is read accordingly
+-- whether the name is declared before, and as what it is used as; if it is a register with an asynchronous set or reset, whether each wire
+-- that reads it does so by way of that
 abbrev pub is_known : Scope → Use → Bool
 is_known scope (Declares sort name) = true
 is_known scope (Reads name) = has_bit (sort_in scope.declared name)
@@ -136,7 +138,7 @@ is_known scope (AssignsAtOnce reset set name) =
     is_sort Register (sort_in scope.declared name) && is_read_unless scope.read reset set name
 is_known scope (Starts name k) = is_sort Memory (sort_in scope.declared name)
 
--- whether nothing before declares the same name, or assigns the same
+-- whether nothing before declares the same name, assigns it, or gives the same word a start value
 abbrev pub is_first : Scope → Use → Bool
 is_first scope (Declares sort name) = is_none (sort_in scope.declared name)
 is_first scope (Assigns sort name) = not (list_any (λ other. bytes_eq other name) scope.assigned)
@@ -144,13 +146,13 @@ is_first scope (AssignsAtOnce reset set name) = not (list_any (λ other. bytes_e
 is_first scope (Starts name k) = not (list_any (λ other. bytes_eq other.0 name && (other.1 == k)) scope.started)
 is_first scope _ = true
 
--- whether a number that is written with a name is in its range
+-- whether a number that is written with a name is in its range: the index of a bit or the address of a word
 abbrev pub IsInRange : Use → Type 0
 IsInRange (ReadsBit name k) = k ≤ 15
 IsInRange (Starts name k) = k ≤ 255
 IsInRange _ = Unit {0}
 
--- a word of 16 bits and four atoms
+-- a LUT: a word of 16 bits and four atoms
 abbrev pub IsLut : Lut → Type 0
 IsLut lut = (lut.word < 65536) × (length lut.ins ≡ 4)
 
@@ -158,7 +160,7 @@ abbrev pub IsRight : Right → Type 0
 IsRight (RightLut lut) = IsLut lut
 IsRight _ = Unit {0}
 
--- whether words have 16 bits, tables four inputs, addresses eight bits, shifts three, and masks and bits sixteen
+-- whether words have 16 bits, LUTs four inputs, addresses eight bits, shifts three bits, and masks and data sixteen bits
 abbrev pub IsShaped : Item → Type 0
 IsShaped (WordItem name start) = start < 65536
 IsShaped (WireItem name right) = IsRight right
@@ -174,7 +176,7 @@ IsShaped (WriteNarrow falling clock clock_enable enable memory address pattern s
 IsShaped (Start memory k word) = word < 65536
 IsShaped _ = Unit {0}
 
--- an item may come next
+-- an item that may come next: its lists have the right lengths, its section isn't past, and each use is named, in range, known and first
 pub record IsAllowed (scope : Scope) (item : Item) : Type 0 where
   pub shaped : IsShaped item
   pub ordered : scope.section ≤ section_of item
@@ -185,17 +187,17 @@ pub record IsAllowed (scope : Scope) (item : Item) : Type 0 where
 
 -- ---- modules
 
--- the ports are apart, and each item may come after the ports and the items before it
+-- the names of the ports differ, and each item may come after the ports and the items before it
 pub record IsBegun (ports : List Port) (items : List Item) : Type 0 where
   pub named : All (λ port. IsName port.name) ports
   pub apart : IsDistinct bytes_eq (map (λ port. port.name) ports)
   pub allowed : (i : ℕ) (item : Item) → slice_get items i ≡ Some item → IsAllowed (scope_of ports (take i items)) item
 
--- whether the items assign a name
+-- whether some item assigns a name
 abbrev pub is_assigned : List Item → List ℕ → Bool
 is_assigned items name = list_any (λ other. bytes_eq other name) (flat_map assigned_by (flat_map uses_of items))
 
--- a module may end where each output is assigned
+-- a module may end if each output is assigned
 abbrev pub IsComplete : List Port → List Item → Type 0
 IsComplete ports items = All (λ port. IsTrue port.output → IsTrue (is_assigned items port.name)) ports
 

@@ -16,7 +16,7 @@ pub enum Atom {
     Part { name: Name, k: u8 },
 }
 
-/// A list of atoms, the lowest index first.
+/// A list of atoms. Index 0 is the lowest bit, which Verilog's concatenation has last.
 #[derive(Drop)]
 pub struct Atoms {
     atoms: Vec<Atom>,
@@ -32,7 +32,7 @@ impl Model for Atoms {
 }
 
 impl Atoms {
-    /// No atoms.
+    /// An empty list. It takes no memory yet.
     pub fn new(alloc: Global) -> Atoms
         ensures { result ≡ [] }
     {
@@ -41,7 +41,10 @@ impl Atoms {
         }
     }
 
-    /// Adds an atom at the end. Where there is no memory for it, it is dropped.
+    /// Adds an atom at the end.
+    ///
+    /// # Errors
+    /// `AllocError` if memory is out, and for no other cause. Then the atom is dropped, and the list stays as it is.
     pub fn push(&mut self, atom: Atom) -> Result<(), AllocError>
         ensures pushed { OnOk result (self.new ≡ self.old ++ atom ∷ []) }
         ensures unchanged { OnErr result (self.new ≡ self.old) }
@@ -57,7 +60,7 @@ impl Atoms {
         self.atoms.len()
     }
 
-    /// The atom of a place; places count from 0.
+    /// The atom at an index, from 0.
     pub fn get(&self, place: usize) -> &Atom
         requires { place < length self.now }
         ensures { slice_get self.now place ≡ Some result.now }

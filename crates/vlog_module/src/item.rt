@@ -3,7 +3,8 @@
 use crate::atoms::{Atom, Atoms};
 use crate::name::Name;
 
-/// A table of 16 bits, `WORD >> {in_3, in_2, in_1, in_0}`: bit `in_0 + 2 * in_1 + 4 * in_2 + 8 * in_3` of the word.
+/// A LUT with four inputs, as `SB_LUT4`: `WORD >> {in_3, in_2, in_1, in_0}`, which is bit `in_0 + 2 * in_1 + 4 * in_2 + 8 * in_3` of the
+/// word.
 #[derive(Drop)]
 pub struct Lut {
     pub word: u16,
@@ -11,7 +12,7 @@ pub struct Lut {
     pub ins: Atoms,
 }
 
-/// The value of a wire.
+/// The right side of a wire.
 #[derive(Drop)]
 pub enum Right {
     /// `1'b0` or `1'b1`.
@@ -23,15 +24,15 @@ pub enum Right {
         name: Name,
         k: u8,
     },
-    /// A table of four atoms.
+    /// A LUT of four atoms.
     Lut(Lut),
-    /// What two of three atoms have: `(a & b) | (a & c) | (b & c)`.
+    /// The majority of three atoms, `(a & b) | (a & c) | (b & c)`: the carry-out of `SB_CARRY`.
     Majority {
         a: Atom,
         b: Atom,
         c: Atom,
     },
-    /// `reset ? set : target`: the bit where an earlier wire is 1, else a register of one bit.
+    /// `reset ? set : target`: the bit `set` if an earlier wire is 1, else a register of one bit.
     Choose {
         reset: Name,
         set: bool,
@@ -39,7 +40,7 @@ pub enum Right {
     },
 }
 
-/// An item. A module lists its items so that their sections, in the order below, don't fall.
+/// An item. A module lists its items so that their sections, in the order below, never go back.
 #[derive(Drop)]
 pub enum Item {
     /// `reg NAME = BIT;`
@@ -66,7 +67,8 @@ pub enum Item {
         name: Name,
         value: Atom,
     },
-    /// `always @(EDGE clock) if (enable) begin if (reset) target <= set; else target <= lut; end`
+    /// `always @(EDGE clock) if (enable) begin if (reset) target <= set; else target <= lut; end`: a flip-flop with a clock enable and
+    /// a synchronous set or reset, as `SB_DFFESS` and `SB_DFFESR`.
     Flip {
         /// Whether the edge is `negedge`.
         falling: bool,
@@ -77,26 +79,27 @@ pub enum Item {
         target: Name,
         lut: Lut,
     },
-    /// `always @(EDGE clock or posedge reset) if (reset) target <= set; else if (enable) target <= lut;`
+    /// `always @(EDGE clock or posedge reset) if (reset) target <= set; else if (enable) target <= lut;`: a flip-flop with a clock enable
+    /// and an asynchronous set or reset, as `SB_DFFES` and `SB_DFFER`.
     FlipAtOnce {
         /// Whether the edge of the clock is `negedge`.
         falling: bool,
         clock: Name,
-        /// A wire.
+        /// A wire: the asynchronous set or reset.
         reset: Name,
         set: bool,
         target: Name,
         enable: Atom,
         lut: Lut,
     },
-    /// `always @(posedge reset) target <= set;`: a flip-flop without a clock.
+    /// `always @(posedge reset) target <= set;`: a flip-flop without a clock, which has only an asynchronous set or reset.
     SetAtOnce {
-        /// A wire.
+        /// A wire: the asynchronous set or reset.
         reset: Name,
         set: bool,
         target: Name,
     },
-    /// `always @(EDGE clock) if (clock_enable & enable) target <= memory[address];`
+    /// `always @(EDGE clock) if (clock_enable & enable) target <= memory[address];`: the read port of an `SB_RAM40_4K`, 16 bits wide.
     Read {
         /// Whether the edge is `negedge`.
         falling: bool,
@@ -108,8 +111,8 @@ pub enum Item {
         /// Eight atoms, the lowest bit of the address first.
         address: Atoms,
     },
-    /// `always @(EDGE clock) if (clock_enable & enable) target <= (memory[address] >> shift) & pattern;`: the word is moved down, and
-    /// the bits of the pattern stay.
+    /// `always @(EDGE clock) if (clock_enable & enable) target <= (memory[address] >> shift) & pattern;`: the read port of an `SB_RAM40_4K`
+    /// that is 8, 4 or 2 bits wide. The word is shifted down, and the bits of the pattern are kept.
     ReadNarrow {
         /// Whether the edge is `negedge`.
         falling: bool,
@@ -124,7 +127,8 @@ pub enum Item {
         shift: Atoms,
         pattern: u16,
     },
-    /// `always @(EDGE clock) if (clock_enable & enable) memory[address] <= (memory[address] & mask) | (bits & ~mask);`
+    /// `always @(EDGE clock) if (clock_enable & enable) memory[address] <= (memory[address] & mask) | (bits & ~mask);`: the write port of
+    /// an `SB_RAM40_4K`, 16 bits wide.
     Write {
         /// Whether the edge is `negedge`.
         falling: bool,
@@ -134,14 +138,14 @@ pub enum Item {
         memory: Name,
         /// Eight atoms, the lowest bit of the address first.
         address: Atoms,
-        /// Sixteen atoms, the lowest bit first; a bit of the word stays where its atom is 1.
+        /// Sixteen atoms, the lowest bit first. A bit of the word isn't written if its atom is 1.
         mask: Atoms,
         /// Sixteen atoms, the lowest bit first.
         bits: Atoms,
     },
     /// `always @(EDGE clock) if (clock_enable & enable)
-    /// memory[address] <= (memory[address] & ~(pattern << shift)) | (bits & (pattern << shift));`, on one line: the pattern is moved up,
-    /// and the bits under it are written.
+    /// memory[address] <= (memory[address] & ~(pattern << shift)) | (bits & (pattern << shift));`, on one line: the write port of an
+    /// `SB_RAM40_4K` that is 8, 4 or 2 bits wide. The pattern is shifted up, and the bits under it are written.
     WriteNarrow {
         /// Whether the edge is `negedge`.
         falling: bool,

@@ -1,8 +1,7 @@
 //! Modules of the Verilog subset: their names, atoms, items and ports.
 //!
-//! A module is kept as the parts that its text names, without what the text repeats. A module that can be made is
-//! well-formed: each name is declared once and used as what it was declared, nothing is assigned twice, and each output
-//! is assigned.
+//! A module is kept as the parts that its text names; what the text repeats is kept once. Every `Module` is well-formed: each name is
+//! declared once and is used as what it is declared as, nothing is assigned twice, and each output is assigned.
 #![tactic(auto)]
 
 mod atoms;

@@ -1,4 +1,4 @@
-// Modules, each well-formed.
+// Modules, which are always well-formed.
 ghost use Rattle.std.specs.Prelude.{◌≡◌};
 
 use crate::item::Item;
@@ -35,7 +35,7 @@ impl Model for Module {
 impl Module {
     ghost use Rattle.vlog_module.specs.WellFormed.{IsWellFormed, IsModule};
 
-    /// The module of a name, ports and items. They have to be well-formed.
+    /// Makes a module of its name, ports and items, which have to be well-formed.
     pub fn of(name: Name, ports: Vec<Port>, items: Vec<Item>) -> Module
         requires { IsWellFormed name ports.items items.items }
         ensures name { result.name ≡ name }

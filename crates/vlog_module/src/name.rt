@@ -6,7 +6,7 @@ ghost use Rattle.vlog_module.specs.Names.{is_letter, is_name, is_name_byte, is_r
 use std::alloc::{AllocError, Global};
 use std::marker::Model;
 
-/// A name: a letter or `_`, then letters, digits and `_`, and no reserved word.
+/// A name: a letter or `_`, then letters, digits and `_`, but no reserved word.
 #[derive(Drop)]
 pub struct Name {
     bytes: Vec<u8>,
@@ -24,7 +24,10 @@ impl Model for Name {
 }
 
 impl Name {
-    /// The name of these bytes.
+    /// The name that has these bytes, which have to be a name.
+    ///
+    /// # Errors
+    /// `AllocError` if memory is out, and for no other cause.
     pub fn new(alloc: Global, bytes: &[u8]) -> Result<Name, AllocError>
         requires { IsName bytes.now }
         ensures { IfOk result (λ name. name ≡ bytes.now) }
@@ -76,7 +79,7 @@ fn is_letter(byte: u8) -> bool
     byte.is_ascii_alphabetic() || byte == b'_'
 }
 
-/// The words that the language keeps for itself.
+/// The reserved words of the subset.
 const RESERVED: [&str; 16] = [
     "module",
     "endmodule",

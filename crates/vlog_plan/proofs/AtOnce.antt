@@ -1,4 +1,4 @@
--- What well-formed modules say of registers that wires set at once.
+-- Registers with an asynchronous set or reset, in well-formed modules.
 use Rattle.std.proofs.Common.{◌≡◌, ℕ, zero, suc, ◌+◌, ◌<◌, ◌≤◌, Bool, true, false, cond, List, [], ◌∷◌, ◌++◌, append_assoc, Option, Some, None, inl, inr, ap, ap₂, arith, get_or, length, refl, subst, sym, take, drop, ltb, ◌∙◌}
 use Rattle.std.specs.Prelude.{◌||◌, ◌&&◌, not, IsTrue, bytes_eq, flat_map, map, slice_get, unwrap_or}
 use Rattle.std.specs.List.{list_all}
@@ -26,7 +26,7 @@ use Rattle.vlog_module.specs.WellFormed.{IsAllowed, IsModule, Reading, Scope, de
 use Rattle.vlog_plan.specs.ModuleSlots.{wire_names}
 use Rattle.vlog_plan.specs.Named.{has_name}
 
--- a register that becomes a bit at once where a wire is 1
+-- an asynchronous set or reset, which makes a register a bit while a wire is 1
 pub record AtOnce : Type 0 where
   pub reset : List ℕ
   pub set_to : Bool
@@ -130,7 +130,7 @@ declared-more ports items i name sort is =
     ∙ ap (λ list. value_in list name) (sym (append_assoc first (of (take i items)) (of (drop i items))))
     ∙ found-more (first ++ of (take i items)) (of (drop i items)) name sort is
 
--- ---- where such items stand
+-- ---- the order of such items
 
 -- what each item of a module says, by its place
 pub record IsDeclared (m : Parts) (one : AtOnce) : Type 0 where
@@ -194,7 +194,7 @@ all-read test (first ∷ items) zero item passes at =
 all-read test (first ∷ items) (suc k) item passes at =
     all-read test items k item (and-right (list_all test (wire_readings first)) (list_all test (flat_map wire_readings items)) (sym (list_all-append test (wire_readings first) (flat_map wire_readings items)) ∙ passes)) at
 
--- how a wire may read: as it is what isn't set at once, else with the same wire and bit
+-- how a wire may read: a register without asynchronous set or reset as it is, others with the same wire and bit
 abbrev pub is_read_well : AtOnce → List ℕ × Reading → Bool
 is_read_well one reading = not (bytes_eq reading.0 one.target) || is_unless one.reset one.set_to reading.1
 
@@ -207,7 +207,7 @@ get-take (first ∷ items) (suc i) (suc k) item lt at = get-take items i k item 
 below-length : (items : List Item) (k : ℕ) (item : Item) → slice_get items k ≡ Some item → k ≤ length items
 below-length items k item at = omega (arith, slice_get_within items k item at)
 
--- each wire reads so each register that is set at once
+-- each wire reads so each register with an asynchronous set or reset
 pub read-well : (m : Parts) (i k : ℕ) (item wire : Item) (one : AtOnce) → IsModule m → slice_get m.items i ≡ Some item → at_once item ≡ Some one → slice_get m.items k ≡ Some wire → section_of wire ≡ 5
     → list_all (is_read_well one) (wire_readings wire) ≡ true
 read-well m i k item wire one whole at is wire_at wire_is =

@@ -28,7 +28,7 @@ part-value bits words k None = refl
 abbrev pub slots_of : {A : Type 0} → List (List ℕ × A) → List ℕ → Option ℕ
 slots_of entries = value_in (numbered 0 (names_of entries))
 
--- an operand, whatever stands in later slots
+-- an operand, whatever is in later slots
 pub operand-same : (from : Readable) (behind : List Bool) (atom : Atom)
     → operand_value (values_of from.bits ++ behind) (values_of from.words) (operand_of (slots_of from.bits) (slots_of from.words) atom) ≡ atom_value from atom
 operand-same from behind (Bit bit) = refl

@@ -26,7 +26,7 @@ use Rattle.vlog_plan.proofs.Lookups.{put-slot}
 use Rattle.vlog_plan.proofs.Resting.{put-again}
 use Rattle.vlog_plan.proofs.Stepping.{cond-same, fold-keeps, fold-same-steps, given-out, names-given}
 
--- where names are found by the names of an entry
+-- how names are resolved by the names of an entry
 abbrev pub entry_places : Entry → Places
 entry_places entry = record {
   pins = slots_of entry.inputs;
@@ -36,7 +36,7 @@ entry_places entry = record {
   memories = slots_of entry.memories;
 }
 
--- the bits, where the registers have these
+-- the bits, if the registers have these
 abbrev pub with_registers : Entry → List (List ℕ × Bool) → List Bool
 with_registers entry registers = values_of entry.inputs ++ (values_of registers ++ values_of entry.wires)
 
@@ -93,7 +93,7 @@ flip-acts m entry event registers falling clock target enable reset set_to table
     ∙ ap (λ list. cond acts list next) (register-placed entry registers target value named)
     ∙ given-out (with_registers entry) acts registers (target, value)
 
--- the second step of a flip-flop that a wire sets at once
+-- the second step of a flip-flop with asynchronous set or reset
 reset-found : (falling : Bool) (enable reset : Operand) (set_to : Bool) (table : Table) (pin target : Option ℕ)
     → option_map at_reset (of_two pin target (made_flip falling enable reset set_to table)) ≡ of_two pin target (made_flip falling reset reset set_to table)
 reset-found falling enable reset set_to table None target = refl

@@ -1,4 +1,4 @@
--- Entries of a module, and what stands in the slots for them.
+-- Entries of a module, and the values in slots that they stand for.
 use Rattle.std.proofs.Common.{◌≡◌, ℕ, zero, suc, ◌<◌, Bool, true, false, cond, List, [], ◌∷◌, ◌++◌, append_assoc, append-nil, ap, ap₂, flat_map, fold, length, get_or, set, refl, sym, subst, ◌∙◌}
 use Rattle.std.specs.Prelude.{map}
 use Rattle.std.specs.List.{filter_map}
@@ -75,7 +75,7 @@ places-same m entry named =
     (ap (λ names. value_in (numbered 0 names)) named.words)
     (ap (λ names. value_in (numbered 0 names)) named.memories)
 
--- the bits, where registers have been given new ones
+-- the bits, after registers were given new ones
 pub registers-apart : (entry : Entry) → values_of (readable entry).bits ≡ with_registers entry entry.registers
 registers-apart entry =
     map-append (λ (e : List ℕ × Bool). e.1) (entry.inputs ++ entry.registers) entry.wires
@@ -94,7 +94,7 @@ wired-bits m inputs registers words memories old named size =
     (ap₂ (λ find all. wires_of find all m.items) (ap (λ all. value_in (numbered 0 all)) (sym named.words_are)) names)
     ∙ settle-same known words [] m.items old size
 
--- registers settle
+-- asynchronous sets and resets of registers
 rested-bits : (m : Parts) (plan : Plan) (inputs registers : List (List ℕ × Bool)) (words : List (List ℕ × ℕ)) (memories : List (List ℕ × List ℕ))
     → AreNamed m inputs registers words memories → IsPlan m plan
     → settle_slots plan.settles.items (values_of (readable (unsettled m inputs registers words memories)).bits) ≡ values_of (readable (settled m inputs registers words memories)).bits
@@ -107,7 +107,7 @@ rested-bits m plan inputs registers words memories named planned =
     ∙ rests-same entry registers m.items refl
     ∙ sym (registers-apart (settled m inputs registers words memories))
 
--- wires and registers settle, whatever the wires had before
+-- wires and then asynchronous sets and resets, whatever the wires had before
 pub settled-bits : (m : Parts) (plan : Plan) (inputs registers : List (List ℕ × Bool)) (words : List (List ℕ × ℕ)) (memories : List (List ℕ × List ℕ)) (old : List Bool)
     → AreNamed m inputs registers words memories → IsPlan m plan → length old ≡ length (wire_names m.items)
     → settled_slots plan (module_wires m) (values_of words) (values_of (inputs ++ registers) ++ old) ≡ values_of (readable (settled m inputs registers words memories)).bits

@@ -1,4 +1,4 @@
--- what well-formed modules say of registers that wires set at once
+-- registers with an asynchronous set or reset, in well-formed modules
 pub mod AtOnce
 -- operands over slots have the values of their atoms
 pub mod Atoms
@@ -8,7 +8,7 @@ pub mod Beginning
 pub mod Cells
 -- clocked items over slots do what the items of the module do
 pub mod Clocked
--- entries of a module, and what stands in the slots for them
+-- entries of a module, and the values in slots that they stand for
 pub mod Entering
 -- lists that are filled place by place
 pub mod Filling
@@ -28,7 +28,7 @@ pub mod Reading
 pub mod Resting
 -- runs that go on
 pub mod Runs
--- registers that wires set at once, over slots and by their names
+-- registers with an asynchronous set or reset, over slots and by their names
 pub mod Settling
 -- what slots show is what follows in the module
 pub mod Showing

@@ -46,7 +46,7 @@ value_in-known {A = A} entries name value q is =
     ] in
     value_in-push entries name value q ∙ here (bytes_eq name q) refl
 
--- ---- values by slots, with other values before and behind
+-- ---- values by slots, with other values before and after
 
 -- what a slot has
 pub value_in-slot : {A : Type 0} (before : List A) (entries : List (List ℕ × A)) (behind : List A) (name : List ℕ) (d : A) (from : ℕ) → length before ≡ from

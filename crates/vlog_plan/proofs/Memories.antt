@@ -52,7 +52,7 @@ read-slots event bits words memories next falling (Some pin) None (Some place) c
 read-slots event bits words memories next falling (Some pin) (Some slot) None clock_enable enable address taken = cond-same _ next
 read-slots event bits words memories next falling (Some pin) (Some slot) (Some place) clock_enable enable address taken = refl
 
--- what a read assigns, where it acts and there is a memory
+-- what a read assigns, if it acts and there is a memory
 abbrev given_read : Bool → List ℕ → Option (List ℕ) → ℕ → (ℕ → ℕ) → Option (List ℕ × ℕ)
 given_read acts target memory address take_it = cond acts (option_map (λ words. (target, take_it (get_or words address 0))) memory) None
 

@@ -18,7 +18,7 @@ use Rattle.vlog_plan.proofs.Clocked.{entry_places}
 use Rattle.vlog_plan.proofs.Entering.{places-same, registers-apart}
 use Rattle.vlog_plan.proofs.Lookups.{value_in-slot, value_in-slots}
 
--- where names are found
+-- how names are resolved
 found-places : (m : Parts) (entry : Entry) (layout : Layout) → IsLaidOut m layout → IsNamed m entry → entry_places entry ≡ places_in layout.places
 found-places m entry layout laid named = places-same m entry named ∙ sym laid.places
 
@@ -45,7 +45,7 @@ memory-read m entry layout memories name address laid named are =
     ∙ map-in (values_of entry.memories) address ((entry_places entry).memories name)
     ∙ ap₂ (λ list (at : Places). option_map (λ place. word_in list place address) (at.memories name)) (sym are) (found-places m entry layout laid named)
 
--- the registers of one bit stand between the inputs and the wires
+-- the registers of one bit come between the inputs and the wires
 pub record RegistersAt (layout : Layout) (entry : Entry) (bits : List Bool) : Type 0 where
   pub ordered : layout.input_count ≤ layout.first_wire
   pub within : layout.first_wire ≤ length bits

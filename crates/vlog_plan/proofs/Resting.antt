@@ -102,7 +102,7 @@ puts-twice (one ∷ given) entries =
           ∙ put-again (fold put_pair entries given) one.0 one.1 one.1 ∙ sym (last entries)
     ]
 
--- ---- registers that settle
+-- ---- asynchronous sets and resets of registers
 
 -- what one item does
 rest_one : Readable → List (List ℕ × Bool) → Option AtOnce → List (List ℕ × Bool)
@@ -165,7 +165,7 @@ rests-twice from registers items =
     ∙ puts-twice given registers
     ∙ puts-are from registers items
 
--- where the wires that set registers have the same values, the registers settle alike
+-- if the wires of asynchronous sets and resets have the same values, the registers are set and reset in the same way
 pub rests-alike : (from other : Readable) (registers : List (List ℕ × Bool)) (items : List Item)
     → ((i : ℕ) (item : Item) (one : AtOnce) → slice_get items i ≡ Some item → at_once item ≡ Some one → atom_value other (Whole one.reset) ≡ atom_value from (Whole one.reset))
     → fold (settle_step other) registers items ≡ fold (settle_step from) registers items
@@ -186,7 +186,7 @@ rest-kept from registers (item ∷ items) name apart =
 
 -- ---- modules without such items
 
--- where no wire sets a register at once, nothing settles
+-- if there is no asynchronous set or reset, no register changes
 pub rests-plain : (from : Readable) (registers : List (List ℕ × Bool)) (items : List Item) → All (λ item. is_at_once item ≡ false) items → fold (settle_step from) registers items ≡ registers
 rests-plain from registers [] plain = refl
 rests-plain from registers (item ∷ items) plain =

@@ -1,4 +1,4 @@
--- Registers that wires set at once, over slots and by their names.
+-- Registers with an asynchronous set or reset, over slots and by their names.
 use Rattle.std.proofs.Common.{◌≡◌, ℕ, Bool, true, false, cond, List, Option, Some, None, ap₂, fold, get_or, refl, set, sym, ◌∙◌}
 use Rattle.std.specs.Prelude.{unwrap_or}
 use Rattle.std.specs.List.{filter_map}
@@ -62,7 +62,7 @@ settle-step entry registers other named = refl
 
 -- ---- all items
 
--- registers that settle, over slots
+-- asynchronous sets and resets of registers, over slots
 pub rests-same : (entry : Entry) (registers : List (List ℕ × Bool)) (items : List Item) → names_of registers ≡ names_of entry.registers
     → fold (settle_slot (values_of (readable entry).bits)) (with_registers entry registers) (filter_map (settle_of (entry_places entry)) items)
     ≡ with_registers entry (fold (settle_step (readable entry)) registers items)

@@ -30,7 +30,7 @@ words-count m entry named = count-names entry.words (word_names m.items) named.w
 
 -- ---- an event
 
--- where the input has the bit already, the same is shown
+-- if the input has the bit already, nothing changes
 pub shown-same : (m : Parts) (entry : Entry) (event : Event) (bits : List Bool) (words : List ℕ) (memories : List (List ℕ)) (outputs : List Bool)
     → ShowsEntry m entry bits words memories outputs → event.pin < length (input_names m.ports) → is_same_bit event.bit (get_or bits event.pin false) ≡ true
     → ShowsEntry m (followed m entry event) bits words memories outputs
@@ -39,7 +39,7 @@ shown-same m entry event bits words memories outputs shown within same =
     (followed-same m entry event
     (ap (is_same_bit event.bit) (sym (ap (λ list. get_or list event.pin false) shown.bits_are ∙ input-slot m entry event.pin shown.named within)) ∙ same)) shown
 
--- elsewhere the items of the plan give what the module has
+-- otherwise the items of the plan give what the items of the module give
 pub shown-changed : (m : Parts) (plan : Plan) (entry : Entry) (event : Event) (bits : List Bool) (words : List ℕ) (memories : List (List ℕ)) (outputs : List Bool)
     → IsPlan m plan → ShowsEntry m entry bits words memories outputs → event.pin < length (input_names m.ports) → is_same_bit event.bit (get_or bits event.pin false) ≡ false
     → ShowsEntry m (followed m entry event) (bits_after plan (module_wires m) event bits words memories) (words_after plan event bits words memories) (memories_after plan event bits words memories)
@@ -64,7 +64,7 @@ shown-start m first begins =
     started-values m first.layout.plan first.bits.items first.words.items begins.bits begins.words begins.laid_out.plan in
     record { named = after.named; bits_are = after.bits_are; words_are = begins.words; memories_are = begins.memories; outputs_are = after.outputs_are }
 
--- what stands in the slots at the start has the slots of the module
+-- the values in the slots at the start are in the slots of the module
 pub start-bits : (m : Parts) (bits : List Bool) → bits ≡ values_of (flat_map input_start m.ports ++ flat_map register_start m.items ++ flat_map wire_start m.items) → length bits ≡ bit_count m
 start-bits m bits are = ap length are
     ∙ count-names (flat_map input_start m.ports ++ flat_map register_start m.items ++ flat_map wire_start m.items) (input_names m.ports ++ register_names m.items ++ wire_names m.items)

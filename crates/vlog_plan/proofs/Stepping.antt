@@ -20,7 +20,7 @@ pub fold-keeps : {S : Type 0} (next : S → Item → S) (Kept : S → Type 0) �
 fold-keeps next Kept keeps s [] kept = kept
 fold-keeps next Kept keeps s (item ∷ items) kept = fold-keeps next Kept keeps (next s item) items (keeps s item kept)
 
--- where the compiled form of each item does over slots what the item does, so do those of all items
+-- if over slots the compiled form of each item does what the item does, then so do those of all items
 pub fold-same : {S B C : Type 0} (step : B → C → B) (compiled : Item → Option C) (value : S → B) (next : S → Item → S) (Kept : S → Type 0)
     → ((s : S) (item : Item) → Kept s → Kept (next s item))
     → ((s : S) (item : Item) → Kept s → fold step (value s) (option_to_list (compiled item)) ≡ value (next s item))
@@ -31,7 +31,7 @@ fold-same step compiled value next Kept keeps same s (item ∷ items) kept =
     ∙ ap (λ after. fold step after (filter_map compiled items)) (same s item kept)
     ∙ fold-same step compiled value next Kept keeps same (next s item) items (keeps s item kept)
 
--- and where the steps of each item do, so do those of all items
+-- and if the steps of each item do, then so do those of all items
 pub fold-same-steps : {S B C : Type 0} (step : B → C → B) (steps : Item → List C) (value : S → B) (next : S → Item → S) (Kept : S → Type 0)
     → ((s : S) (item : Item) → Kept s → Kept (next s item))
     → ((s : S) (item : Item) → Kept s → fold step (value s) (steps item) ≡ value (next s item))

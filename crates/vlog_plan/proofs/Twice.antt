@@ -92,7 +92,7 @@ module _ (m : Parts) (inputs registers : List (List ℕ × Bool)) (words : List 
   abbrev Stays : List ℕ → Type 0
   Stays name = value_in rested name ≡ value_in registers name
 
-  -- readings that are as each register that is set at once wants them
+  -- readings by way of each register's asynchronous set or reset, if it has one
   abbrev AreWell : List (List ℕ × Reading) → Type 0
   AreWell readings = (i : ℕ) (item : Item) (one : AtOnce) → slice_get m.items i ≡ Some item → at_once item ≡ Some one → list_all (is_read_well one) readings ≡ true
 
@@ -236,7 +236,7 @@ made m inputs words memories wires rested = record {
   outputs = fold (output_step (record { bits = inputs ++ rested ++ wires; words = words })) (flat_map output_start m.ports) m.items;
 }
 
--- what has settled in a well-formed module settles as it is
+-- in a well-formed module, doing the asynchronous sets and resets twice is doing them once
 pub settled-twice : (m : Parts) (inputs registers : List (List ℕ × Bool)) (words : List (List ℕ × ℕ)) (memories : List (List ℕ × List ℕ)) → IsModule m
     → (let entry : Entry = settled m inputs registers words memories in settled m entry.inputs entry.registers entry.words entry.memories ≡ entry)
 unfolding settled made
@@ -246,7 +246,7 @@ settled-twice m inputs registers words memories whole =
     ap (λ all. made m inputs words memories all (fold (settle_step (record { bits = inputs ++ rest ++ all; words = words })) rest m.items)) (wires-rested m inputs registers words whole)
     ∙ ap (made m inputs words memories wires) (registers-rested m inputs registers words whole)
 
--- where no wire sets a register at once, registers stay as they are
+-- if there is no asynchronous set or reset, registers stay as they are
 pub settled-plain : (m : Parts) (inputs registers : List (List ℕ × Bool)) (words : List (List ℕ × ℕ)) (memories : List (List ℕ × List ℕ)) → All (λ item. is_at_once item ≡ false) m.items
     → settled m inputs registers words memories ≡ (let wires : List (List ℕ × Bool) = fold (wire_step (inputs ++ registers) words) [] m.items in record {
       inputs = inputs;

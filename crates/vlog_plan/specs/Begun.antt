@@ -1,4 +1,4 @@
--- What the names of a module have before the wires have their values.
+-- What the names of a module have before the wires have values.
 use Rattle.std.specs.Prelude.{◌≡◌, ◌++◌, flat_map, fold, length}
 use Rattle.vlog_module.specs.Parts.{Parts}
 use Rattle.vlog_plan.specs.declared.names.Names.{Names}
@@ -8,7 +8,7 @@ use Rattle.vlog_plan.specs.Named.{values_of}
 use Rattle.vlog_plan.specs.Plans.{wires_of}
 use Rattle.vlog_plan.specs.Run.{input_names, input_start, memory_start, register_start, start_step, word_start}
 
--- the slots, values and wires are those of the module
+-- the slots, the values and the wires are those of the module
 pub record IsBegun (m : Parts) (names : Names) : Type 0 where
   pub places : places_in names.places ≡ places_of m
   pub input_count : names.input_count ≡ length (input_names m.ports)

@@ -1,4 +1,4 @@
--- Bits, the bits of words and the two constants in one list, and wires over it.
+-- One list of bits: the bits of names, the bits of words and the two constants; and wires over it, each as a LUT of four inputs.
 use Rattle.std.specs.Prelude.{ℕ, zero, suc, ◌+◌, ◌*◌, ◌/◌, ◌%◌, Bool, true, false, ◌&&◌, List, [], ◌∷◌, ◌++◌, get_or, length, map, nat_lt, slice_set, if◌then◌else◌}
 use Rattle.vlog_plan.specs.declared.gates.Gate.{Gate}
 use Rattle.vlog_plan.specs.declared.plan.Operand.{Operand}
@@ -10,16 +10,16 @@ use Rattle.vlog_plan.specs.Values.{bit_of, number_of}
 
 -- ---- cells
 
--- bit k of word w has the place 16 w + k
+-- bit k of word w has the index 16 w + k
 abbrev pub part_at : List ℕ → ℕ → Bool
 part_at words place = bit_of (get_or words (place / 16) 0) (place % 16)
 
--- the bits of words at the first places
+-- the bits of words at the indexes below this one
 abbrev pub parts_below : List ℕ → ℕ → List Bool
 parts_below words zero = []
 parts_below words (suc place) = parts_below words place ++ part_at words place ∷ []
 
--- behind the bits stand the bits of words, then 0 and 1
+-- the bits of names are followed by the bits of words, then 0 and 1
 abbrev pub tail_of : List ℕ → List Bool
 tail_of words = parts_below words (16 * length words) ++ false ∷ true ∷ []
 
@@ -29,11 +29,11 @@ cells_of bits words = bits ++ tail_of words
 abbrev pub cell_at : List Bool → ℕ → Bool
 cell_at cells cell = get_or cells cell false
 
--- where 0 stands, with so many bits and words
+-- the cell of the constant 0, if there are this many bits of names and words
 abbrev pub zero_cell : ℕ → ℕ → ℕ
 zero_cell bits words = bits + 16 * words
 
--- where an operand stands: one that names nothing is 0
+-- the cell of an operand; an operand that names nothing is the constant 0
 abbrev pub operand_cell : ℕ → ℕ → Operand → ℕ
 operand_cell bits words (Constant bit) = if bit then zero_cell bits words + 1 else zero_cell bits words
 operand_cell bits words (Slot slot) = if nat_lt slot bits then slot else zero_cell bits words
@@ -41,7 +41,7 @@ operand_cell bits words (Part word k) = if nat_lt word words && nat_lt k 16 then
 
 -- ---- wires
 
--- what a right side reads, and its table
+-- the fan-in of a right side: the cells that it reads
 abbrev pub gate_cells : ℕ → ℕ → Rule → List ℕ
 gate_cells bits words (Copy operand) =
     operand_cell bits words operand ∷ zero_cell bits words ∷ zero_cell bits words ∷ zero_cell bits words ∷ []
@@ -51,8 +51,8 @@ gate_cells bits words (Majority a b c) =
 gate_cells bits words (Choose reset set target) =
     operand_cell bits words reset ∷ operand_cell bits words target ∷ zero_cell bits words ∷ zero_cell bits words ∷ []
 
--- a copy is 1 where its first cell is; two of three are 1 at 3, 5, 6 and 7; of a choice between 1 and a target the
--- table is 1 at 1, 2 and 3, of one between 0 and a target at 2
+-- the truth table of a right side over its cells, the first of which has the lowest bit of the index: a copy is 1 at 1, a majority at
+-- 3, 5, 6 and 7; a choice between the constant 1 and the register is 1 at 1, 2 and 3, one between 0 and the register at 2
 abbrev pub gate_table : Rule → ℕ
 gate_table (Copy operand) = 2
 gate_table (Lookup table) = table.word
@@ -62,10 +62,10 @@ gate_table (Choose reset set target) = if set then 14 else 4
 abbrev pub gate_of : ℕ → ℕ → Wire → Gate
 gate_of bits words wire = record { slot = wire.slot; ins = gate_cells bits words wire.rule; table = gate_table wire.rule }
 
--- the bit of the table whose number the cells write
+-- the bit of the truth table at the index that the cells spell
 abbrev pub gate_value : List Bool → Gate → Bool
 gate_value cells gate = bit_of gate.table (number_of (map (cell_at cells) gate.ins))
 
--- a wire gets its value; its cell is one of the first, which are those of names
+-- the value of a wire is computed; its cell is one of those of names, which come first
 abbrev pub gate_slot : ℕ → List Bool → Gate → List Bool
 gate_slot bits cells gate = if nat_lt gate.slot bits then slice_set cells gate.slot (gate_value cells gate) else cells

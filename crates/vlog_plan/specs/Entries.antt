@@ -1,7 +1,7 @@
--- What a module holds between two events: finite maps from its names to their values.
+-- The state of a module between two events: finite maps from its names to their values.
 use Rattle.std.specs.Prelude.{ℕ, Bool, List, [], ◌∷◌, bytes_eq, if◌then◌else◌}
 
--- the names of a kind with their values, in the order in which they are declared
+-- the values of all names by kind, in the order in which the names are declared
 pub record Entry : Type 0 where
   pub inputs : List (List ℕ × Bool)
   -- the registers of one bit
@@ -13,7 +13,7 @@ pub record Entry : Type 0 where
   pub wires : List (List ℕ × Bool)
   pub outputs : List (List ℕ × Bool)
 
--- a name gets a new value; a map that hasn't the name stays
+-- a name gets a new value; a map without the name stays as it is
 abbrev pub put : {A : Type 0} → List (List ℕ × A) → List ℕ → A → List (List ℕ × A)
 put [] name value = []
 put (entry ∷ entries) name value = if bytes_eq entry.0 name then (entry.0, value) ∷ entries else entry ∷ put entries name value

@@ -1,9 +1,9 @@
--- Where the code finds names.
+-- How the code resolves names.
 use Rattle.vlog_plan.specs.declared.places.Places.{Places as Held}
 use Rattle.vlog_plan.specs.Plans.{Places}
 use Rattle.vlog_plan.specs.Slots.{slot_of}
 
--- where names are found by these slots
+-- how names are resolved by these slots
 abbrev pub places_in : Held → Places
 places_in held = record {
   pins = slot_of held.pins;

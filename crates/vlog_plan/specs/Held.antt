@@ -1,11 +1,11 @@
--- What names with their values hold.
+-- The map for which a list of names with values stands.
 use Rattle.std.specs.Prelude.{◌≡◌, ℕ, List}
 use Rattle.vlog_plan.specs.declared.named.Named.{Named}
 use Rattle.vlog_plan.specs.Named.{names_of, values_of}
 use Rattle.vlog_plan.specs.Numbered.{numbered}
 use Rattle.vlog_plan.specs.Slots.{Finds}
 
--- the names and values are those of a map
+-- the names and the values are those of the map
 pub record Holds {A : Type 0} (named : Named A) (entries : List (List ℕ × A)) : Type 0 where
   pub slots : Finds named.slots (numbered 0 (names_of entries))
   pub values : named.values.items ≡ values_of entries

@@ -1,4 +1,4 @@
--- The slots of a module's names, and the module's items over them.
+-- The slots of a module's names, and the module's items over slots.
 use Rattle.std.specs.Prelude.{◌≡◌, ℕ, Bool, false, List, [], ◌∷◌, ◌++◌, flat_map, length}
 use Rattle.std.specs.List.{filter_map}
 use Rattle.vlog_module.specs.declared.item.Item.{Item}
@@ -32,7 +32,7 @@ wire_start _ = []
 abbrev pub wire_names : List Item → List (List ℕ)
 wire_names items = names_of (flat_map wire_start items)
 
--- the entry has the names of the module
+-- the names of the entry are those of the module
 pub record IsNamed (m : Parts) (entry : Entry) : Type 0 where
   pub inputs : names_of entry.inputs ≡ input_names m.ports
   pub registers : names_of entry.registers ≡ register_names m.items
@@ -42,7 +42,7 @@ pub record IsNamed (m : Parts) (entry : Entry) : Type 0 where
 
 -- ---- the plan of a module
 
--- inputs, registers and wires have slots in this order
+-- names of one bit have slots in this order: inputs, registers, wires
 abbrev pub places_of : Parts → Places
 places_of m = record {
   pins = value_in (numbered 0 (input_names m.ports));
@@ -52,11 +52,11 @@ places_of m = record {
   memories = value_in (numbered 0 (memory_names m.items));
 }
 
--- the wires of the module over their slots
+-- the wires of the module over slots
 abbrev pub module_wires : Parts → List WireOver
 module_wires m = wires_of (places_of m).words (input_names m.ports ++ register_names m.items) m.items
 
--- the plan has the other items of the module over their slots
+-- the plan has the other items of the module over slots
 pub record IsPlan (m : Parts) (plan : Plan) : Type 0 where
   pub outputs : plan.outputs.items ≡ values_of (outputs_of (places_of m).bits (places_of m).words m.ports m.items)
   pub flips : plan.flips.items ≡ flat_map (flip_steps (places_of m)) m.items

@@ -1,4 +1,4 @@
--- Names and values by slots.
+-- Lists of names and values.
 use Rattle.std.specs.Prelude.{ℕ, Bool, List, bytes_eq, map}
 use Rattle.std.specs.List.{list_any}
 
@@ -8,6 +8,6 @@ names_of entries = map (λ entry. entry.0) entries
 abbrev pub values_of : {A : Type 0} → List (List ℕ × A) → List A
 values_of entries = map (λ entry. entry.1) entries
 
--- whether a name is among names
+-- whether a name is in a list
 abbrev pub has_name : List (List ℕ) → List ℕ → Bool
 has_name names name = list_any (λ other. bytes_eq other name) names

@@ -1,7 +1,7 @@
--- Names numbered in their order.
+-- Names with numbers: their indexes, from a first number on.
 use Rattle.std.specs.Prelude.{ℕ, ◌+◌, List, [], ◌∷◌}
 
--- names with numbers from one on
+-- each name with its number; the first name has the number `from`
 abbrev pub numbered : ℕ → List (List ℕ) → List (List ℕ × ℕ)
 numbered from [] = []
 numbered from (name ∷ names) = (name, from) ∷ numbered (from + 1) names

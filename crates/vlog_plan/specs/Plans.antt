@@ -1,4 +1,4 @@
--- Items over slots, made of the items of a module.
+-- Items over slots, made from the items of a module by resolving their names.
 use Rattle.std.specs.Option.{option_map, option_to_list}
 use Rattle.std.specs.Prelude.{ℕ, Bool, false, List, [], ◌∷◌, ◌++◌, Option, Some, None, fold, map, flat_map, length, if◌then◌else◌}
 use Rattle.vlog_module.specs.declared.atoms.Atom.{Atom}
@@ -29,9 +29,9 @@ use Rattle.vlog_plan.specs.declared.plan.Write.{Write}
 use Rattle.vlog_plan.specs.Entries.{put}
 use Rattle.vlog_plan.specs.Numbered.{numbered}
 
--- where names are found: the slots of what atoms read, of registers and of memories, and the places of inputs
+-- how names are resolved: to the slots of what atoms read, of registers and of memories, and to the indexes of inputs
 pub record Places : Type 0 where
-  -- the inputs, by their places
+  -- the inputs, by their indexes
   pub pins : List ℕ → Option ℕ
   -- all names of one bit
   pub bits : List ℕ → Option ℕ
@@ -41,7 +41,7 @@ pub record Places : Type 0 where
   pub words : List ℕ → Option ℕ
   pub memories : List ℕ → Option ℕ
 
--- a name without a slot is 0
+-- a name without a slot is the constant 0
 abbrev pub slot_operand : Option ℕ → Operand
 slot_operand (Some slot) = Slot slot
 slot_operand None = Constant false
@@ -69,33 +69,33 @@ rule_of bits words (RightLut lut) = Lookup (table_of bits words lut)
 rule_of bits words (RightMajority a b c) = Majority (operand_of bits words a) (operand_of bits words b) (operand_of bits words c)
 rule_of bits words (RightChoose reset set target) = Choose (slot_operand (bits reset)) set (slot_operand (bits target))
 
--- the wires of items, where these names of one bit stand before them
+-- the wires of items over slots; the names listed before have the first slots of one bit
 abbrev pub wires_of : (List ℕ → Option ℕ) → List (List ℕ) → List Item → List Wire
 wires_of words names [] = []
 wires_of words names (WireItem name right ∷ items) =
     record { slot = length names; rule = rule_of (value_in (numbered 0 names)) words right } ∷ wires_of words (names ++ name ∷ []) items
 wires_of words names (_ ∷ items) = wires_of words names items
 
--- an output that has no atom yet
+-- an output that isn't assigned yet
 abbrev pub blank_output : Port → List (List ℕ × Operand)
 blank_output port = if port.output then (port.name, Constant false) ∷ [] else []
 
--- an output gets its atom
+-- an output gets the atom that an item assigns
 abbrev pub output_operand : (List ℕ → Option ℕ) → (List ℕ → Option ℕ) → List (List ℕ × Operand) → Item → List (List ℕ × Operand)
 output_operand bits words outputs (Assign name value) = put outputs name (operand_of bits words value)
 output_operand bits words outputs _ = outputs
 
--- the atoms of outputs
+-- what outputs are assigned, in the order of the ports
 abbrev pub outputs_of : (List ℕ → Option ℕ) → (List ℕ → Option ℕ) → List Port → List Item → List (List ℕ × Operand)
 outputs_of bits words ports items = fold (output_operand bits words) (flat_map blank_output ports) items
 
--- what is made of two places, where both are found
+-- what is made of two numbers, if both are there
 abbrev pub of_two : {A : Type 0} → Option ℕ → Option ℕ → (ℕ → ℕ → A) → Option A
 of_two (Some a) (Some b) make = Some (make a b)
 of_two (Some a) None make = None
 of_two None b make = None
 
--- a flip-flop that a wire sets at once, by its clock
+-- a flip-flop with asynchronous set or reset at its clock edge (`SB_DFFES`, `SB_DFFER`)
 abbrev pub flip_at_once_of : Places → Item → Option Flip
 flip_at_once_of at (FlipAtOnceItem falling clock reset set target enable lut) =
     of_two (at.pins clock) (at.registers target) (λ pin slot. record {
@@ -120,7 +120,7 @@ flip_of at (FlipItem falling clock enable reset set target lut) =
     })
 flip_of at item = flip_at_once_of at item
 
--- a flip-flop, where it is enabled by what resets it
+-- the flip-flop at a clock edge during its asynchronous set or reset: that enables it, whatever its clock enable is
 abbrev pub at_reset : Flip → Flip
 at_reset flip = record {
   edge = flip.edge;
@@ -131,11 +131,11 @@ at_reset flip = record {
   table = flip.table;
 }
 
--- what a flip-flop does at its edge, step by step: one that a wire sets at once is reset also where it isn't enabled
+-- what a flip-flop does at its edge, step by step; one with asynchronous set or reset is also set or reset there if it isn't enabled
 abbrev pub flip_steps : Places → Item → List Flip
 flip_steps at item = option_to_list (flip_of at item) ++ option_to_list (option_map at_reset (flip_at_once_of at item))
 
--- a register that a wire sets at once
+-- the asynchronous set or reset of a register
 abbrev pub settle_over : Places → List ℕ → Bool → List ℕ → Option Settle
 settle_over at reset set target = of_two (at.bits reset) (at.registers target) (λ wire slot. record { wire = wire; set = set; target = slot })
 
@@ -144,7 +144,7 @@ settle_of at (FlipAtOnceItem falling clock reset set target enable lut) = settle
 settle_of at (SetAtOnceItem reset set target) = settle_over at reset set target
 settle_of at _ = None
 
--- a port of a memory, where its clock and the memory are found
+-- a port of a memory, if its clock and the memory have slots (`SB_RAM40_4K`)
 abbrev pub port_of : Places → Bool → List ℕ → Atom → Atom → List ℕ → List Atom → Option MemoryPort
 port_of at falling clock clock_enable enable memory address =
     of_two (at.pins clock) (at.memories memory) (λ pin place. record {
@@ -158,7 +158,7 @@ port_of at falling clock clock_enable enable memory address =
 abbrev pub field_of : Places → List Atom → ℕ → Field
 field_of at shift pattern = record { shift = operands_of at.bits at.words shift; pattern = pattern }
 
--- a read through a port, where the port and the register are found
+-- a read through a port, if there are the port and the register
 abbrev pub read_over : Option MemoryPort → Option ℕ → Taken → Option Read
 read_over (Some port) (Some slot) taken = Some (record { port = port; target = slot; taken = taken })
 read_over (Some port) None taken = None
@@ -174,7 +174,7 @@ read_of at (ReadItem falling clock clock_enable enable target memory address) =
     read_over (port_of at falling clock clock_enable enable memory address) (at.words target) Word
 read_of at item = narrow_read_of at item
 
--- a write of bits through a port, where the port is found
+-- a write through a port, if there is the port; `kept` says which bits stay
 abbrev pub write_over : Places → Option MemoryPort → Kept → List Atom → Option Write
 write_over at (Some port) kept bits = Some (record { port = port; kept = kept; bits = operands_of at.bits at.words bits })
 write_over at None kept bits = None

@@ -1,4 +1,6 @@
--- The run of a module over a list of events: what it holds after the start, and after each event.
+-- The run of a module over a list of events: its state after the start, and after each event. The rules are those of IEEE Std 1364-2005
+-- for the subset: 6.1 continuous assignments, 9.2.2 nonblocking assignments, 9.7 event control, clause 11 scheduling semantics. That
+-- inputs and words without a start value are 0, and not x, is this project's choice.
 use Rattle.std.specs.Prelude.{ℕ, zero, suc, ◌-◌, ◌*◌, ◌/◌, ◌%◌, ◌^◌, Bool, true, false, not, ◌&&◌, ◌||◌, ◌==◌, List, [], ◌∷◌, ◌++◌, Option, Some, None, fold, map, flat_map, get_or, replicate, slice_set, unwrap_or, bit_and, bit_or, if◌then◌else◌}
 use Rattle.std.specs.Option.{option_map}
 use Rattle.vlog_module.specs.declared.item.Item.{Item}
@@ -28,25 +30,25 @@ output_start port = if port.output then (port.name, false) ∷ [] else []
 abbrev pub input_names : List Port → List (List ℕ)
 input_names ports = names_of (flat_map input_start ports)
 
--- the place of a name among the inputs
+-- the index of a name among the inputs
 abbrev pub pin_of : List Port → List ℕ → Option ℕ
 pin_of ports name = value_in (numbered 0 (input_names ports)) name
 
--- ---- wires, registers and outputs, once the rest is known
+-- ---- wires, registers and outputs, by the other values
 
--- a wire has the value of its right side, which reads no later wire
+-- a wire has the value of its right side, which reads no later wire: the order of the text is a topological order
 abbrev pub wire_step : List (List ℕ × Bool) → List (List ℕ × ℕ) → List (List ℕ × Bool) → Item → List (List ℕ × Bool)
 wire_step known words wires (Wire name right) =
     wires ++ (name, right_value (record { bits = known ++ wires; words = words }) right) ∷ []
 wire_step known words wires _ = wires
 
--- whether a wire sets the register of an item at once
+-- whether an item is the asynchronous set or reset of a register
 abbrev pub is_at_once : Item → Bool
 is_at_once (FlipAtOnce falling clock reset set target enable lut) = true
 is_at_once (SetAtOnce reset set target) = true
 is_at_once _ = false
 
--- a register that a wire sets at once has its bit where the wire is 1
+-- asynchronous set or reset: the register becomes the bit `set` if the wire `reset` is 1
 abbrev pub settle_step : Readable → List (List ℕ × Bool) → Item → List (List ℕ × Bool)
 settle_step from registers (FlipAtOnce falling clock reset set target enable lut) =
     if atom_value from (Whole reset) then put registers target set else registers
@@ -58,12 +60,12 @@ abbrev pub output_step : Readable → List (List ℕ × Bool) → Item → List 
 output_step from outputs (Assign name value) = put outputs name (atom_value from value)
 output_step from outputs _ = outputs
 
--- what atoms read of an entry
+-- the values that atoms read in an entry
 abbrev pub readable : Entry → Readable
 readable entry = record { bits = entry.inputs ++ entry.registers ++ entry.wires; words = entry.words }
 
--- the entry of these inputs, registers and memories, in three steps: the wires in the order of the text, from the registers
--- as they are; then the registers that wires set at once; then the outputs, from the registers that have settled
+-- the entry with these inputs, registers and memories, in three steps: first the wires in the order of the text, which read the registers
+-- as they are given; then the asynchronous sets and resets of registers; then the outputs, which read the registers after that
 unfoldable pub settled : Parts → List (List ℕ × Bool) → List (List ℕ × Bool) → List (List ℕ × ℕ) → List (List ℕ × List ℕ) → Entry
 settled m inputs registers words memories =
     let wires = fold (wire_step (inputs ++ registers) words) [] m.items in
@@ -88,25 +90,25 @@ abbrev pub word_start : Item → List (List ℕ × ℕ)
 word_start (Word name start) = (name, start) ∷ []
 word_start _ = []
 
--- a memory has 256 words
+-- a memory has 256 words, each 0
 abbrev pub memory_start : Item → List (List ℕ × List ℕ)
 memory_start (Memory name) = (name, replicate 256 0) ∷ []
 memory_start _ = []
 
--- the words of a memory
+-- the words of a memory; none if there is no such memory
 abbrev pub words_of : List (List ℕ × List ℕ) → List ℕ → List ℕ
 words_of memories name = unwrap_or (value_in memories name) []
 
--- a word of a memory is put in its place
+-- a word of a memory is set
 abbrev pub put_word : List (List ℕ × List ℕ) → List ℕ → ℕ → ℕ → List (List ℕ × List ℕ)
 put_word memories name address word = put memories name (slice_set (words_of memories name) address word)
 
--- a start word is put in its place
+-- a word of a memory gets its start value
 abbrev pub start_step : List (List ℕ × List ℕ) → Item → List (List ℕ × List ℕ)
 start_step memories (Start memory k word) = put_word memories memory k word
 start_step memories _ = memories
 
--- inputs and words without a start are 0
+-- the start: inputs, and words without a start value, are 0
 unfoldable pub start : Parts → Entry
 start m =
     settled m (flat_map input_start m.ports) (flat_map register_start m.items)
@@ -114,12 +116,12 @@ start m =
 
 -- ---- an event
 
--- whether a name is the input at this place
+-- whether a name is the input with this index
 abbrev pub is_pin : ℕ → Option ℕ → Bool
 is_pin pin (Some place) = place == pin
 is_pin pin None = false
 
--- whether an input that gets this bit, and had the other, has the edge: `negedge` is 1 to 0, `posedge` 0 to 1
+-- whether an input that changes to this bit has the edge: `negedge` is 1 to 0, `posedge` is 0 to 1 (IEEE Std 1364-2005, 9.7)
 abbrev pub is_edge : Bool → Bool → Bool
 is_edge falling bit = if falling then not bit else bit
 
@@ -127,21 +129,21 @@ is_edge falling bit = if falling then not bit else bit
 abbrev pub is_clocked : Parts → Event → Bool → List ℕ → Bool
 is_clocked m event falling clock = is_pin event.pin (pin_of m.ports clock) && is_edge falling event.bit
 
--- a word whose bits stay where the mask is 1, and are new elsewhere: `(word & mask) | (bits & ~mask)`
+-- a word that is written under a mask, where a bit that is 1 keeps the old bit: `(word & mask) | (bits & ~mask)`, as `SB_RAM40_4K` has it
 abbrev pub masked : ℕ → ℕ → ℕ → ℕ
 masked word mask bits = bit_or (bit_and word mask) (bit_and bits (65535 - mask))
 
--- a word that is moved down, and of which the bits of a pattern stay: `(word >> shift) & pattern`
+-- a word that is shifted down and masked by a pattern: `(word >> shift) & pattern`
 abbrev pub moved_down : ℕ → ℕ → ℕ → ℕ
 moved_down word shift pattern = bit_and (word / 2 ^ shift) pattern
 
--- a pattern that is moved up and cut to 16 bits: `pattern << shift`
+-- a pattern that is shifted up and cut to 16 bits: `pattern << shift` (IEEE Std 1364-2005, 5.4 expression bit lengths)
 abbrev pub moved_up : ℕ → ℕ → ℕ
 moved_up pattern shift = pattern * 2 ^ shift % 65536
 
--- what a clocked item assigns at an event is computed from the entry before
+-- What clocked items assign at an event is computed from the entry before it (IEEE Std 1364-2005, 9.2.2 nonblocking assignments).
 
--- the register that an item assigns, and its next bit
+-- the register of one bit that an item assigns, and its next value
 abbrev pub next_bit : Parts → Entry → Event → Item → Option (List ℕ × Bool)
 next_bit m before event (Flip falling clock enable reset set target lut) =
     if is_clocked m event falling clock && atom_value (readable before) enable
@@ -153,17 +155,17 @@ next_bit m before event (FlipAtOnce falling clock reset set target enable lut) =
     else None
 next_bit m before event _ = None
 
--- whether an event is the edge of a port of a memory, and both its enables are 1
+-- whether an event is the edge of a memory's port, and both enables of the port are 1
 abbrev pub is_enabled : Parts → Entry → Event → Bool → List ℕ → Atom → Atom → Bool
 is_enabled m before event falling clock clock_enable enable =
     is_clocked m event falling clock && atom_value (readable before) clock_enable && atom_value (readable before) enable
 
--- a register, and what it takes of the word at an address of a memory: none where there is no such memory
+-- a register, and what it gets from the word at an address of a memory; none if there is no such memory
 abbrev pub taken_from : Entry → List ℕ → List ℕ → List Atom → (ℕ → ℕ) → Option (List ℕ × ℕ)
 taken_from before target memory address taken =
     option_map (λ words. (target, taken (get_or words (atoms_value (readable before) address) 0))) (value_in before.memories memory)
 
--- the register that an item assigns, and its next word
+-- the register of 16 bits that an item assigns, and its next value
 abbrev pub next_word : Parts → Entry → Event → Item → Option (List ℕ × ℕ)
 next_word m before event (Read falling clock clock_enable enable target memory address) =
     if is_enabled m before event falling clock clock_enable enable then taken_from before target memory address (λ word. word) else None
@@ -173,13 +175,13 @@ next_word m before event (ReadNarrow falling clock clock_enable enable target me
     else None
 next_word m before event _ = None
 
--- a word for a place in a memory
+-- a word that is written to a memory
 pub record Put : Type 0 where
   pub memory : List ℕ
   pub address : ℕ
   pub word : ℕ
 
--- bits for the word at an address of a memory, whose bits stay where the mask is 1
+-- data that is written to the word at an address of a memory; the bits of the word under the mask stay
 abbrev pub put_at : Entry → List ℕ → List Atom → ℕ → List Atom → Put
 put_at before memory address mask bits =
     let at = atoms_value (readable before) address in
@@ -189,7 +191,7 @@ put_at before memory address mask bits =
       word = masked (get_or (words_of before.memories memory) at 0) mask (atoms_value (readable before) bits);
     }
 
--- the word that an item puts in a memory
+-- the word that an item writes to a memory
 abbrev pub next_put : Parts → Entry → Event → Item → Option Put
 next_put m before event (Write falling clock clock_enable enable memory address mask bits) =
     if is_enabled m before event falling clock clock_enable enable
@@ -201,7 +203,7 @@ next_put m before event (WriteNarrow falling clock clock_enable enable memory ad
     else None
 next_put m before event _ = None
 
--- a name gets what is assigned, where anything is
+-- a name gets the value that is assigned, if any is
 abbrev pub put_given : {A : Type 0} → List (List ℕ × A) → Option (List ℕ × A) → List (List ℕ × A)
 put_given entries (Some given) = put entries given.0 given.1
 put_given entries None = entries
@@ -236,26 +238,26 @@ abbrev pub is_same_bit : Bool → Bool → Bool
 is_same_bit true bit = bit
 is_same_bit false bit = not bit
 
--- the bit of the input at a place
+-- the bit of the input with this index
 abbrev pub input_bit : Entry → ℕ → Bool
 input_bit entry pin = get_or (map (λ input. input.1) entry.inputs) pin false
 
--- the entry after an event; where the input has the bit already, nothing changes
+-- the entry after an event; if the input has the bit already, nothing changes
 unfoldable pub followed : Parts → Entry → Event → Entry
 followed m before event = if is_same_bit event.bit (input_bit before event.pin) then before else changed m before event
 
 -- ---- a run
 
--- an entry, and those after each event
+-- an entry, and the entry after each event
 unfoldable pub run_from : Parts → Entry → List Event → List Entry
 run_from m entry [] = entry ∷ []
 run_from m entry (event ∷ events) = entry ∷ run_from m (followed m entry event) events
 
--- the entries after the start and after each event
+-- the entry after the start, and after each event
 unfoldable pub module_run : Parts → List Event → List Entry
 module_run m events = run_from m (start m) events
 
--- the last one of entries, and this one where there is none
+-- the last of some entries, or this entry if there are none
 unfoldable pub last_of : Entry → List Entry → Entry
 last_of entry [] = entry
 last_of entry (next ∷ entries) = last_of next entries

@@ -8,6 +8,6 @@ use Rattle.vlog_plan.specs.declared.slots.Slots.{Slots}
 abbrev pub slot_of : Slots → List ℕ → Option ℕ
 slot_of slots name = lookup (λ key. bytes_eq name key.items) slots.by_name.entries
 
--- the slots are those of these names
+-- the slots are those that the list gives its names
 unfoldable pub Finds : Slots → List (List ℕ × ℕ) → Type 0
 Finds slots entries = (name : List ℕ) → slot_of slots name ≡ value_in entries name

@@ -1,4 +1,4 @@
--- What items over slots do to the bits, words and memories of the slots.
+-- What items over slots do to the bits, words and memories in the slots.
 use Rattle.std.specs.Prelude.{ℕ, ◌-◌, Bool, false, ◌&&◌, ◌==◌, List, [], Option, Some, None, fold, map, get_or, slice_set, if◌then◌else◌}
 use Rattle.vlog_plan.specs.declared.event.Event.{Event}
 use Rattle.vlog_plan.specs.declared.plan.Operand.{Operand}
@@ -39,7 +39,7 @@ rule_value bits words (Lookup table) = table_value bits words table
 rule_value bits words (Majority a b c) = majority (operand_value bits words a) (operand_value bits words b) (operand_value bits words c)
 rule_value bits words (Choose reset set target) = if operand_value bits words reset then set else operand_value bits words target
 
--- a wire gets its value
+-- the value of a wire is computed
 abbrev pub wire_slot : List ℕ → List Bool → Wire → List Bool
 wire_slot words bits wire = slice_set bits wire.slot (rule_value bits words wire.rule)
 
@@ -55,7 +55,7 @@ flip_slot event bits words next flip =
 
 -- ---- memories
 
--- whether a port of a memory acts
+-- whether a port of a memory acts at an event
 abbrev pub is_acting : Event → List Bool → List ℕ → MemoryPort → Bool
 is_acting event bits words port =
     is_edge_of event port.edge && operand_value bits words port.clock_enable && operand_value bits words port.enable
@@ -63,7 +63,7 @@ is_acting event bits words port =
 abbrev pub word_in : List (List ℕ) → ℕ → ℕ → ℕ
 word_in memories memory address = get_or (get_or memories memory []) address 0
 
--- what is taken of a word
+-- what a read takes of a word
 abbrev pub taken_word : List Bool → List ℕ → Taken → ℕ → ℕ
 taken_word bits words Word word = word
 taken_word bits words (Narrow field) word = moved_down word (operands_value bits words field.shift) field.pattern
@@ -74,12 +74,12 @@ read_slot event bits words memories next read =
     then slice_set next read.target (taken_word bits words read.taken (word_in memories read.port.memory (operands_value bits words read.port.address)))
     else next
 
--- the mask of what stays of a word
+-- the mask of the bits of a word that a write leaves as they are
 abbrev pub kept_mask : List Bool → List ℕ → Kept → ℕ
 kept_mask bits words (Masked mask) = operands_value bits words mask
 kept_mask bits words (Outside field) = 65535 - moved_up field.pattern (operands_value bits words field.shift)
 
--- the word that a write puts in its place, where it acts
+-- the word that a write writes, if its port acts
 abbrev pub written_by : Event → List Bool → List ℕ → List (List ℕ) → Write → Option Written
 written_by event bits words memories write =
     let address = operands_value bits words write.port.address in
@@ -94,21 +94,21 @@ written_by event bits words memories write =
 abbrev pub set_word : List (List ℕ) → ℕ → ℕ → ℕ → List (List ℕ)
 set_word memories memory address word = slice_set memories memory (slice_set (get_or memories memory []) address word)
 
--- a word is put in a memory, where there is one
+-- a word is written to a memory, if there is one
 abbrev pub put_written : List (List ℕ) → Option Written → List (List ℕ)
 put_written memories (Some written) = set_word memories written.memory written.address written.word
 put_written memories None = memories
 
--- ---- what settles
+-- ---- wires, and asynchronous sets and resets
 
--- a register that a wire sets at once, as these bits have the wire
+-- the asynchronous set or reset of a register, by the wire's value in `bits`
 abbrev pub settle_slot : List Bool → List Bool → Settle → List Bool
 settle_slot bits next settle = if get_or bits settle.wire false then slice_set next settle.target settle.set else next
 
 abbrev pub settle_slots : List Settle → List Bool → List Bool
 settle_slots settles bits = fold (settle_slot bits) bits settles
 
--- the wires have their values, then registers that they set at once
+-- the wires are computed in the order of the text, then the asynchronous sets and resets of registers
 abbrev pub settled_slots : Plan → List Wire → List ℕ → List Bool → List Bool
 settled_slots plan wires words bits = settle_slots plan.settles.items (fold (wire_slot words) bits wires)
 

@@ -1,4 +1,4 @@
--- The values of atoms and of right sides, read from the values of names.
+-- The values of atoms and of right sides, by the values of names (IEEE Std 1364-2005, clause 5, for bits that are 0 or 1).
 use Rattle.std.specs.Prelude.{ℕ, ◌+◌, ◌*◌, ◌/◌, ◌%◌, ◌^◌, Bool, false, ◌&&◌, ◌||◌, ◌==◌, List, [], ◌∷◌, map, unwrap_or, if◌then◌else◌}
 use Rattle.std.specs.Option.{option_map_or}
 use Rattle.vlog_module.specs.declared.atoms.Atom.{Atom}
@@ -8,12 +8,12 @@ use Rattle.vlog_module.specs.declared.item.Right.{Right}
 use Rattle.vlog_module.specs.declared.item.Right.TheVariants.{Bit as RightBit, Whole as RightWhole, Part as RightPart, Lut as RightLut, Majority, Choose}
 use Rattle.vlog_module.specs.Maps.{value_in}
 
--- the values that an atom can read: those of the names of one bit, and the registers of 16 bits
+-- the values that atoms can read: those of the names of one bit, and of the registers of 16 bits
 pub record Readable : Type 0 where
   pub bits : List (List ℕ × Bool)
   pub words : List (List ℕ × ℕ)
 
--- the number that bits write, the lowest first
+-- the number that bits spell, the lowest bit first
 abbrev pub number_of : List Bool → ℕ
 number_of [] = 0
 number_of (bit ∷ bits) = (if bit then 1 else 0) + 2 * number_of bits
@@ -22,7 +22,7 @@ number_of (bit ∷ bits) = (if bit then 1 else 0) + 2 * number_of bits
 abbrev pub bit_of : ℕ → ℕ → Bool
 bit_of word k = word / 2 ^ k % 2 == 1
 
--- what two of three bits have
+-- the majority of three bits: the carry-out of `SB_CARRY`
 abbrev pub majority : Bool → Bool → Bool → Bool
 majority a b c = (a && b) || (a && c) || (b && c)
 
@@ -31,15 +31,15 @@ atom_value from (Bit bit) = bit
 atom_value from (Whole name) = unwrap_or (value_in from.bits name) false
 atom_value from (Part name k) = option_map_or (λ word. bit_of word k) (value_in from.words name) false
 
--- the number that atoms write, the lowest bit first
+-- the number that atoms spell, the lowest bit first
 abbrev pub atoms_value : Readable → List Atom → ℕ
 atoms_value from atoms = number_of (map (atom_value from) atoms)
 
--- the bit of the word whose number the atoms write
+-- the bit of the LUT's word at the index that its inputs spell, as `SB_LUT4` has it
 abbrev pub lut_value : Readable → Lut → Bool
 lut_value from lut = bit_of lut.word (atoms_value from lut.ins)
 
--- the value of a wire
+-- the value of a right side
 abbrev pub right_value : Readable → Right → Bool
 right_value from (RightBit bit) = bit
 right_value from (RightWhole name) = atom_value from (Whole name)

@@ -1,4 +1,4 @@
-// The names of a module with what they have at the start, and the items over slots that name them.
+// The names of a module with their start values, and the items over slots that go with these names.
 ghost use Rattle.std.specs.Prelude.{◌≡◌, ℕ, Bool, List, [], ◌∷◌, ◌++◌, ◌+◌, fold, flat_map, length, slice_set, get_or, IfOk, OnOk, All};
 ghost use Rattle.vlog_module.specs.WellFormed.{IsShaped};
 ghost use Rattle.vlog_plan.specs.declared.plan.Operand.{Operand as operand};
@@ -29,7 +29,7 @@ pub(crate) fn inputs_of(alloc: Global, ports: &[Port]) -> Result<Named<bool>, Al
     Ok(inputs)
 }
 
-/// Adds a port where it is an input.
+/// Adds a port, if it is an input.
 fn add_input(inputs: &mut Named<bool>, port: &Port) -> Result<(), AllocError>
     ensures { (entries : List (List ℕ × Bool)) → Holds inputs.old entries → OnOk result (Holds inputs.new (entries ++ input_start port.now)) }
 {
@@ -40,7 +40,7 @@ fn add_input(inputs: &mut Named<bool>, port: &Port) -> Result<(), AllocError>
     }
 }
 
-/// The outputs, in the order of the ports, without their atoms.
+/// The outputs, in the order of the ports; none is assigned yet.
 pub(crate) fn blank_outputs(alloc: Global, ports: &[Port]) -> Result<Named<Operand>, AllocError>
     ensures { IfOk result (λ outputs. Holds outputs (flat_map blank_output ports.now)) }
 {
@@ -51,7 +51,7 @@ pub(crate) fn blank_outputs(alloc: Global, ports: &[Port]) -> Result<Named<Opera
     Ok(outputs)
 }
 
-/// Adds a port where it is an output.
+/// Adds a port, if it is an output.
 fn add_output(outputs: &mut Named<Operand>, port: &Port) -> Result<(), AllocError>
     ensures { (entries : List (List ℕ × operand)) → Holds outputs.old entries → OnOk result (Holds outputs.new (entries ++ blank_output port.now)) }
 {
@@ -62,7 +62,7 @@ fn add_output(outputs: &mut Named<Operand>, port: &Port) -> Result<(), AllocErro
     }
 }
 
-/// Gives outputs the atoms that items assign.
+/// Gives outputs the atoms that items assign to them.
 pub(crate) fn assign_outputs(
     outputs: &mut Named<Operand>,
     bits: &Slots,
@@ -76,7 +76,7 @@ pub(crate) fn assign_outputs(
     }
 }
 
-/// Gives an output the atom that an item assigns.
+/// Gives an output the atom that an item assigns to it, if it does.
 fn assign_output(outputs: &mut Named<Operand>, bits: &Slots, words: &Slots, item: &Item)
     ensures { (entries : List (List ℕ × operand)) → Holds outputs.old entries → Holds outputs.new (output_operand (slot_of bits.now) (slot_of words.now) entries item.now) }
 {
@@ -97,7 +97,7 @@ pub(crate) fn words_of(alloc: Global, items: &[Item]) -> Result<Named<u16>, Allo
     Ok(words)
 }
 
-/// Adds an item where it is a register of 16 bits.
+/// Adds an item, if it is a register of 16 bits.
 fn add_word(words: &mut Named<u16>, item: &Item) -> Result<(), AllocError>
     ensures { (entries : List (List ℕ × ℕ)) → Holds words.old entries → OnOk result (Holds words.new (entries ++ word_start item.now)) }
 {
@@ -107,7 +107,7 @@ fn add_word(words: &mut Named<u16>, item: &Item) -> Result<(), AllocError>
     }
 }
 
-/// The memories with their start words, in the order of the text.
+/// The memories with their start values, in the order of the text.
 pub(crate) fn memories_of(alloc: Global, items: &[Item]) -> Result<Named<Memory>, AllocError>
     ensures { IfOk result (λ memories. Holds memories (fold start_step (flat_map memory_start items.now) items.now)) }
 {
@@ -116,7 +116,7 @@ pub(crate) fn memories_of(alloc: Global, items: &[Item]) -> Result<Named<Memory>
     Ok(memories)
 }
 
-/// The memories, each word 0.
+/// The memories; each word is 0.
 fn blank_memories(alloc: Global, items: &[Item]) -> Result<Named<Memory>, AllocError>
     ensures { IfOk result (λ memories. Holds memories (flat_map memory_start items.now)) }
 {
@@ -127,7 +127,7 @@ fn blank_memories(alloc: Global, items: &[Item]) -> Result<Named<Memory>, AllocE
     Ok(memories)
 }
 
-/// Adds an item where it is a memory.
+/// Adds an item, if it is a memory.
 fn add_memory(memories: &mut Named<Memory>, item: &Item) -> Result<(), AllocError>
     ensures { (entries : List (List ℕ × List ℕ)) → Holds memories.old entries → OnOk result (Holds memories.new (entries ++ memory_start item.now)) }
 {
@@ -137,7 +137,7 @@ fn add_memory(memories: &mut Named<Memory>, item: &Item) -> Result<(), AllocErro
     }
 }
 
-/// Puts the start words of items in their places.
+/// Writes the start values of items to their memories.
 fn put_starts(memories: &mut Named<Memory>, items: &[Item])
     ensures { (entries : List (List ℕ × List ℕ)) → Holds memories.old entries → Holds memories.new (fold start_step entries items.now) }
 {
@@ -146,7 +146,7 @@ fn put_starts(memories: &mut Named<Memory>, items: &[Item])
     }
 }
 
-/// Puts the start word of an item in its place.
+/// Writes the start value of an item to its memory, if it is one.
 fn put_start(memories: &mut Named<Memory>, item: &Item)
     ensures { (entries : List (List ℕ × List ℕ)) → Holds memories.old entries → Holds memories.new (start_step entries item.now) }
 {
@@ -156,7 +156,7 @@ fn put_start(memories: &mut Named<Memory>, item: &Item)
     }
 }
 
-/// Puts a word in its place.
+/// Writes a word to the memory with this name.
 fn put_word(memories: &mut Named<Memory>, name: &[u8], k: u8, word: u16)
     ensures { (entries : List (List ℕ × List ℕ)) → Holds memories.old entries → Holds memories.new (put_word entries name.now k word) }
 {
@@ -166,7 +166,7 @@ fn put_word(memories: &mut Named<Memory>, name: &[u8], k: u8, word: u16)
     }
 }
 
-/// Puts a word in a memory, where there is such a memory.
+/// Writes a word to a memory, if there is such a memory.
 fn set_word(memories: &mut Vec<Memory>, memory: usize, address: u8, word: u16)
     ensures { memories.new.items ≡ set_word memories.old.items memory address word }
 {
@@ -191,7 +191,7 @@ pub(crate) fn add_registers(
     Ok(())
 }
 
-/// Adds an item where it is a register of one bit.
+/// Adds an item, if it is a register of one bit.
 fn add_register(
     bits: &mut Named<bool>,
     registers: &mut Slots,
@@ -211,7 +211,7 @@ fn add_register(
     }
 }
 
-/// Adds the wires of items to the bits, and their right sides over slots to the wires.
+/// Adds the wires of items to the bits, and their right sides over slots to the list of wires.
 pub(crate) fn add_wires(
     bits: &mut Named<bool>,
     words: &Slots,
@@ -229,7 +229,7 @@ pub(crate) fn add_wires(
     Ok(())
 }
 
-/// Adds an item where it is a wire.
+/// Adds an item, if it is a wire.
 fn add_wire(
     bits: &mut Named<bool>,
     words: &Slots,

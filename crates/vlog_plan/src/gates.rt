@@ -1,11 +1,11 @@
-// Wires over one list of bits: those of names, then the bits of words, then 0 and 1.
+// Wires over one list of bits (cells): the bits of names, then the bits of words, then 0 and 1.
 ghost use Rattle.std.specs.Prelude.{◌≡◌, ◌<◌, ◌^◌, ◌+◌, ◌*◌, length, map, IfOk};
 ghost use Rattle.vlog_plan.specs.Cells.{gate_cells, gate_of, gate_table, operand_cell};
 
 use crate::plan::{Operand, Rule, Wire};
 use std::alloc::{AllocError, Global};
 
-/// A wire: its cell, the cells that it reads, the lowest first, and its table.
+/// A wire as a LUT: its cell, its fan-in (the cells that it reads, the lowest bit of the index first), and its truth table.
 #[derive(Clone, Copy)]
 pub struct Gate {
     pub slot: usize,
@@ -13,7 +13,7 @@ pub struct Gate {
     pub table: u16,
 }
 
-/// Room for the cells of so many bits and words.
+/// Room for the cells of these bits and words.
 pub(crate) fn cells_room(
     alloc: Global,
     bits: &[bool],
@@ -29,7 +29,7 @@ pub(crate) fn cells_room(
     Ok(cells)
 }
 
-/// Where an operand stands.
+/// The cell of an operand.
 pub fn operand_cell(bits: usize, words: usize, operand: Operand) -> usize
     requires { bits + 16 * words + 2 < 2 ^ 64 }
     ensures { result ≡ operand_cell bits words operand }
@@ -48,7 +48,7 @@ pub fn operand_cell(bits: usize, words: usize, operand: Operand) -> usize
     }
 }
 
-/// Where four operands stand.
+/// The cells of four operands.
 fn operand_cells(bits: usize, words: usize, operands: &[Operand; 4]) -> [usize; 4]
     requires { bits + 16 * words + 2 < 2 ^ 64 }
     ensures { result ≡ map (operand_cell bits words) operands.now }
@@ -61,7 +61,7 @@ fn operand_cells(bits: usize, words: usize, operands: &[Operand; 4]) -> [usize; 
     ]
 }
 
-/// The cells that a right side reads.
+/// The fan-in of a right side: the cells that it reads.
 fn gate_cells(bits: usize, words: usize, rule: &Rule) -> [usize; 4]
     requires { bits + 16 * words + 2 < 2 ^ 64 }
     ensures { result ≡ gate_cells bits words rule.now }
@@ -85,7 +85,7 @@ fn gate_cells(bits: usize, words: usize, rule: &Rule) -> [usize; 4]
     }
 }
 
-/// The table of a right side.
+/// The truth table of a right side.
 fn gate_table(rule: &Rule) -> u16
     ensures { result ≡ gate_table rule.now }
 {
@@ -109,7 +109,7 @@ fn gate_of(bits: usize, words: usize, wire: &Wire) -> Gate
     }
 }
 
-/// Wires over the cells of so many bits and words.
+/// Wires over the cells of this many bits and words.
 pub(crate) fn gates_of(
     alloc: Global,
     bits: usize,

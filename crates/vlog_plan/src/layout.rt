@@ -14,30 +14,33 @@ use crate::slots::Slots;
 use std::alloc::{AllocError, Global};
 use vlog_module::Module;
 
-/// A module over slots: where its names stand, and its items.
+/// A module over slots: the slots of its names, and its items.
 #[derive(Drop)]
 pub struct Layout {
     pub places: Places,
     /// How many inputs there are; they have the first slots.
     pub input_count: usize,
-    /// The slot of the first wire; the registers of one bit stand between the inputs and it.
+    /// The slot of the first wire. The registers of one bit come between the inputs and it.
     pub first_wire: usize,
     pub plan: Plan,
 }
 
-/// A module over slots, and what stands in these at the start, wires and what they set at once still without their values.
+/// A module over slots at its start: the values in the slots. Wires, and asynchronous sets and resets, aren't computed yet.
 #[derive(Drop)]
 pub struct Start {
     pub layout: Layout,
     pub bits: Vec<bool>,
     pub words: Vec<u16>,
     pub memories: Vec<Memory>,
-    /// Room for all that wires read.
+    /// Room for all cells that wires read.
     pub cells: Vec<bool>,
 }
 
-/// Lays a module out over slots. Inputs have the first slots of one bit, in the order of the ports, then registers and then wires,
-/// in the order of the text.
+/// Lays a module out over slots. The inputs have the first slots of one bit, in the order of the ports; then come the registers and then
+/// the wires, each in the order of the text.
+///
+/// # Errors
+/// `AllocError` if memory is out, and for no other cause.
 pub fn lay_out(alloc: Global, module: &Module) -> Result<Start, AllocError>
     ensures { IfOk result (Begins «module».now) }
 {
@@ -68,7 +71,10 @@ pub fn lay_out(alloc: Global, module: &Module) -> Result<Start, AllocError>
     })
 }
 
-/// The places of the inputs of a module, by their names.
+/// The indexes of a module's inputs, by their names.
+///
+/// # Errors
+/// `AllocError` if memory is out, and for no other cause.
 pub fn pins_of(alloc: Global, module: &Module) -> Result<Slots, AllocError>
     ensures { IfOk result (λ pins. slot_of pins ≡ pin_of «module».now.ports) }
 {

@@ -1,5 +1,5 @@
-//! The run of a module over events, as definitions, and a module of the Verilog subset over numbered slots: where its names stand,
-//! and its items over these.
+//! The run of a module over events, as definitions; and a module of the Verilog subset over numbered slots, with its names resolved: the
+//! slots of its names, and its items over these slots.
 #![tactic(auto)]
 
 mod build;

@@ -1,10 +1,10 @@
-// Names and values by slots.
+// Names with values, by slots.
 ghost use Rattle.std.specs.Prelude.{◌≡◌, List, ℕ, ◌++◌, ◌∷◌, [], slice_set, OnOk};
 
 use crate::slots::Slots;
 use std::alloc::{AllocError, Global};
 
-/// Names in their order, each with a value in the slot of its place.
+/// Names in their order, each with a value in the slot of its index.
 #[derive(Drop)]
 pub(crate) struct Named<T: Drop> {
     pub(crate) slots: Slots,
@@ -15,7 +15,7 @@ impl<T: Drop> Named<T> {
     ghost use Rattle.vlog_plan.specs.Held.{Holds};
     ghost use Rattle.vlog_plan.specs.Entries.{put};
 
-    /// No names. It takes no memory yet.
+    /// An empty list. It takes no memory yet.
     pub(crate) fn new(alloc: Global) -> Named<T>
         ensures { Holds result [] }
     {
@@ -34,7 +34,7 @@ impl<T: Drop> Named<T> {
         Ok(())
     }
 
-    /// Gives a name a new value, where there is the name.
+    /// Gives a name a new value, if the name is there.
     pub(crate) fn put(&mut self, name: &[u8], value: T)
         ensures { (entries : List (List ℕ × T)) → Holds self.old entries → Holds self.new (put entries name.now value) }
     {
@@ -45,7 +45,7 @@ impl<T: Drop> Named<T> {
     }
 }
 
-/// Gives the value of a slot, where there is such a slot.
+/// Sets the value of a slot, if there is such a slot.
 fn set<T: Drop>(values: &mut Vec<T>, slot: usize, value: T)
     ensures { values.new.items ≡ slice_set values.old.items slot value }
 {

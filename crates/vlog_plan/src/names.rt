@@ -1,4 +1,4 @@
-// The names of a module: their slots, and what stands in these at the start.
+// The names of a module: their slots, and the start values in these.
 ghost use Rattle.std.specs.Prelude.{◌≡◌, IfOk};
 
 use crate::build::{add_registers, add_wires, inputs_of, memories_of, words_of};
@@ -9,13 +9,13 @@ use crate::slots::Slots;
 use std::alloc::{AllocError, Global};
 use vlog_module::Module;
 
-/// The slots of the names of a module and what stands in these, wires still without their values.
+/// The slots of a module's names, and the values in them. Wires have no values yet.
 #[derive(Drop)]
 pub(crate) struct Names {
     pub(crate) places: Places,
     /// How many inputs there are; they have the first slots.
     pub(crate) input_count: usize,
-    /// The slot of the first wire; the registers of one bit stand between the inputs and it.
+    /// The slot of the first wire. The registers of one bit come between the inputs and it.
     pub(crate) first_wire: usize,
     pub(crate) bits: Vec<bool>,
     pub(crate) words: Vec<u16>,
@@ -25,7 +25,7 @@ pub(crate) struct Names {
 
 ghost use Rattle.vlog_plan.specs.Begun.{IsBegun};
 
-/// The names of a module.
+/// Resolves the names of a module.
 pub(crate) fn names_of(alloc: Global, module: &Module) -> Result<Names, AllocError>
     ensures { IfOk result (IsBegun «module».now) }
 {

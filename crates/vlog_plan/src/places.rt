@@ -1,4 +1,4 @@
-// Items over slots, made of the items of a module.
+// Items over slots, made from the items of a module by resolving their names.
 ghost use Rattle.std.specs.Prelude.{◌≡◌, ◌++◌, flat_map, length, IfOk, OnOk, All};
 ghost use Rattle.std.specs.List.{filter_map};
 ghost use Rattle.std.specs.Option.{option_map, option_to_list};
@@ -14,10 +14,10 @@ use crate::slots::Slots;
 use std::alloc::{AllocError, Global};
 use vlog_module::{Atom, Atoms, Item, Lut, Name, Right};
 
-/// The places of inputs, and the slots of other names.
+/// How the names of a module are resolved: inputs to their indexes, other names to their slots.
 #[derive(Drop)]
 pub struct Places {
-    /// The inputs, by their places.
+    /// The inputs, by their indexes.
     pub pins: Slots,
     /// All names of one bit.
     pub bits: Slots,
@@ -39,7 +39,7 @@ pub(crate) fn operand_of(bits: &Slots, words: &Slots, atom: &Atom) -> Operand
     }
 }
 
-/// The bit of a name.
+/// The bit of a name; the constant 0 if it has no slot.
 fn slot_operand(bits: &Slots, name: &[u8]) -> Operand
     ensures { result ≡ slot_operand (slot_of bits.now name.now) }
 {
@@ -49,7 +49,7 @@ fn slot_operand(bits: &Slots, name: &[u8]) -> Operand
     }
 }
 
-/// Bit `k` of a register of 16 bits.
+/// Bit `k` of a register of 16 bits; the constant 0 if the register has no slot.
 fn part_operand(words: &Slots, name: &[u8], k: u8) -> Operand
     ensures { result ≡ part_operand (slot_of words.now name.now) k }
 {
@@ -59,7 +59,7 @@ fn part_operand(words: &Slots, name: &[u8], k: u8) -> Operand
     }
 }
 
-/// So many atoms over slots.
+/// A list of atoms over slots.
 fn operands_of<const N: usize>(bits: &Slots, words: &Slots, atoms: &Atoms) -> [Operand; N]
     requires { length atoms.now ≡ N }
     ensures { result ≡ operands_of (slot_of bits.now) (slot_of words.now) atoms.now }
@@ -71,7 +71,7 @@ fn operands_of<const N: usize>(bits: &Slots, words: &Slots, atoms: &Atoms) -> [O
     operands
 }
 
-/// A table over slots.
+/// A LUT over slots.
 fn table_of(bits: &Slots, words: &Slots, lut: &Lut) -> Table
     requires { IsLut lut.now }
     ensures { result ≡ table_of (slot_of bits.now) (slot_of words.now) lut.now }
@@ -105,7 +105,7 @@ pub(crate) fn rule_of(bits: &Slots, words: &Slots, right: &Right) -> Rule
     }
 }
 
-/// The flip-flop of an item, where it is one.
+/// The flip-flop of an item, if it is one.
 fn flip_of(places: &Places, item: &Item) -> Option<Flip>
     requires { IsShaped item.now }
     ensures { result ≡ flip_of (places_in places.now) item.now }
@@ -138,7 +138,7 @@ fn flip_of(places: &Places, item: &Item) -> Option<Flip>
     }
 }
 
-/// The flip-flop of an item that a wire sets at once, where it has a clock.
+/// The flip-flop of an item, if it is one with a clock and asynchronous set or reset.
 fn flip_at_once_of(places: &Places, item: &Item) -> Option<Flip>
     requires { IsShaped item.now }
     ensures { result ≡ flip_at_once_of (places_in places.now) item.now }
@@ -171,7 +171,7 @@ fn flip_at_once_of(places: &Places, item: &Item) -> Option<Flip>
     }
 }
 
-/// A flip-flop that a wire sets at once, where it is enabled by that wire.
+/// A flip-flop with asynchronous set or reset, at a clock edge during that: its reset enables it, whatever its clock enable is.
 fn reset_of(places: &Places, item: &Item) -> Option<Flip>
     requires { IsShaped item.now }
     ensures { result ≡ option_map at_reset (flip_at_once_of (places_in places.now) item.now) }
@@ -183,7 +183,7 @@ fn reset_of(places: &Places, item: &Item) -> Option<Flip>
     })
 }
 
-/// The register of an item that a wire sets at once, where it is one.
+/// The asynchronous set or reset of an item, if it has one.
 fn settle_of(places: &Places, item: &Item) -> Option<Settle>
     ensures { result ≡ settle_of (places_in places.now) item.now }
 {
@@ -201,7 +201,7 @@ fn settle_of(places: &Places, item: &Item) -> Option<Settle>
     }
 }
 
-/// A register that a wire sets at once, where both are found.
+/// An asynchronous set or reset, if the wire and the register have slots.
 fn settle_over(places: &Places, reset: &[u8], set: bool, target: &[u8]) -> Option<Settle>
     ensures { result ≡ settle_over (places_in places.now) reset.now set target.now }
 {
@@ -210,7 +210,7 @@ fn settle_over(places: &Places, reset: &[u8], set: bool, target: &[u8]) -> Optio
     Some(Settle { wire, set, target })
 }
 
-/// A port of a memory, where its clock and the memory are found.
+/// A port of a memory, if its clock and the memory have slots.
 fn port_of(
     places: &Places,
     falling: bool,
@@ -245,7 +245,7 @@ fn field_of(places: &Places, shift: &Atoms, pattern: u16) -> Field
     }
 }
 
-/// A read through a port, where the port and the register are found.
+/// A read through a port, if there are the port and the register.
 fn read_over(port: Option<MemoryPort>, target: Option<usize>, taken: Taken) -> Option<Read>
     ensures { result ≡ read_over port target taken }
 {
@@ -258,7 +258,7 @@ fn read_over(port: Option<MemoryPort>, target: Option<usize>, taken: Taken) -> O
     })
 }
 
-/// The read of an item, where it is one.
+/// The read of an item, if it is one.
 fn read_of(places: &Places, item: &Item) -> Option<Read>
     requires { IsShaped item.now }
     ensures { result ≡ read_of (places_in places.now) item.now }
@@ -289,7 +289,7 @@ fn read_of(places: &Places, item: &Item) -> Option<Read>
     }
 }
 
-/// The narrow read of an item, where it is one.
+/// The read of an item, if it is one that is 8, 4 or 2 bits wide.
 fn narrow_read_of(places: &Places, item: &Item) -> Option<Read>
     requires { IsShaped item.now }
     ensures { result ≡ narrow_read_of (places_in places.now) item.now }
@@ -322,7 +322,7 @@ fn narrow_read_of(places: &Places, item: &Item) -> Option<Read>
     }
 }
 
-/// A write of bits through a port, where the port is found.
+/// A write through a port, if there is the port.
 fn write_over(places: &Places, port: Option<MemoryPort>, kept: Kept, bits: &Atoms) -> Option<Write>
     requires { length bits.now ≡ 16 }
     ensures { result ≡ write_over (places_in places.now) port kept bits.now }
@@ -335,7 +335,7 @@ fn write_over(places: &Places, port: Option<MemoryPort>, kept: Kept, bits: &Atom
     })
 }
 
-/// The write of an item, where it is one.
+/// The write of an item, if it is one.
 fn write_of(places: &Places, item: &Item) -> Option<Write>
     requires { IsShaped item.now }
     ensures { result ≡ write_of (places_in places.now) item.now }
@@ -368,7 +368,7 @@ fn write_of(places: &Places, item: &Item) -> Option<Write>
     }
 }
 
-/// The narrow write of an item, where it is one.
+/// The write of an item, if it is one that is 8, 4 or 2 bits wide.
 fn narrow_write_of(places: &Places, item: &Item) -> Option<Write>
     requires { IsShaped item.now }
     ensures { result ≡ narrow_write_of (places_in places.now) item.now }
@@ -427,7 +427,7 @@ fn push_flips(flips: &mut Vec<Flip>, places: &Places, item: &Item) -> Result<(),
     push_found(flips, reset_of(places, item))
 }
 
-/// The registers of items that wires set at once.
+/// The asynchronous sets and resets of items.
 pub(crate) fn settles_of(
     alloc: Global,
     places: &Places,
@@ -474,7 +474,7 @@ pub(crate) fn writes_of(
     Ok(writes)
 }
 
-/// Adds an item, where there is one.
+/// Adds an item to a list, if there is one.
 fn push_found<T: Drop>(list: &mut Vec<T>, found: Option<T>) -> Result<(), AllocError>
     ensures { OnOk result (list.new.items ≡ list.old.items ++ option_to_list found) }
 {

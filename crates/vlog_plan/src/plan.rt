@@ -6,13 +6,13 @@ use crate::gates::Gate;
 #[derive(Clone, Copy)]
 pub enum Operand {
     Constant(bool),
-    /// The bit of a slot.
+    /// The bit in a slot.
     Slot(usize),
     /// Bit `k` of a register of 16 bits.
     Part { word: usize, k: u8 },
 }
 
-/// A table of 16 bits and its inputs, the lowest first.
+/// A LUT: its truth table of 16 bits, and its inputs, the lowest bit of the index first.
 #[derive(Clone, Copy)]
 pub struct Table {
     pub word: u16,
@@ -29,7 +29,7 @@ pub enum Rule {
         b: Operand,
         c: Operand,
     },
-    /// The bit where the first is 1, else the second.
+    /// The bit `set` if `reset` is 1, else `target`.
     Choose {
         reset: Operand,
         set: bool,
@@ -44,14 +44,14 @@ pub struct Wire {
     pub rule: Rule,
 }
 
-/// An edge of an input.
+/// An edge of an input: the input's index, and whether it is a falling edge.
 #[derive(Clone, Copy)]
 pub struct Edge {
     pub pin: usize,
     pub falling: bool,
 }
 
-/// What a flip-flop does at its edge.
+/// What a flip-flop does at a clock edge, if `enable` is 1: it becomes the bit `set` if `reset` is 1, else the value of the LUT.
 #[derive(Clone, Copy)]
 pub struct Flip {
     pub edge: Edge,
@@ -63,7 +63,7 @@ pub struct Flip {
     pub table: Table,
 }
 
-/// A register that a wire sets at once.
+/// The asynchronous set or reset of a register: the register becomes the bit `set` while the wire is 1.
 #[derive(Clone, Copy)]
 pub struct Settle {
     /// The slot of the wire.
@@ -73,7 +73,7 @@ pub struct Settle {
     pub target: usize,
 }
 
-/// A port of a memory. It acts at its edge where both enables are 1.
+/// A port of a memory. It acts at its edge if both enables are 1.
 #[derive(Clone, Copy)]
 pub struct MemoryPort {
     pub edge: Edge,
@@ -84,7 +84,7 @@ pub struct MemoryPort {
     pub address: [Operand; 8],
 }
 
-/// Some bits of a word: those of a pattern that is moved up by a shift.
+/// A field of a word: the bits under a pattern that is shifted up.
 #[derive(Clone, Copy)]
 pub struct Field {
     /// The lowest bit first.
@@ -97,7 +97,7 @@ pub struct Field {
 pub enum Taken {
     /// The word as it is.
     Word,
-    /// The bits of a field, moved down.
+    /// The bits of a field, shifted down.
     Narrow(Field),
 }
 
@@ -109,10 +109,10 @@ pub struct Read {
     pub taken: Taken,
 }
 
-/// Which bits of a word stay where it is written.
+/// Which bits of a word a write leaves as they are.
 #[derive(Clone, Copy)]
 pub enum Kept {
-    /// Those where a mask is 1, the lowest first.
+    /// Those whose mask bit is 1; the mask has the lowest bit first.
     Masked([Operand; 16]),
     /// Those outside a field.
     Outside(Field),
@@ -127,7 +127,7 @@ pub struct Write {
     pub bits: [Operand; 16],
 }
 
-/// A word for a place of a memory.
+/// A word that is written to an address of a memory.
 #[derive(Clone, Copy)]
 pub struct Written {
     pub memory: usize,
@@ -135,7 +135,7 @@ pub struct Written {
     pub word: u16,
 }
 
-/// 256 words of 16 bits.
+/// A memory: 256 words of 16 bits.
 pub type Memory = [u16; 256];
 
 /// The items of a module over slots.
@@ -143,9 +143,10 @@ pub type Memory = [u16; 256];
 pub struct Plan {
     /// The wires, in the order of the text.
     pub gates: Vec<Gate>,
-    /// What the outputs have, in the order of the ports.
+    /// What the outputs are assigned, in the order of the ports.
     pub outputs: Vec<Operand>,
-    /// What flip-flops do at their edges. One that a wire sets at once stands here twice: as it is, and once more for its reset.
+    /// What flip-flops do at their edges. A flip-flop with asynchronous set or reset is listed twice: as it is, and once more for an edge
+    /// during its set or reset.
     pub flips: Vec<Flip>,
     pub settles: Vec<Settle>,
     pub reads: Vec<Read>,

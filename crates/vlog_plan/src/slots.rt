@@ -5,7 +5,7 @@ ghost use Rattle.std.specs.Map.{lookup};
 use indexmap::IndexMap;
 use std::alloc::{AllocError, Global};
 
-/// The slot of each of some names. A name that is added twice keeps its first slot.
+/// The slots of names. A name that is added twice keeps its first slot.
 #[derive(Drop)]
 pub struct Slots {
     by_name: IndexMap<Vec<u8>, usize>,
@@ -15,7 +15,7 @@ pub struct Slots {
 impl Slots {
     ghost use Rattle.vlog_plan.specs.Slots.{Finds, slot_of};
 
-    /// No names. It takes no memory yet.
+    /// An empty table. It takes no memory yet.
     pub(crate) fn new(alloc: Global) -> Slots
         ensures { Finds result [] }
     {
@@ -36,7 +36,7 @@ impl Slots {
         insert(&mut self.by_name, name, slot)
     }
 
-    /// The slot of a name.
+    /// The slot of a name, if it has one.
     pub fn slot(&self, name: &[u8]) -> Option<usize>
         ensures { result ≡ slot_of self.now name.now }
     {
@@ -44,7 +44,7 @@ impl Slots {
     }
 }
 
-/// Gives a name that has no slot its slot.
+/// Gives a name a slot, if it has none yet.
 fn insert(
     by_name: &mut IndexMap<Vec<u8>, usize>,
     name: Vec<u8>,

@@ -1,4 +1,4 @@
-// The bits, words and memories of slots.
+// The bits, words and memories in slots.
 ghost use Rattle.std.specs.Prelude.{◌≡◌, false, get_or, length, slice_set};
 ghost use Rattle.vlog_plan.specs.Run.{is_edge};
 ghost use Rattle.vlog_plan.specs.Steps.{is_edge_of, word_in};
@@ -7,7 +7,7 @@ ghost use Rattle.vlog_plan.specs.Values.{bit_of};
 use crate::event::Event;
 use crate::plan::{Edge, Memory};
 
-/// The bit of a slot, and 0 past the last.
+/// The bit in a slot, and 0 past the last slot.
 pub fn bit_at(bits: &[bool], slot: usize) -> bool
     ensures { result ≡ get_or bits.now slot false }
 {
@@ -17,7 +17,7 @@ pub fn bit_at(bits: &[bool], slot: usize) -> bool
     }
 }
 
-/// The word of a slot, and 0 past the last.
+/// The word in a slot, and 0 past the last slot.
 pub fn word_at(words: &[u16], slot: usize) -> u16
     ensures { result ≡ get_or words.now slot 0 }
 {
@@ -34,7 +34,7 @@ pub fn bit_of(word: u16, k: u32) -> bool
     k < 16 && (word >> k) & 1 == 1
 }
 
-/// Gives the bit of a slot, where there is such a slot.
+/// Sets the bit in a slot, if there is such a slot.
 pub fn set_bit(bits: &mut [bool], slot: usize, bit: bool)
     ensures { bits.new ≡ slice_set bits.old slot bit }
 {
@@ -50,14 +50,14 @@ pub fn is_edge_of(event: Event, edge: Edge) -> bool
     edge.pin == event.pin && is_edge(edge.falling, event.bit)
 }
 
-/// Whether an input that gets this bit, and had the other, has the edge.
+/// Whether an input that changes to this bit has the edge.
 fn is_edge(falling: bool, bit: bool) -> bool
     ensures { result ≡ is_edge falling bit }
 {
     if falling { !bit } else { bit }
 }
 
-/// The word of a memory at an address, and 0 where there is no such memory.
+/// The word of a memory at an address, and 0 if there is no such memory.
 pub fn word_in(memories: &[Memory], memory: usize, address: u8) -> u16
     ensures { result ≡ word_in memories.now memory address }
 {
@@ -67,7 +67,7 @@ pub fn word_in(memories: &[Memory], memory: usize, address: u8) -> u16
     }
 }
 
-/// Copies bits to as many bits.
+/// Copies bits to a list of the same length.
 pub fn copy_bits(from: &[bool], to: &mut [bool])
     ensures { length to.old ≡ length from.now → to.new ≡ from.now }
 {
@@ -76,7 +76,7 @@ pub fn copy_bits(from: &[bool], to: &mut [bool])
     }
 }
 
-/// Copies words to as many words.
+/// Copies words to a list of the same length.
 pub fn copy_words(from: &[u16], to: &mut [u16])
     ensures { length to.old ≡ length from.now → to.new ≡ from.now }
 {

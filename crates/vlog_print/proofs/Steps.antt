@@ -144,7 +144,7 @@ first_again-some text first count more values next some =
     ∙ rest-again (text ++ 123 ∷ []) first (again_slots (suc first) (count - 1) ++ more) values next
     ∙ ap (λ at. with_rest ((text ++ 123 ∷ []) ++ tokens_text (tokens_at (take next (all_seen values)) first)) (again_slots at (count - 1) ++ more) values next) place
 
--- a value of a place that stands before
+-- a value at an index, which filled an earlier slot
 pub tokens_at-place : (values : List read.Value) (next place : ℕ) (default : read.Value) → place < next → next ≤ length values
     → tokens_at (take next (all_seen values)) place ≡ value_tokens (seen (get_or values place default))
 tokens_at-place [] next place default before within = absurd (omega arith)

@@ -1,4 +1,4 @@
-// Text, numbers and words at the end of a text.
+// Texts, numbers and words that are added to a text.
 ghost use Rattle.std.specs.Prelude.{◌≡◌, ◌++◌, ◌<◌, OnOk};
 ghost use Rattle.vlog_forms.specs.Printed.{bit_text, decimal_text, hex_digit, word_text};
 

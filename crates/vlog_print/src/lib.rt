@@ -1,4 +1,4 @@
-//! Modules of the Verilog subset as text.
+//! Prints modules of the Verilog subset.
 #![tactic(auto)]
 
 mod bytes;

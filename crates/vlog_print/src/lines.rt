@@ -1,4 +1,4 @@
-// A module line by line.
+// Prints a module line by line.
 ghost use Rattle.std.specs.Prelude.{◌≡◌, ◌≤◌, ◌++◌, flat_map, length, take, drop, IfOk, OnOk};
 ghost use Rattle.vlog_module.specs.WellFormed.{IsModule};
 ghost use Rattle.vlog_forms.specs.Items.{IsSpelling, port_form};
@@ -13,8 +13,20 @@ use std::alloc::{AllocError, Global};
 use vlog_forms::{Form, Role, Slot, Value, slots};
 use vlog_module::{Item, Module, Port, Sort};
 
-/// The text of a module: the header, then each declaration of a port and each item on a line of its own behind two spaces,
-/// then `endmodule`. Every line ends with LF.
+/// The text of a module: the header, then each declaration of a port and each item on a line of its own, indented by two spaces, then
+/// `endmodule`. Every line ends with LF.
+///
+/// # Errors
+/// `AllocError` if memory is out, and for no other cause.
+///
+/// # Example
+/// ```ignore
+/// /// The text of a module in its printed form.
+/// fn tidied(alloc: Global, text: &[u8]) -> Option<Vec<u8>> {
+///     let module = parse(alloc, text).ok()?;
+///     print(alloc, &module).ok()
+/// }
+/// ```
 pub fn print(alloc: Global, module: &Module) -> Result<Vec<u8>, AllocError>
     ensures text { IfOk result (λ text. text.items ≡ printed «module».now) }
     ensures spelling { IfOk result (λ text. IsSpelling text.items «module».now) }
@@ -52,7 +64,7 @@ fn push_names(out: &mut Vec<u8>, ports: &[Port]) -> Result<(), AllocError>
     }
 }
 
-/// Adds the names of further ports, each behind a comma and a space.
+/// Adds the names of further ports, each after a comma and a space.
 fn push_more_names(out: &mut Vec<u8>, ports: &[Port]) -> Result<(), AllocError>
     ensures { OnOk result (out.new.items ≡ out.old.items ++ more_names_text ports.now) }
 {
@@ -62,7 +74,7 @@ fn push_more_names(out: &mut Vec<u8>, ports: &[Port]) -> Result<(), AllocError>
     Ok(())
 }
 
-/// Adds the name of a port behind a comma and a space.
+/// Adds the name of a port after a comma and a space.
 fn push_next_name(out: &mut Vec<u8>, port: &Port) -> Result<(), AllocError>
     ensures { OnOk result (out.new.items ≡ out.old.items ++ next_name port.now) }
 {
@@ -88,7 +100,7 @@ fn push_port(out: &mut Vec<u8>, port: &Port) -> Result<(), AllocError>
     push_line(out, slots(port_form(port.output)), &[name], 1)
 }
 
-/// How a port is declared.
+/// The form of a port's declaration.
 fn port_form(output: bool) -> Form
     ensures { result ≡ port_form output }
 {
@@ -113,7 +125,7 @@ fn push_item(alloc: Global, out: &mut Vec<u8>, item: &Item) -> Result<(), AllocE
     push_line(out, slots(item_form(item)), &values, 0)
 }
 
-/// Adds a line of slots and values. So many values stand in slots before.
+/// Adds a line of slots that are filled with values. The first `next` values filled earlier slots.
 fn push_line(
     out: &mut Vec<u8>,
     slots: &[Slot],

@@ -1,4 +1,4 @@
-// Slots and values as text.
+// Prints slots that are filled with values.
 ghost use Rattle.std.specs.Prelude.{◌≡◌, ◌≤◌, ◌<◌, ◌+◌, ◌^◌, ◌++◌, List, [], ◌∷◌, true, flat_map, take, drop, length, IfOk, OnOk};
 ghost use Rattle.vlog_tokens.specs.Fixed.{fixed_text};
 ghost use Rattle.vlog_forms.specs.Layout.{again_slots, atom_slots, first_again_slots, more_slots, parts_of, takes_value};
@@ -11,7 +11,7 @@ use std::alloc::AllocError;
 use vlog_forms::{Slot, Value};
 use vlog_tokens::Fixed;
 
-/// Adds what slots and values make. So many values stand in slots before.
+/// Adds what slots and values make. The first `next` values filled earlier slots.
 pub(crate) fn write_slots(
     out: &mut Vec<u8>,
     slots: &[Slot],
@@ -30,7 +30,7 @@ pub(crate) fn write_slots(
     }
 }
 
-/// Adds what a slot makes, and gives how many values stand in slots up to it.
+/// Adds what a slot makes, and returns how many values are used up after it.
 fn write_slot(
     out: &mut Vec<u8>,
     slot: Slot,
@@ -73,7 +73,7 @@ fn write_slot(
     }
 }
 
-/// Adds the next value, where there is one.
+/// Adds the next value, if there is one, and returns how many values are used up after it.
 fn write_next(out: &mut Vec<u8>, values: &[Value<'_>], next: usize) -> Result<usize, AllocError>
     requires { next ≤ length values.now }
     ensures within { IfOk result (λ behind. behind ≤ length values.now) }
@@ -88,7 +88,7 @@ fn write_next(out: &mut Vec<u8>, values: &[Value<'_>], next: usize) -> Result<us
     }
 }
 
-/// Adds the value of a place once more, where it stands in a slot before.
+/// Adds the value at an index again, if it filled an earlier slot.
 fn write_again(
     out: &mut Vec<u8>,
     values: &[Value<'_>],
@@ -142,7 +142,7 @@ fn push_part(out: &mut Vec<u8>, name: &[u8], k: u8) -> Result<(), AllocError>
     push_text(out, b"]")
 }
 
-/// Adds so many atoms in braces, and gives how many values stand in slots up to them.
+/// Adds this many atoms in braces, and returns how many values are used up after them.
 fn write_atoms(
     out: &mut Vec<u8>,
     values: &[Value<'_>],
@@ -163,7 +163,7 @@ fn write_atoms(
     write_more(out, values, next, count - 1)
 }
 
-/// Adds so many further atoms, each behind a comma, and the closing brace.
+/// Adds this many further atoms, each after a comma, and the closing brace.
 fn write_more(
     out: &mut Vec<u8>,
     values: &[Value<'_>],
@@ -184,7 +184,7 @@ fn write_more(
     write_more(out, values, next, count - 1)
 }
 
-/// Adds the atoms of as many places from the first one on once more, in braces.
+/// Adds the atoms at the indexes from the first one on, as many as `count`, again in braces.
 fn write_atoms_again(
     out: &mut Vec<u8>,
     values: &[Value<'_>],
@@ -205,7 +205,7 @@ fn write_atoms_again(
     write_more_again(out, values, next, first + 1, count - 1)
 }
 
-/// Adds the atoms of so many further places once more, each behind a comma, and the closing brace.
+/// Adds the atoms at this many further indexes again, each after a comma, and the closing brace.
 fn write_more_again(
     out: &mut Vec<u8>,
     values: &[Value<'_>],

@@ -9,7 +9,7 @@ use std::alloc::{AllocError, Global};
 use vlog_forms::{Form, Role, Value};
 use vlog_module::{Atom, Atoms, Item, Lut, Name, Right, Sort};
 
-/// How an item is written.
+/// The form of an item.
 pub(crate) fn item_form(item: &Item) -> Form
     ensures { result ≡ item_form item.now }
 {
@@ -30,7 +30,7 @@ pub(crate) fn item_form(item: &Item) -> Form
     }
 }
 
-/// How a wire is written.
+/// The form of a wire.
 fn wire_form(right: &Right) -> Form
     ensures { result ≡ wire_form right.now }
 {
@@ -44,7 +44,7 @@ fn wire_form(right: &Right) -> Form
     }
 }
 
-/// The values of an item.
+/// The values of an item, in the order of the text.
 pub(crate) fn item_values(alloc: Global, item: &Item) -> Result<Vec<Value<'_>>, AllocError>
     ensures { IfOk result (λ values. all_seen values.items ≡ item_values item.now) }
 {
@@ -179,7 +179,7 @@ fn push_item<'a>(values: &mut Vec<Value<'a>>, item: &'a Item) -> Result<(), Allo
     }
 }
 
-/// Adds what items on an edge begin with.
+/// Adds the values with which items on an edge begin.
 fn push_clocked<'a>(
     values: &mut Vec<Value<'a>>,
     falling: bool,
@@ -196,7 +196,7 @@ fn push_clocked<'a>(
     push_atom(values, second)
 }
 
-/// Adds a wire, the register that it sets at once, and the bit.
+/// Adds the values of an asynchronous set or reset: the wire, the register and the bit.
 fn push_at_once<'a>(
     values: &mut Vec<Value<'a>>,
     reset: &'a Name,
@@ -236,7 +236,7 @@ fn push_right<'a>(values: &mut Vec<Value<'a>>, right: &'a Right) -> Result<(), A
     }
 }
 
-/// Adds the values of a table.
+/// Adds the values of a LUT.
 fn push_lut<'a>(values: &mut Vec<Value<'a>>, lut: &'a Lut) -> Result<(), AllocError>
     ensures { OnOk result (all_seen values.new.items ≡ all_seen values.old.items ++ lut_values lut.now) }
 {
@@ -267,7 +267,7 @@ fn push_atom<'a>(values: &mut Vec<Value<'a>>, atom: &'a Atom) -> Result<(), Allo
     }
 }
 
-/// Adds a name in a role.
+/// Adds a name and how it is used.
 fn push_name<'a>(values: &mut Vec<Value<'a>>, role: Role, name: &'a Name) -> Result<(), AllocError>
     ensures { OnOk result (all_seen values.new.items ≡ all_seen values.old.items ++ value.Name role name.now ∷ []) }
 {

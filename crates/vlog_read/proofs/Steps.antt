@@ -19,7 +19,7 @@ use Rattle.vlog_read.specs.declared.stop.Stop.{Stop}
 use Rattle.vlog_read.specs.declared.stop.Stop.TheVariants.{Stuck, Memory}
 use Rattle.vlog_read.specs.Readings.{StopsAt, ReadsTokens, ReadsTo, ReadsOver, ReadsForm, further}
 
--- ---- one reading behind another
+-- ---- one reading after another
 
 then_then : (first : Reading (List Found)) (second third : List Found → List Spot → Reading (List Found))
     → and_then first (λ found spots. and_then (second found spots) third) ≡ and_then (and_then first second) third
@@ -50,7 +50,7 @@ pub slots-none : (end : ℕ) (found : List Found) (spots : List Spot) → read_s
 unfolding read_slots
 slots-none end found spots = refl
 
--- a slot and those behind it
+-- a slot and those after it
 pub slots-cons : (end : ℕ) (one : Slot) (slots : List Slot) (found : List Found) (spots : List Spot)
     → read_slots end (one ∷ slots) found spots ≡ and_then (read_slot end one found spots) (read_slots end slots)
 unfolding read_slots
@@ -63,7 +63,7 @@ reads-along one other bytes found result same reads = subst (λ (r : Reading (Li
 pub over-along : (one other : Reading (List Found)) (bytes : List ℕ) (found : List Found) (result : Result ℕ ℕ) → one ≡ other → ReadsOver other bytes found result → ReadsOver one bytes found result
 over-along one other bytes found result same reads = subst (λ (r : Reading (List Found)). ReadsOver r bytes found result) (sym same) reads
 
--- where the first reading stops, so do both
+-- if the first reading stops, both do
 pub stops-then : (first : Reading (List Found)) (second : List Found → List Spot → Reading (List Found)) (stop : Stop) → StopsAt first stop → StopsAt (and_then first second) stop
 stops-then first second (Stuck at) stops = ap (λ reading. and_then reading second) stops
 stops-then first second (Memory refused) stops = tt
@@ -97,7 +97,7 @@ pub first-stuck : (end : ℕ) (fixed : Fixed) (slots : List Slot) (found : List 
 first-stuck end fixed slots found first spots apart =
     fixed-stuck end fixed slots found (first ∷ spots) first.offset (ap (λ b. if b then Ok spots else Err first.offset) apart)
 
--- a comma, a blank, and other slots
+-- a comma, a space, and other slots
 pub comma-then : (end : ℕ) (slots : List Slot) (found : List Found) (spots rest : List Spot) → read_tokens end (token.fixed sign.Comma ∷ []) spots ≡ Ok rest
     → read_slots end (slot.Fixed sign.Comma ∷ slot.Space ∷ slots) found spots ≡ read_slots end slots found rest
 unfolding read_slots
@@ -221,7 +221,7 @@ first-suc first count some = let one : count ≡ suc (count - 1) = omega arith i
 
 -- ---- lists and forms
 
--- what is left behind the first element
+-- what is left after the first element
 pub rest-whole : {A : Type 0} (list : List A) → take (length list - 1) (drop 1 list) ≡ drop 1 list
 rest-whole [] = refl
 rest-whole (first ∷ list) =

@@ -54,7 +54,7 @@ unfolding atoms_in
 atoms-in-length zero values = refl
 atoms-in-length (suc count) values = ap (λ n. suc n) (atoms-in-length count (drop 1 values))
 
--- the atoms that are left to push, behind those that were pushed
+-- the atoms that are left to push, after those that were pushed
 pub atoms-push : (list more : List Atom) (one : Atom) (values : List Value) (left : ℕ) → more ≡ list ++ one ∷ [] → one ≡ atom_in (behind left values)
     → more ++ reverse (atoms_in left values) ≡ list ++ reverse (atoms_in (left + 1) values)
 atoms-push list more one values left pushed is =

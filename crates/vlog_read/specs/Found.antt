@@ -1,4 +1,4 @@
--- The values that the code keeps.
+-- The values that were read, each with its offset.
 use Rattle.std.specs.Prelude.{List, map}
 use Rattle.vlog_forms.specs.Values.{seen}
 use Rattle.vlog_forms.specs.Reading.{Found, found_at}

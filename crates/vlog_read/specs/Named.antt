@@ -1,4 +1,4 @@
--- Values of which the names are names.
+-- Values whose names are names: no reserved words.
 use Rattle.std.specs.Prelude.{List, [], ◌∷◌}
 use Rattle.vlog_module.specs.declared.atoms.Atom.TheVariants as atom
 use Rattle.vlog_module.specs.Names.{IsName}

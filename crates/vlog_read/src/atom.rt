@@ -13,7 +13,7 @@ use crate::token::{expect_token, is_fixed};
 use vlog_forms::Value;
 use vlog_tokens::{Fixed, Token, next_token};
 
-/// Reads an atom.
+/// Reads an atom, and adds it to the values.
 pub fn read_atom<'a>(
     bytes: &'a [u8],
     from: usize,
@@ -36,7 +36,7 @@ pub fn read_atom<'a>(
     }
 }
 
-/// Reads what follows the name of an atom.
+/// Reads what follows the name of an atom: `[k]`, or nothing.
 fn read_named<'a>(
     bytes: &'a [u8],
     at: usize,
@@ -57,7 +57,7 @@ fn read_named<'a>(
     }
 }
 
-/// Keeps an atom that ends at an offset.
+/// Adds an atom that ends at an offset to the values.
 fn keep_atom<'a>(
     values: &mut Vec<Found<'a>>,
     at: usize,
@@ -73,7 +73,7 @@ fn keep_atom<'a>(
     }
 }
 
-/// The offset behind `[`, where that comes next.
+/// The offset after `[`, if that is the next token.
 fn behind_open(bytes: &[u8], from: usize) -> Option<usize>
     requires { from ≤ length bytes.now }
     ensures opens { MatchOption result (opens (spots_at bytes.now from) ≡ false)
@@ -92,7 +92,7 @@ fn behind_open(bytes: &[u8], from: usize) -> Option<usize>
     }
 }
 
-/// Reads the index of a bit of a register of 16 bits, and `]`.
+/// Reads the index of a bit in a register of 16 bits, and `]`.
 fn read_part(bytes: &[u8], from: usize) -> Result<(u8, usize), usize>
     requires { from ≤ length bytes.now }
     ensures reads { ReadsIndex (read_part (length bytes.now) (spots_at bytes.now from)) bytes.now result }
@@ -117,7 +117,7 @@ fn read_part(bytes: &[u8], from: usize) -> Result<(u8, usize), usize>
     }
 }
 
-/// Reads `]` behind the index of a bit.
+/// Reads `]` after the index of a bit.
 fn close_part(bytes: &[u8], from: usize, k: u8) -> Result<(u8, usize), usize>
     requires { from ≤ length bytes.now }
     ensures reads { ReadsIndex (close_part (length bytes.now) k (spots_at bytes.now from)) bytes.now result }

@@ -1,4 +1,4 @@
-// The form that comes next.
+// Finds the form that fits the tokens of a text.
 ghost use Rattle.std.specs.Prelude.{◌≡◌, ◌≤◌, ◌∷◌, drop, flat_map, length, IfOk, IfSome, OnOk};
 ghost use Rattle.vlog_tokens.specs.Tokens.{seen, spot, spots_at};
 ghost use Rattle.vlog_forms.specs.Layout.{parts_of, slots_of};
@@ -14,14 +14,14 @@ use std::alloc::AllocError;
 use vlog_forms::{Form, Slot, slots};
 use vlog_tokens::{Fixed, Spot, next_token};
 
-/// An item that is whole: its form, and the offset behind it.
+/// An item that fits a form: the form, and the offset after the item.
 #[derive(Clone, Copy, Debug)]
 pub struct Whole {
     pub form: Form,
     pub end: usize,
 }
 
-/// All forms.
+/// All forms, in the order in which they are tried.
 pub fn all_forms() -> &'static [Form]
     ensures { result.now ≡ all_forms }
 {
@@ -57,7 +57,11 @@ pub fn port_forms() -> &'static [Form]
     &[Form::Input, Form::Output]
 }
 
-/// Reads the form among these that is whole. Values that the forms repeat may be given.
+/// Reads the first of these forms that fits, and leaves its values in `values`. The values that the forms repeat are given.
+///
+/// # Errors
+/// [`Stop::Stuck`] if no form fits, with the offset of the token at which the form that got furthest stopped (the length of the text if
+/// that ends there). [`Stop::Memory`] if memory is out.
 pub fn read_forms<'a>(
     bytes: &'a [u8],
     from: usize,
@@ -72,7 +76,7 @@ pub fn read_forms<'a>(
     read_each(bytes, from, next_token(bytes, from), given, forms, values)
 }
 
-/// Reads one form after another, each of which begins with the same token.
+/// Tries one form after another; `first` is the token at their front, which is read only once.
 fn read_each<'a>(
     bytes: &'a [u8],
     from: usize,
@@ -99,7 +103,7 @@ fn read_each<'a>(
     }
 }
 
-/// Reads a form behind the values that are given. Its first token, where there is one, isn't read again.
+/// Reads a form after the values that are given. If there is a first token, it isn't read again.
 fn read_form<'a>(
     bytes: &'a [u8],
     from: usize,
@@ -120,7 +124,7 @@ fn read_form<'a>(
     }
 }
 
-/// Reads slots behind the values that are given, where the first token is known.
+/// Reads slots after the values that are given, if the first token is known.
 fn read_begun<'a>(
     bytes: &'a [u8],
     from: usize,
@@ -147,7 +151,7 @@ fn read_begun<'a>(
     }
 }
 
-/// The sign or reserved word that slots begin with, where they do.
+/// The sign or reserved word with which slots begin, if they begin with one.
 fn first_sign(slots: &[Slot]) -> Option<Fixed>
     ensures { IfSome result (λ fixed. slots.now ≡ Slot.Fixed fixed ∷ drop 1 slots.now) }
 {
@@ -160,7 +164,7 @@ fn first_sign(slots: &[Slot]) -> Option<Fixed>
     }
 }
 
-/// Reads slots behind the values that are given.
+/// Reads slots after the values that are given.
 fn read_behind<'a>(
     bytes: &'a [u8],
     from: usize,
@@ -178,7 +182,7 @@ fn read_behind<'a>(
     }
 }
 
-/// Leaves exactly these values.
+/// Makes the list hold exactly these values.
 fn start_with<'a>(values: &mut Vec<Found<'a>>, given: &[Found<'a>]) -> Result<(), AllocError>
     ensures { OnOk result (values.new.items ≡ given.now) }
 {
@@ -186,7 +190,7 @@ fn start_with<'a>(values: &mut Vec<Found<'a>>, given: &[Found<'a>]) -> Result<()
     values.extend_from_slice(given)
 }
 
-/// The reading of the forms that are left, where one that was tried is stuck at an offset.
+/// The answer of the other forms, after one form stopped at an offset: the first that fits, else the offset of the one that got furthest.
 fn further(stuck: usize, others: Result<Whole, Stop>) -> Result<Whole, Stop>
     ensures { result ≡ further stuck others }
 {

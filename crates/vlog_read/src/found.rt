@@ -1,4 +1,4 @@
-// Values with their places in the text.
+// Values with their offsets in the text.
 ghost use Rattle.std.specs.Prelude.{◌≡◌, ◌++◌, [], ◌∷◌, OnOk};
 ghost use Rattle.vlog_forms.specs.Values.{seen};
 ghost use Rattle.vlog_forms.specs.Reading.{found_at};
@@ -15,6 +15,9 @@ pub struct Found<'a> {
 }
 
 /// Adds a value.
+///
+/// # Errors
+/// `AllocError` if memory is out, and for no other cause.
 pub fn push_found<'a>(
     values: &mut Vec<Found<'a>>,
     at: usize,

@@ -11,8 +11,11 @@ use std::alloc::{AllocError, Global};
 use vlog_forms::Form;
 use vlog_module::{Item, Lut, Right};
 
-/// The item of a form and its values. A value of another kind, or none, counts as some value of the kind; a form that is no
-/// item's counts as that of a start word.
+/// The item of a form and its values. Where a value is missing or of another kind, some value of the right kind takes its place; a form
+/// that is no item's counts as `Form::Start`.
+///
+/// # Errors
+/// `AllocError` if memory is out, and for no other cause.
 pub fn item_of(alloc: Global, form: Form, values: &[Found<'_>]) -> Result<Item, AllocError>
     requires { AreNamed (values_of (all_found values.now)) }
     ensures { IfOk result (λ item. item ≡ item_of form (values_of (all_found values.now))) }
@@ -75,7 +78,7 @@ fn memory_of(alloc: Global, values: &[Found<'_>]) -> Result<Item, AllocError>
     Ok(Item::Memory { name })
 }
 
-/// A wire of a fixed bit.
+/// A wire that is a constant bit.
 fn wire_bit_of(alloc: Global, values: &[Found<'_>]) -> Result<Item, AllocError>
     requires { AreNamed (values_of (all_found values.now)) }
     ensures { IfOk result (λ item. item ≡ item_of Form.WireBit (values_of (all_found values.now))) }
@@ -85,7 +88,7 @@ fn wire_bit_of(alloc: Global, values: &[Found<'_>]) -> Result<Item, AllocError>
     Ok(Item::Wire { name, right })
 }
 
-/// A wire that has the value of a name.
+/// A wire that copies a name of one bit.
 fn wire_whole_of(alloc: Global, values: &[Found<'_>]) -> Result<Item, AllocError>
     requires { AreNamed (values_of (all_found values.now)) }
     ensures { IfOk result (λ item. item ≡ item_of Form.WireWhole (values_of (all_found values.now))) }
@@ -96,7 +99,7 @@ fn wire_whole_of(alloc: Global, values: &[Found<'_>]) -> Result<Item, AllocError
     Ok(Item::Wire { name, right })
 }
 
-/// A wire that has a bit of a register of 16 bits.
+/// A wire that copies a bit of a register of 16 bits.
 fn wire_part_of(alloc: Global, values: &[Found<'_>]) -> Result<Item, AllocError>
     requires { AreNamed (values_of (all_found values.now)) }
     ensures { IfOk result (λ item. item ≡ item_of Form.WirePart (values_of (all_found values.now))) }
@@ -110,7 +113,7 @@ fn wire_part_of(alloc: Global, values: &[Found<'_>]) -> Result<Item, AllocError>
     Ok(Item::Wire { name, right })
 }
 
-/// A wire that is a table of four atoms.
+/// A wire that is a LUT of four atoms.
 fn wire_lut_of(alloc: Global, values: &[Found<'_>]) -> Result<Item, AllocError>
     requires { AreNamed (values_of (all_found values.now)) }
     ensures { IfOk result (λ item. item ≡ item_of Form.WireLut (values_of (all_found values.now))) }
@@ -121,7 +124,7 @@ fn wire_lut_of(alloc: Global, values: &[Found<'_>]) -> Result<Item, AllocError>
     Ok(Item::Wire { name, right })
 }
 
-/// A wire that is the majority of three atoms.
+/// A wire that is the majority of three atoms: a carry-out.
 fn wire_majority_of(alloc: Global, values: &[Found<'_>]) -> Result<Item, AllocError>
     requires { AreNamed (values_of (all_found values.now)) }
     ensures { IfOk result (λ item. item ≡ item_of Form.WireMajority (values_of (all_found values.now))) }
@@ -134,7 +137,7 @@ fn wire_majority_of(alloc: Global, values: &[Found<'_>]) -> Result<Item, AllocEr
     Ok(Item::Wire { name, right })
 }
 
-/// A wire that reads a register but for the time in which another wire is 1.
+/// A wire that reads a register by way of its asynchronous set or reset.
 fn wire_choose_of(alloc: Global, values: &[Found<'_>]) -> Result<Item, AllocError>
     requires { AreNamed (values_of (all_found values.now)) }
     ensures { IfOk result (λ item. item ≡ item_of Form.WireChoose (values_of (all_found values.now))) }
@@ -150,7 +153,7 @@ fn wire_choose_of(alloc: Global, values: &[Found<'_>]) -> Result<Item, AllocErro
     Ok(Item::Wire { name, right })
 }
 
-/// The value of an output.
+/// The assignment of an output.
 fn assign_of(alloc: Global, values: &[Found<'_>]) -> Result<Item, AllocError>
     requires { AreNamed (values_of (all_found values.now)) }
     ensures { IfOk result (λ item. item ≡ item_of Form.Assign (values_of (all_found values.now))) }
@@ -160,7 +163,7 @@ fn assign_of(alloc: Global, values: &[Found<'_>]) -> Result<Item, AllocError>
     Ok(Item::Assign { name, value })
 }
 
-/// A table, whose word has a place.
+/// A LUT, whose word is the value at an index; its atoms follow.
 fn lut_at(alloc: Global, values: &[Found<'_>], place: usize) -> Result<Lut, AllocError>
     requires named { AreNamed (values_of (all_found values.now)) }
     requires small { place < 2 ^ 32 }
@@ -173,7 +176,7 @@ fn lut_at(alloc: Global, values: &[Found<'_>], place: usize) -> Result<Lut, Allo
     })
 }
 
-/// A flip-flop.
+/// A flip-flop with synchronous set or reset.
 fn flip_of(alloc: Global, values: &[Found<'_>]) -> Result<Item, AllocError>
     requires { AreNamed (values_of (all_found values.now)) }
     ensures { IfOk result (λ item. item ≡ item_of Form.Flip (values_of (all_found values.now))) }
@@ -194,7 +197,7 @@ fn flip_of(alloc: Global, values: &[Found<'_>]) -> Result<Item, AllocError>
     })
 }
 
-/// A flip-flop that a wire sets at once.
+/// A flip-flop with asynchronous set or reset.
 fn flip_at_once_of(alloc: Global, values: &[Found<'_>]) -> Result<Item, AllocError>
     requires { AreNamed (values_of (all_found values.now)) }
     ensures { IfOk result (λ item. item ≡ item_of Form.FlipAtOnce (values_of (all_found values.now))) }
@@ -215,7 +218,7 @@ fn flip_at_once_of(alloc: Global, values: &[Found<'_>]) -> Result<Item, AllocErr
     })
 }
 
-/// A flip-flop without a clock, which a wire sets at once.
+/// A register that has only an asynchronous set or reset, and no clock.
 fn set_at_once_of(alloc: Global, values: &[Found<'_>]) -> Result<Item, AllocError>
     requires { AreNamed (values_of (all_found values.now)) }
     ensures { IfOk result (λ item. item ≡ item_of Form.SetAtOnce (values_of (all_found values.now))) }
@@ -229,7 +232,7 @@ fn set_at_once_of(alloc: Global, values: &[Found<'_>]) -> Result<Item, AllocErro
     })
 }
 
-/// A read of a memory.
+/// A read of a memory, 16 bits wide.
 fn read_of(alloc: Global, values: &[Found<'_>]) -> Result<Item, AllocError>
     requires { AreNamed (values_of (all_found values.now)) }
     ensures { IfOk result (λ item. item ≡ item_of Form.Read (values_of (all_found values.now))) }
@@ -251,7 +254,7 @@ fn read_of(alloc: Global, values: &[Found<'_>]) -> Result<Item, AllocError>
     })
 }
 
-/// A narrow read of a memory.
+/// A read of a memory, 8, 4 or 2 bits wide.
 fn read_narrow_of(alloc: Global, values: &[Found<'_>]) -> Result<Item, AllocError>
     requires { AreNamed (values_of (all_found values.now)) }
     ensures { IfOk result (λ item. item ≡ item_of Form.ReadNarrow (values_of (all_found values.now))) }
@@ -276,7 +279,7 @@ fn read_narrow_of(alloc: Global, values: &[Found<'_>]) -> Result<Item, AllocErro
     })
 }
 
-/// A write of a memory.
+/// A write to a memory, 16 bits wide.
 fn write_of(alloc: Global, values: &[Found<'_>]) -> Result<Item, AllocError>
     requires { AreNamed (values_of (all_found values.now)) }
     ensures { IfOk result (λ item. item ≡ item_of Form.Write (values_of (all_found values.now))) }
@@ -300,7 +303,7 @@ fn write_of(alloc: Global, values: &[Found<'_>]) -> Result<Item, AllocError>
     })
 }
 
-/// A narrow write of a memory.
+/// A write to a memory, 8, 4 or 2 bits wide.
 fn write_narrow_of(alloc: Global, values: &[Found<'_>]) -> Result<Item, AllocError>
     requires { AreNamed (values_of (all_found values.now)) }
     ensures { IfOk result (λ item. item ≡ item_of Form.WriteNarrow (values_of (all_found values.now))) }
@@ -325,7 +328,7 @@ fn write_narrow_of(alloc: Global, values: &[Found<'_>]) -> Result<Item, AllocErr
     })
 }
 
-/// A start word.
+/// The start value of a word of a memory.
 fn start_of(alloc: Global, values: &[Found<'_>]) -> Result<Item, AllocError>
     requires { AreNamed (values_of (all_found values.now)) }
     ensures { IfOk result (λ item. item ≡ item_of Form.Start (values_of (all_found values.now))) }

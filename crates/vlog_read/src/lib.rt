@@ -1,7 +1,7 @@
-//! Readings of a text of the Verilog subset, form by form.
+//! Reads items of the Verilog subset, form by form.
 //!
-//! A reading begins at an offset of the text. It gives the offset behind what it read, or the offset of the token that can't go
-//! on. The values of a form are kept with the offsets of their first tokens, and [`item_of`] makes the item of a form and values.
+//! A reading begins at an offset of the text. It returns the offset after what it read, or the offset of the token that doesn't fit. The
+//! values of a form are kept with the offsets of their first tokens, and [`item_of`] makes the item of a form and its values.
 #![tactic(auto)]
 
 mod atom;

@@ -17,7 +17,11 @@ use crate::token::{expect_token, is_fixed};
 use vlog_forms::{Role, Slot, Value};
 use vlog_tokens::{Fixed, Token, next_token};
 
-/// Reads slots one after another.
+/// Reads slots one after another, and adds their values to `values`.
+///
+/// # Errors
+/// [`Stop::Stuck`] with the offset of the first token that doesn't fit its slot, or the length of the text if that ends before the slots
+/// do. [`Stop::Memory`] if memory is out.
 pub fn read_slots<'a>(
     bytes: &'a [u8],
     from: usize,
@@ -37,7 +41,7 @@ pub fn read_slots<'a>(
     }
 }
 
-/// Reads a slot.
+/// Reads a slot, and adds its value if it has one.
 fn read_slot<'a>(
     bytes: &'a [u8],
     from: usize,
@@ -77,7 +81,7 @@ fn read_slot<'a>(
     }
 }
 
-/// A reading that keeps no value, as one that may.
+/// The answer of a reading that keeps no value, with the error type of one that does.
 fn stop_at(reading: Result<usize, usize>) -> Result<usize, Stop>
     ensures { MatchResult reading (λ end. result ≡ Ok end) (λ stuck. result ≡ Err (Stop.Stuck stuck)) }
 {
@@ -87,7 +91,7 @@ fn stop_at(reading: Result<usize, usize>) -> Result<usize, Stop>
     }
 }
 
-/// Reads a token that is a value.
+/// Reads a token that is a value, and adds it.
 fn read_single<'a>(
     bytes: &'a [u8],
     from: usize,
@@ -110,7 +114,7 @@ fn read_single<'a>(
     }
 }
 
-/// The value that a token is in a slot.
+/// The value that a token is in a slot, if it fits.
 fn single<'a>(slot: Slot, token: Token<'a>) -> Option<Value<'a>>
     ensures { option_map seen result ≡ single slot (tokens.seen token.entry) }
 {
@@ -130,7 +134,7 @@ fn single<'a>(slot: Slot, token: Token<'a>) -> Option<Value<'a>>
     }
 }
 
-/// The name that a token is.
+/// The name that a token is, if it is one.
 fn single_name<'a>(role: Role, token: Token<'a>) -> Option<Value<'a>>
     ensures { option_map seen result ≡ single (Slot.Name role) (tokens.seen token.entry) }
 {
@@ -144,7 +148,7 @@ fn single_name<'a>(role: Role, token: Token<'a>) -> Option<Value<'a>>
     }
 }
 
-/// The edge that a token is.
+/// The edge that a token is, if it is one.
 fn single_edge<'a>(token: Token<'a>) -> Option<Value<'a>>
     ensures { option_map seen result ≡ edge_of (tokens.seen token.entry) }
 {
@@ -157,7 +161,7 @@ fn single_edge<'a>(token: Token<'a>) -> Option<Value<'a>>
     }
 }
 
-/// The bit that a token is.
+/// The bit that a token is, if it is one.
 fn single_bit<'a>(token: Token<'a>) -> Option<Value<'a>>
     ensures { option_map seen result ≡ single Slot.Bit (tokens.seen token.entry) }
 {
@@ -171,7 +175,7 @@ fn single_bit<'a>(token: Token<'a>) -> Option<Value<'a>>
     }
 }
 
-/// The word that a token is.
+/// The word that a token is, if it is one.
 fn single_word<'a>(token: Token<'a>) -> Option<Value<'a>>
     ensures { option_map seen result ≡ single Slot.Word (tokens.seen token.entry) }
 {
@@ -185,7 +189,7 @@ fn single_word<'a>(token: Token<'a>) -> Option<Value<'a>>
     }
 }
 
-/// The number up to a limit that a token is.
+/// The number that a token is, if it is one up to this limit.
 fn single_index<'a>(limit: u8, token: Token<'a>) -> Option<Value<'a>>
     ensures { option_map seen result ≡ single (Slot.Index limit) (tokens.seen token.entry) }
 {
@@ -205,7 +209,7 @@ fn single_index<'a>(limit: u8, token: Token<'a>) -> Option<Value<'a>>
     }
 }
 
-/// Reads the tokens of the value of a place once more.
+/// Reads the tokens of the value at an index again.
 fn read_again(bytes: &[u8], from: usize, values: &[Found<'_>], place: usize) -> Result<usize, usize>
     requires { from ≤ length bytes.now }
     ensures reads { ReadsTokens (read_tokens (length bytes.now) (tokens_at (values_of (all_found values.now)) place) (spots_at bytes.now from)) bytes.now result }
@@ -236,7 +240,7 @@ fn read_value(bytes: &[u8], from: usize, given: Value<'_>) -> Result<usize, usiz
     }
 }
 
-/// Reads the word of an edge.
+/// Reads the reserved word of an edge.
 fn expect_edge(bytes: &[u8], from: usize, falling: bool) -> Result<usize, usize>
     requires { from ≤ length bytes.now }
     ensures reads { ReadsTokens (read_tokens (length bytes.now) (value.fixed (edge_sign falling) ∷ []) (spots_at bytes.now from)) bytes.now result }
@@ -268,7 +272,7 @@ fn expect_part(bytes: &[u8], from: usize, name: &[u8], k: u8) -> Result<usize, u
     }
 }
 
-/// Reads so many atoms in braces.
+/// Reads this many atoms in braces, and adds them.
 fn read_atoms<'a>(
     bytes: &'a [u8],
     from: usize,
@@ -291,7 +295,7 @@ fn read_atoms<'a>(
     }
 }
 
-/// Reads an atom and so many further ones, up to the closing brace.
+/// Reads an atom and this many further ones, up to the closing brace, and adds them.
 fn read_next_atom<'a>(
     bytes: &'a [u8],
     from: usize,
@@ -317,7 +321,7 @@ fn read_next_atom<'a>(
     }
 }
 
-/// Reads the atoms of as many places from the first one on once more, in braces.
+/// Reads the atoms at the indexes from the first one on, as many as `count`, again in braces.
 fn read_atoms_again(
     bytes: &[u8],
     from: usize,
@@ -342,7 +346,7 @@ fn read_atoms_again(
     }
 }
 
-/// Reads the atom of a place once more and those of so many further places, up to the closing brace.
+/// Reads the atom at an index and those at this many further indexes again, up to the closing brace.
 fn read_next_again(
     bytes: &[u8],
     from: usize,

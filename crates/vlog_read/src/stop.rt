@@ -1,12 +1,12 @@
-// Why a reading doesn't go on.
+// Why a reading stops.
 
 use std::alloc::AllocError;
 
-/// Why a form isn't read to its end.
+/// Why a form doesn't fit.
 #[derive(Clone, Copy, Debug)]
 pub enum Stop {
-    /// The token at this offset can't go on, or the text ends there.
+    /// The token at this offset doesn't fit, or the text ends there.
     Stuck(usize),
-    /// There is no memory for a value.
+    /// Out of memory.
     Memory(AllocError),
 }

@@ -1,4 +1,4 @@
-// Tokens that have to stand at a place.
+// Tokens that have to come next.
 ghost use Rattle.std.specs.Prelude.{◌≡◌, ◌≤◌, [], ◌∷◌, length, IfOk};
 ghost use Rattle.vlog_tokens.specs.Tokens.{seen, spots_at};
 ghost use Rattle.vlog_tokens.specs.Tokens.{TokenValue as value};
@@ -8,7 +8,10 @@ ghost use Rattle.vlog_read.specs.Readings.{ReadsTokens};
 
 use vlog_tokens::{Fixed, Token, next_token};
 
-/// The offset behind a token that has to come next, or the offset at which another one stands.
+/// The offset after a token that has to come next.
+///
+/// # Errors
+/// The offset of the next token if it is another one, or the length of the text if there is none.
 pub fn expect_token(bytes: &[u8], from: usize, wanted: Token<'_>) -> Result<usize, usize>
     requires { from ≤ length bytes.now }
     ensures reads { ReadsTokens (read_tokens (length bytes.now) (seen wanted.entry ∷ []) (spots_at bytes.now from)) bytes.now result }
@@ -26,7 +29,7 @@ pub fn expect_token(bytes: &[u8], from: usize, wanted: Token<'_>) -> Result<usiz
     }
 }
 
-/// Whether two tokens have the same value; a stray byte is like no token.
+/// Whether two tokens have the same value; a stray byte equals no token.
 fn is_same_token(one: Token<'_>, other: Token<'_>) -> bool
     ensures { result ≡ is_same_token (seen one.entry) (seen other.entry) }
 {

@@ -1,4 +1,4 @@
-// Values of places.
+// Values by their indexes.
 ghost use Rattle.std.specs.Prelude.{◌≡◌, ◌+◌, ◌<◌, ◌^◌, List, [], ◌∷◌, reverse, IfOk, MatchOption};
 ghost use Rattle.vlog_module.specs.Names.{IsName};
 ghost use Rattle.vlog_forms.specs.Items.{atom_in, atoms_in, behind, bit_in, edge_in, index_in, name_in, word_in};
@@ -12,7 +12,7 @@ use std::alloc::{AllocError, Global};
 use vlog_forms::Value;
 use vlog_module::{Atom, Atoms, Name};
 
-/// The atoms of so many places from one on, the last one first.
+/// The atoms at this many indexes from one on, the last one first.
 pub(crate) fn atoms_at(
     alloc: Global,
     values: &[Found<'_>],
@@ -32,7 +32,7 @@ pub(crate) fn atoms_at(
     Ok(atoms)
 }
 
-/// The value of a place, where there is one.
+/// The value at an index, if there is one.
 fn value_at<'a>(values: &[Found<'a>], place: usize) -> Option<Value<'a>>
     ensures { MatchOption result (behind place (values_of (all_found values.now)) ≡ [])
         (λ value. (rest : List Meant) × (behind place (values_of (all_found values.now)) ≡ seen value ∷ rest)) }
@@ -44,7 +44,7 @@ fn value_at<'a>(values: &[Found<'a>], place: usize) -> Option<Value<'a>>
     }
 }
 
-/// The atom of a place; `1'b0` where no atom stands there.
+/// The atom at an index; `1'b0` if no atom is there.
 pub(crate) fn atom_at(alloc: Global, values: &[Found<'_>], place: usize) -> Result<Atom, AllocError>
     requires { AreNamed (values_of (all_found values.now)) }
     ensures { IfOk result (λ atom. atom ≡ atom_in (behind place (values_of (all_found values.now)))) }
@@ -55,7 +55,7 @@ pub(crate) fn atom_at(alloc: Global, values: &[Found<'_>], place: usize) -> Resu
     }
 }
 
-/// The atom that a value is; `1'b0` where it is none.
+/// The atom that a value is; `1'b0` if it is none.
 fn atom_of(alloc: Global, value: Value<'_>) -> Result<Atom, AllocError>
     requires { IsNamed (seen value) }
     ensures { IfOk result (λ atom. (rest : List Meant) → atom ≡ atom_in (seen value.entry ∷ rest)) }
@@ -75,7 +75,10 @@ fn atom_of(alloc: Global, value: Value<'_>) -> Result<Atom, AllocError>
     }
 }
 
-/// The name of a place; `x` where none stands there.
+/// The name at an index; `x` if no name is there.
+///
+/// # Errors
+/// `AllocError` if memory is out, and for no other cause.
 pub fn name_at(alloc: Global, values: &[Found<'_>], place: usize) -> Result<Name, AllocError>
     requires { AreNamed (values_of (all_found values.now)) }
     ensures { IfOk result (λ name. name ≡ name_in (behind place (values_of (all_found values.now)))) }
@@ -83,7 +86,7 @@ pub fn name_at(alloc: Global, values: &[Found<'_>], place: usize) -> Result<Name
     Name::new(alloc, text_at(values, place))
 }
 
-/// The text of the name of a place; `x` where none stands there.
+/// The text of the name at an index; `x` if no name is there.
 pub fn text_at<'a>(values: &[Found<'a>], place: usize) -> &'a [u8]
     ensures text { result.now ≡ name_in (behind place (values_of (all_found values.now))) }
     ensures named { AreNamed (values_of (all_found values.now)) → IsName result.now }
@@ -94,7 +97,7 @@ pub fn text_at<'a>(values: &[Found<'a>], place: usize) -> &'a [u8]
     }
 }
 
-/// The text of the name that a value is; `x` where it is none.
+/// The text of the name that a value is; `x` if it is none.
 #[tactic(auto, unfolding(vlog_module::specs::Names::is_name, vlog_module::specs::Names::reserved_words))]
 fn text_of<'a>(value: Value<'a>) -> &'a [u8]
     ensures text { (rest : List Meant) → result.now ≡ name_in (seen value.entry ∷ rest) }
@@ -112,7 +115,7 @@ fn text_of<'a>(value: Value<'a>) -> &'a [u8]
     }
 }
 
-/// The edge of a place; `posedge` where none stands there.
+/// Whether the edge at an index is `negedge`; `posedge` if no edge is there.
 pub(crate) fn edge_at(values: &[Found<'_>], place: usize) -> bool
     ensures { result ≡ edge_in (behind place (values_of (all_found values.now))) }
 {
@@ -122,7 +125,7 @@ pub(crate) fn edge_at(values: &[Found<'_>], place: usize) -> bool
     }
 }
 
-/// The edge that a value is; `posedge` where it is none.
+/// Whether the edge that a value is is `negedge`; `posedge` if it is none.
 fn edge_of(value: Value<'_>) -> bool
     ensures { (rest : List Meant) → result ≡ edge_in (seen value.entry ∷ rest) }
 {
@@ -138,7 +141,7 @@ fn edge_of(value: Value<'_>) -> bool
     }
 }
 
-/// The bit of a place; 0 where none stands there.
+/// The bit at an index; 0 if no bit is there.
 pub fn bit_at(values: &[Found<'_>], place: usize) -> bool
     ensures { result ≡ bit_in (behind place (values_of (all_found values.now))) }
 {
@@ -148,7 +151,7 @@ pub fn bit_at(values: &[Found<'_>], place: usize) -> bool
     }
 }
 
-/// The bit that a value is; 0 where it is none.
+/// The bit that a value is; 0 if it is none.
 fn bit_of(value: Value<'_>) -> bool
     ensures { (rest : List Meant) → result ≡ bit_in (seen value.entry ∷ rest) }
 {
@@ -164,7 +167,7 @@ fn bit_of(value: Value<'_>) -> bool
     }
 }
 
-/// The word of a place; 0 where none stands there.
+/// The word at an index; 0 if no word is there.
 pub(crate) fn word_at(values: &[Found<'_>], place: usize) -> u16
     ensures { result ≡ word_in (behind place (values_of (all_found values.now))) }
 {
@@ -174,7 +177,7 @@ pub(crate) fn word_at(values: &[Found<'_>], place: usize) -> u16
     }
 }
 
-/// The word that a value is; 0 where it is none.
+/// The word that a value is; 0 if it is none.
 fn word_of(value: Value<'_>) -> u16
     ensures { (rest : List Meant) → result ≡ word_in (seen value.entry ∷ rest) }
 {
@@ -190,7 +193,7 @@ fn word_of(value: Value<'_>) -> u16
     }
 }
 
-/// The index of a place; 0 where none stands there.
+/// The index that the value at an index is; 0 if it is none.
 pub fn index_at(values: &[Found<'_>], place: usize) -> u8
     ensures { result ≡ index_in (behind place (values_of (all_found values.now))) }
 {
@@ -200,7 +203,7 @@ pub fn index_at(values: &[Found<'_>], place: usize) -> u8
     }
 }
 
-/// The index that a value is; 0 where it is none.
+/// The index that a value is; 0 if it is none.
 fn index_of(value: Value<'_>) -> u8
     ensures { (rest : List Meant) → result ≡ index_in (seen value.entry ∷ rest) }
 {

@@ -40,7 +40,7 @@ sum-lt f (x ∷ xs) (y ∷ ys) (suc k) size le within lt =
       sum-lt f xs ys k (omega (arith, size)) (λ k d below. le (suc k) d (omega (arith, below))) (omega (arith, within)) lt,
     )
 
--- a list has no more events left after a call, and fewer where its lane had one
+-- a list has no more events left after a call than before, and fewer if its lane had one
 pub left-le : (b : Bool) (width : ℕ) (strand : Strand) → left_of (cond b (stepped width strand) strand) ≤ left_of strand
 left-le true width strand = omega arith
 left-le false width strand = omega arith

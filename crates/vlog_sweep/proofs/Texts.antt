@@ -35,7 +35,7 @@ part-at : {A : Type 0} (f : A → List ℕ) (xs : List A) (k : ℕ) (x : A) → 
     → flat_map f xs ≡ flat_map f (take k xs) ++ (f x ++ flat_map f (drop (suc k) xs))
 part-at f xs k x within is = ap (flat_map f) (sym (set-get_or xs k x) ∙ ap (set xs k) (sym is)) ∙ part-set f xs k x within
 
--- places stay where a part keeps its length
+-- offsets stay if a part keeps its length
 same-length : {A : Type 0} (f : A → List ℕ) (xs : List A) (k j : ℕ) (x d : A) → k < length xs → length (f x) ≡ length (f (get_or xs k d))
     → length (flat_map f (take j (set xs k x))) ≡ length (flat_map f (take j xs))
 same-length f [] k j x d within same = absurd (omega (arith, within))

@@ -1,4 +1,4 @@
--- Lists on their way through a run, each in its lane, and the text with a place for each of their lines.
+-- Lists of events that are being run, each in its lane (strands), and the text with room for each of their lines.
 use Rattle.std.specs.Prelude.{◌≡◌, ℕ, ◌+◌, ◌-◌, ◌<◌, ◌≤◌, Bool, false, ◌==◌, List, [], ◌∷◌, ◌++◌, Option, None, Some, drop, flat_map, fold, get_or, length, map, slice_get, take}
 use Rattle.vlog_module.specs.Parts.{Parts}
 use Rattle.vlog_plan.specs.declared.event.Event.{Event}
@@ -11,7 +11,7 @@ use Rattle.vlog_sweep.specs.declared.strand.Strand.{Strand}
 
 -- ---- events
 
--- the events of a list that its lane has had, and those that are left
+-- the events of a list that its lane has had
 abbrev pub had : Strand → List Event
 had strand = take strand.taken strand.list.now.events.items
 
@@ -21,11 +21,11 @@ rest strand = drop strand.taken strand.list.now.events.items
 abbrev pub left_of : Strand → ℕ
 left_of strand = length strand.list.now.events.items - strand.taken
 
--- the event that a list has next, if any is left
+-- the next event of a list, if any is left
 abbrev pub next_of : Strand → Option Event
 next_of strand = slice_get strand.list.now.events.items strand.taken
 
--- whether an event is one of this input
+-- whether an event is on this input
 abbrev pub is_on : ℕ → Option Event → Bool
 is_on pin (Some event) = event.pin == pin
 is_on pin None = false
@@ -34,11 +34,11 @@ abbrev pub has_bit : Option Event → Bool
 has_bit (Some event) = event.bit
 has_bit None = false
 
--- a list whose lane had an event, and whose line of so many bytes is written
+-- a list after its lane had an event, and after a line of `width` bytes is written for it
 abbrev pub stepped : ℕ → Strand → Strand
 stepped width strand = record { list = strand.list; taken = strand.taken + 1; at = strand.at + width }
 
--- the entry of a lane, and the one after its next event
+-- the entry of a lane after the events that it has had
 abbrev pub entry_of : Parts → Strand → Entry
 entry_of m strand = fold (followed m) (start m) (had strand)
 
@@ -47,25 +47,25 @@ next_entry m strand = fold (followed m) (start m) (take (strand.taken + 1) stran
 
 -- ---- lines
 
--- the outputs of a lane
+-- the line of a lane's outputs
 abbrev pub line_of : List ℕ → ℕ → List ℕ
 line_of outputs lane = map bit_digit (lane_of lane outputs) ++ 10 ∷ []
 
--- a text with a line at a place, in place of what stood there
+-- a text with a line written over the bytes at an offset
 abbrev pub line_put : List ℕ → ℕ → List ℕ → List ℕ
 line_put text at line = take at text ++ (line ++ drop (at + length line) text)
 
 -- ---- the text
 
--- the heading of a list and its lines so far
+-- the heading of a list and the lines that are written so far
 abbrev pub written : Parts → Strand → List ℕ
 written m strand = strand.list.now.heading.items ++ flat_map (entry_line false) (run_from m (start m) (had strand))
 
--- the part of a list: what is written, and a line for each event that is left
+-- the part of a list in the text: what is written, and room for the line of each event that is left
 abbrev pub part : Parts → List ℕ → Strand → List ℕ
 part m line strand = written m strand ++ flat_map (λ event. line) (rest strand)
 
--- the text is the parts of the lists, and each list knows where its next line stands
+-- the text is the parts of the lists, one after another, and each list has the offset of its next line
 pub record Stands (m : Parts) (line : List ℕ) (strands : List Strand) (text : List ℕ) : Type 0 where
   pub parts : text ≡ flat_map (part m line) strands
   pub places : (k : ℕ) (d : Strand) → k < length strands → (get_or strands k d).at ≡ length (flat_map (part m line) (take k strands)) + length (written m (get_or strands k d))
@@ -73,6 +73,6 @@ pub record Stands (m : Parts) (line : List ℕ) (strands : List Strand) (text : 
 
 -- ---- before the first event
 
--- a list with this line in place of each of its lines
+-- the text of a list before the first event: the line of the start in place of each of its lines
 abbrev pub begun_text : List ℕ → EventList → List ℕ
 begun_text line list = list.heading.items ++ (line ++ flat_map (λ event. line) list.events.items)

@@ -1,4 +1,4 @@
--- What lists of events give.
+-- The text of lists of events.
 use Rattle.std.specs.Prelude.{ℕ, false, List, ◌++◌}
 use Rattle.vlog_module.specs.Parts.{Parts}
 use Rattle.vlog_cycle.specs.Text.{run_text}

@@ -1,4 +1,4 @@
-// The text before the first event: each list has its heading, and in place of each of its lines that of the start.
+// The text before the first event. Each list has its heading, and the line of the start in place of each of its lines.
 ghost use Rattle.std.specs.Prelude.{◌≡◌, ◌+◌, ◌++◌, [], All, IfOk, OnOk, false, flat_map, length, map};
 ghost use Rattle.vlog_cycle.specs.Text.{entry_line};
 ghost use Rattle.vlog_module.specs.Parts.{Parts};
@@ -10,13 +10,13 @@ use crate::strand::Strand;
 use std::alloc::{AllocError, Global};
 use vlog_plan::Event;
 
-/// How many bytes a list has, with lines of so many bytes: none where no memory has so many.
+/// How many bytes the part of a list has, if each line has `width` bytes. None if the number doesn't fit.
 fn list_size(list: &EventList, width: usize) -> Option<usize> {
     let lines = list.events.len().checked_add(1)?;
     lines.checked_mul(width)?.checked_add(list.heading.len())
 }
 
-/// How many bytes all lists have.
+/// How many bytes the parts of all lists have. None if the number doesn't fit.
 fn whole_size(lists: &[EventList], width: usize) -> Option<usize> {
     let mut size: usize = 0;
     for list in lists {
@@ -25,7 +25,7 @@ fn whole_size(lists: &[EventList], width: usize) -> Option<usize> {
     Some(size)
 }
 
-/// No text yet, with room for that of all lists.
+/// An empty text, with room for the parts of all lists.
 fn room_for(alloc: Global, lists: &[EventList], width: usize) -> Result<Vec<u8>, AllocError>
     ensures { IfOk result (λ text. text.items ≡ []) }
 {
@@ -63,7 +63,7 @@ fn add_list<'a>(
     Ok(Strand { list, taken: 0, at })
 }
 
-/// The lists in their lanes before the first event, and their text, in which all lines are that of the start.
+/// The lists in their lanes before the first event, and their text, in which each line is the line of the start.
 pub(crate) fn begin<'a>(
     alloc: Global,
     lists: &'a [EventList],

@@ -1,4 +1,4 @@
-// Which lists take an event together.
+// Which lists take their next event together.
 ghost use Rattle.std.specs.Prelude.{◌≡◌, ◌<◌, ◌≤◌, ℕ, None, Some, get_or, length, map, true};
 ghost use Rattle.vlog_plan.specs.Values.{number_of};
 ghost use Rattle.vlog_sweep.specs.Strands.{has_bit, is_on, left_of, next_of};
@@ -8,8 +8,8 @@ use crate::strand::{Strand, left, next_event, next_input};
 use vlog_lanes::Call;
 use vlog_plan::Event;
 
-/// The input of the next event of a list that has most events left, so that lists with the same inputs go in step: none where no
-/// list has any event left.
+/// The input of the next event of a list that has most events left, so that lists with the same inputs go in step. None if no list has an
+/// event left.
 pub(crate) fn next_pin(strands: &[Strand<'_>]) -> Option<usize>
     ensures none { result ≡ None → (k : ℕ) (d : strand_of) → k < length strands.now → left_of (get_or strands.now k d) ≡ 0 }
     ensures some { (pin : ℕ) → result ≡ Some pin → (k : ℕ) × (k < length strands.now) × ((d : strand_of) → is_on pin (next_of (get_or strands.now k d)) ≡ true) }
@@ -25,7 +25,7 @@ pub(crate) fn next_pin(strands: &[Strand<'_>]) -> Option<usize>
     pin
 }
 
-/// Whether an event is one of this input.
+/// Whether an event is on this input.
 fn is_on(pin: usize, event: Option<Event>) -> bool
     ensures { result ≡ is_on pin event }
 {
@@ -35,7 +35,7 @@ fn is_on(pin: usize, event: Option<Event>) -> bool
     }
 }
 
-/// The bit of an event.
+/// The bit of an event; 0 if there is none.
 fn has_bit(event: Option<Event>) -> bool
     ensures { result ≡ has_bit event }
 {
@@ -45,7 +45,7 @@ fn has_bit(event: Option<Event>) -> bool
     }
 }
 
-/// The lanes whose next event is one of this input, and the bits of those events.
+/// A call for the lanes whose next event is on this input, with the bits of those events.
 pub(crate) fn call_on(strands: &[Strand<'_>], pin: usize) -> Call
     requires { length strands.now ≤ 64 }
     ensures pin { result.pin ≡ pin }

@@ -1,4 +1,4 @@
-//! Runs a module of the Verilog subset over up to sixty-four lists of events at once, a list in each lane.
+//! Runs a module of the Verilog subset over up to sixty-four lists of events at once, each in a bit-parallel lane.
 #![tactic(auto)]
 
 mod beginning;

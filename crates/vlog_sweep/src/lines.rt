@@ -1,4 +1,4 @@
-// Lines of outputs, in their places.
+// Lines of outputs, each at its offset in the text.
 ghost use Rattle.std.specs.Prelude.{◌≡◌, ◌<◌, ◌≤◌, ◌+◌, ◌++◌, length, IfOk};
 ghost use Rattle.vlog_cycle.specs.Text.{bit_digit};
 ghost use Rattle.vlog_plan.specs.Values.{bit_of};
@@ -34,7 +34,7 @@ fn fill_line(line: &mut [u8], outputs: &[u64], lane: u32)
     line[outputs.len()] = b'\n';
 }
 
-/// Writes the outputs of a lane over the line at a place.
+/// Writes the outputs of a lane over the line at an offset.
 pub(crate) fn write_line(text: &mut [u8], at: usize, outputs: &[u64], lane: u32)
     requires within { lane < 64 }
     requires room { at + (length outputs.now + 1) ≤ length text.old }

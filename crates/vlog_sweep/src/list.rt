@@ -2,7 +2,7 @@
 
 use vlog_plan::Event;
 
-/// A list of events, and the bytes that stand before the lines of its run.
+/// A list of events, and the heading: the bytes that come before the lines of its run.
 #[derive(Drop)]
 pub struct EventList {
     pub heading: Vec<u8>,

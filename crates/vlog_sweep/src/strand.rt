@@ -1,4 +1,4 @@
-// How far a list has come.
+// How far a list is run.
 ghost use Rattle.std.specs.Prelude.{◌≡◌};
 ghost use Rattle.std.specs.Option.{option_map};
 ghost use Rattle.vlog_sweep.specs.Strands.{left_of, next_of};
@@ -12,18 +12,18 @@ pub(crate) struct Strand<'a> {
     pub(crate) list: &'a EventList,
     /// How many events the lane has had.
     pub(crate) taken: usize,
-    /// Where its next line stands in the text.
+    /// The offset of its next line in the text.
     pub(crate) at: usize,
 }
 
-/// The event that a list has next, if any is left.
+/// The next event of a list, if any is left.
 pub(crate) fn next_event(strand: &Strand<'_>) -> Option<Event>
     ensures { result ≡ next_of strand.now }
 {
     strand.list.events.get(strand.taken).copied()
 }
 
-/// The input of that event.
+/// The input of the next event, if any is left.
 pub(crate) fn next_input(strand: &Strand<'_>) -> Option<usize>
     ensures { result ≡ option_map (λ event. event.pin) (next_of strand.now) }
 {

@@ -12,10 +12,24 @@ use std::alloc::{AllocError, Global};
 use vlog_lanes::Lanes;
 use vlog_module::Module;
 
-/// The text of a module's run over each of up to sixty-four lists of events, one behind the other, each behind its heading. A run has one
-/// line after the start and one after each event; a line has the bits of the outputs in the order of the ports.
+/// Runs a module over up to sixty-four lists of events, and returns the texts of the runs one after another, each after its heading. A run
+/// has one line after the start and one after each event; a line has the bits of the outputs in the order of the ports.
 ///
-/// The lists run side by side, each in a lane. All memory is taken before the first event.
+/// The lists run side by side, each in a bit-parallel lane. All memory is taken before the first event.
+///
+/// # Errors
+/// `AllocError` if memory is out (which it is for a text whose length doesn't fit 64 bits), and for no other cause.
+///
+/// # Example
+/// ```ignore
+/// let mut lists = Vec::new(alloc);
+/// for (heading, events) in [(b"first\n", b"a 1\n"), (b"again\n", b"a 0\n")] {
+///     let heading = Vec::from_slice(alloc, heading)?;
+///     let events = read_events(alloc, &module, events)?;
+///     lists.push(EventList { heading, events })?;
+/// }
+/// let text = sweep(alloc, &module, &lists)?;
+/// ```
 pub fn sweep(alloc: Global, module: &Module, lists: &[EventList]) -> Result<Vec<u8>, AllocError>
     requires few { length lists.now ≤ 64 }
     requires inputs { All (λ list. All (λ event. event.pin < length (input_names «module».now.ports)) list.events.items) lists.now }

@@ -1,4 +1,4 @@
-// The lines after an event, in the lanes that had it.
+// Writes the lines of the lanes that had an event.
 ghost use Rattle.std.specs.Prelude.{◌≡◌, ◌<◌, ◌≤◌, ◌+◌, ℕ, List, false, get_or, length, true, if◌then◌else◌};
 ghost use Rattle.vlog_cycle.specs.Text.{entry_line};
 ghost use Rattle.vlog_module.specs.Parts.{Parts};
@@ -24,7 +24,7 @@ fn take_turn(text: &mut [u8], strand: &mut Strand<'_>, active: u64, outputs: &[u
     }
 }
 
-/// Writes the line of each lane that had an event; the others stay.
+/// Writes the line of each lane that had an event.
 pub(crate) fn take_turns(text: &mut [u8], strands: &mut [Strand<'_>], active: u64, outputs: &[u64])
     requires few { length strands.old ≤ 64 }
     requires left { (k : ℕ) (d : strand_of) → k < length strands.old → bit_of active k ≡ true

@@ -1,8 +1,8 @@
 //! Tests of the Verilog subset, from `vlog_tokens` and `vlog_module` to `vlog_text`, `vlog_cycle`, `vlog_lanes`, `vlog_sweep` and
 //! `vlog_waves`: each public call once, with values worked out by hand. There is no other code.
 //!
-//! They stand in a crate of their own, since a crate is proved a second time together with its tests. What texts, events, waves and
-//! sweeps say in whole runs stands in `check/transcripts`.
+//! They are in a crate of their own, since a crate is proved a second time together with its tests. What texts, events, waves and sweeps do
+//! in whole runs is in `check/transcripts`.
 #![tactic(auto)]
 
 #[cfg(test)]

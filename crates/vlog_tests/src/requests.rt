@@ -1,4 +1,4 @@
-// How often new lanes ask for memory: `check/lanes.py` counts the requests of the one test and of the other.
+// How often new lanes ask for memory: `check/lanes.py` counts the requests of both tests.
 
 use std::alloc::Global;
 use vlog_lanes::Lanes;
@@ -16,7 +16,7 @@ const INVERTER: &[u8] = b"module chip (io_0_1_0, io_0_2_0);
 endmodule
 ";
 
-/// Whether the module is read, and where lanes are asked for these are made of it.
+/// Whether the module is read, and, if `has_lanes`, whether lanes are made of it.
 fn is_done(alloc: Global, has_lanes: bool) -> bool {
     match parse(alloc, INVERTER) {
         Ok(module) => !has_lanes || Lanes::new(alloc, &module).is_ok(),

@@ -1,4 +1,4 @@
-// A memory, whose edges a runner and lanes take, and tests by subject.
+// A module with a memory, over which a runner and lanes run, and the tests by subject.
 
 mod lanes;
 mod runs;
@@ -7,7 +7,7 @@ mod texts;
 mod waves;
 mod words;
 
-/// At an edge of `c` word 5, which is 1234, is read, its upper byte becomes AB, and the register gets 1.
+/// At an edge of `c`, word 5, which is 1234, is read, its upper byte becomes AB, and the register becomes 1.
 const MEMORY: &[u8] = b"module m (c, q);
   input c;
   output q;

@@ -1,4 +1,4 @@
--- Names that are entered stand for the scope with what they declare, read and assign.
+-- Names that are added stand for the scope with what they declare, read and assign.
 use Rattle.std.proofs.Common.{◌≡◌, ℕ, Bool, true, false, ◌&&◌, ◌||◌, ◌==◌, List, [], ◌∷◌, ◌++◌, refl, ap, sym, ◌∙◌, append_assoc}
 use Rattle.std.proofs.lemmas.Bool.{eqb-true, and_parts}
 use Rattle.std.proofs.lemmas.Slice.Eq.{bytes_eq-Decides}
@@ -85,7 +85,7 @@ sort-with declared name other sort = sort_case (sort_in declared name) declared 
 
 -- ---- scopes
 
--- what stays where lists get nothing
+-- what stays if nothing is added to the lists
 kept_any : {K : Type 0} (test : K → Bool) (xs : List K) → list_any test (xs ++ []) ≡ list_any test xs
 kept_any test [] = refl
 kept_any test (x ∷ xs) = ap (λ b. test x || b) (kept_any test xs)
@@ -97,7 +97,7 @@ kept_sort : (declared : List (List ℕ × Sort)) (name : List ℕ) → sort_in (
 kept_sort [] name = refl
 kept_sort (entry ∷ declared) name = kept_case (bytes_eq entry.0 name) entry.1 (sort_in (declared ++ []) name) (sort_in declared name) (kept_sort declared name)
 
--- what wires read, where a use reads nothing
+-- what wires read, if a use reads nothing
 kept_reads : (wire : Bool) (used : Use) → read_by used ≡ [] → wire_reads wire (used ∷ []) ≡ []
 kept_reads true used none = ap (λ list. list ++ []) none
 kept_reads false used none = refl
@@ -180,7 +180,7 @@ holds-kept known scope wire uses a b d e holds = record {
   started = λ other k. holds.started other k ∙ sym (kept_any (λ (each : List ℕ × ℕ). bytes_eq each.0 other && (each.1 == k)) scope.started) ∙ ap (λ list. has_word (scope.started ++ list) other k) (sym e);
 }
 
--- a use that leaves nothing behind
+-- a use that adds nothing
 pub holds-use : (known : Known) (scope : Scope) (wire : Bool) (used : Use) → declared_by used ≡ [] → read_by used ≡ [] → assigned_by used ≡ [] → started_by used ≡ []
     → Holds known scope → Holds known (entered scope wire (used ∷ []))
 holds-use known scope wire used a b d e holds =

@@ -16,7 +16,7 @@ use Rattle.vlog_text.specs.declared.items.Step.{Step}
 use Rattle.vlog_text.specs.declared.items.Step.TheVariants as step
 use Rattle.vlog_text.specs.Steps.{IsAt, IsBehind, items_from}
 
--- ---- what is behind doesn't ask how many items there may be at most
+-- ---- what follows doesn't depend on how many items there may be at most
 
 item_case : (b : Bool) (most other end : ℕ) (m : Parts) (offset : ℕ) (whole : Whole) → is_end whole.form ≡ b
     → (b ≡ false → (next : Parts) → items_outcome most end next whole.spots ≡ items_outcome other end next whole.spots)
@@ -53,7 +53,7 @@ pub items-first : (bytes : List ℕ) (m : Parts) (from : ℕ)
 unfolding items_outcome
 items-first bytes m from = refl
 
--- and those behind it
+-- and those after it
 pub items-behind : (bytes : List ℕ) (m : Parts) (from end : ℕ) → length (spots_at bytes end) < length (spots_at bytes from)
     → items_outcome (length (spots_at bytes from)) (length bytes) m (spots_at bytes end) ≡ items_from bytes m end
 items-behind bytes m from end shorter =
@@ -64,7 +64,7 @@ items-behind bytes m from end shorter =
 pub refuses-same : {A : Type 0} (one other : Result A Fault) (refusal : Refusal) → one ≡ other → RefusesAt other refusal → RefusesAt one refusal
 refuses-same one other refusal is refuses = subst (λ (outcome : Result _ Fault). RefusesAt outcome refusal) (sym is) refuses
 
--- ---- a form that is whole
+-- ---- a form that fits
 
 pub form-stands : (bytes : List ℕ) (from : ℕ) (forms : List Form) (one : Whole) → forms ≡ all_forms → read_forms (length bytes) [] forms (spots_at bytes from) ≡ Ok one → WholeStands (spots_at bytes from) one
 form-stands bytes from forms one all is =

@@ -19,7 +19,7 @@ if_map : {A B : Type 0} (f : A → B) (b : Bool) (xs ys : List A) → map f (if 
 if_map f true xs ys = refl
 if_map f false xs ys = refl
 
--- keys with a new one, where none is the same
+-- keys with a new one, if none is equal to it
 pub names-with : {K : Type 0} (bytes : K → List ℕ) (keys after : List K) (key : K) (names : List (List ℕ)) (name : List ℕ)
     → after ≡ (if list_any (λ other. bytes_eq (bytes key) (bytes other)) keys then keys else keys ++ key ∷ [])
     → map bytes keys ≡ names → bytes key ≡ name → map bytes after ≡ with_name names name
@@ -33,7 +33,7 @@ names-with bytes keys after key names name is are named =
     ∙ ap (λ list. if has_name names name then list else map bytes (keys ++ key ∷ [])) are
     ∙ ap (λ list. if has_name names name then names else list) grown
 
--- the same of words
+-- whether a word of a memory is among others
 pub any-words : {K : Type 0} (word : K → List ℕ × ℕ) (test : K → Bool) (memory : List ℕ) (place : ℕ) (keys : List K)
     → ((key : K) → test key ≡ (bytes_eq (word key).0 memory && ((word key).1 == place))) → list_any test keys ≡ has_word (map word keys) memory place
 any-words word test memory place [] same = refl

@@ -1,4 +1,4 @@
--- The outcome of a text, behind its header.
+-- The outcome of a text, after its header.
 use Rattle.std.proofs.Common.{◌≡◌, ℕ, List, [], ◌∷◌, length, refl, ap, sym, ◌∙◌, subst}
 use Rattle.std.specs.Prelude.{Result, Ok, Err, Option, Some, None}
 use Rattle.std.specs.Option.{option_map}
@@ -51,7 +51,7 @@ head_case end spots (Err stuck) header sound is reads = absurd cc
 pub header-good : (text : List ℕ) (header : Header) → read_header (length text) (spots_of text) ≡ Ok header → AreGood header
 header-good text header reads = head_case (length text) (spots_of text) (read_slots (length text) header_slots [] (spots_of text)) header (spots-sound 0 0 text) refl reads
 
--- ---- what is behind a header
+-- ---- what follows a header
 
 pub header-stuck : (text : List ℕ) (why : Stop) → StopsAt (read_header (length text) (spots_of text)) why → RefusesAt (outcome_of text) (refusal_of why)
 unfolding outcome_of spots_outcome

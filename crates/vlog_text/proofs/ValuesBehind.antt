@@ -1,4 +1,4 @@
--- The names of values, by the first one and those behind it.
+-- The names of values: those of the first value, and those of the values after it.
 use Rattle.std.proofs.Common.{◌≡◌, ◌≤◌, ◌+◌, ◌-◌, ℕ, List, [], ◌∷◌, ◌++◌, length, take, drop, get_or, take_all, ap, sym, arith}
 use Rattle.vlog_forms.specs.Outcome.{value_uses, uses_from}
 use Rattle.vlog_forms.specs.Reading.{values_of}

@@ -89,7 +89,7 @@ joined_case true before after name other reset set now reading same put both =
 joined_case false before after name other reset set now reading same put both =
     ap (λ one. is_only_unless one reset set) put ∙ and_true (is_only_unless (value_in before other) reset set)
 
--- where what is put says of the name what was there and the new reading say together
+-- if the reading that is put says of the name what the earlier reading and the new one say together
 pub joined : (before after : List (List ℕ × Reading)) (name : List ℕ) (now reading : Reading)
     → ((other : List ℕ) → value_in after other ≡ (if bytes_eq name other then Some now else value_in before other))
     → ((reset : List ℕ) (set : Bool) → is_unless reset set now ≡ (is_only_unless (value_in before name) reset set && is_unless reset set reading))

@@ -1,4 +1,4 @@
--- What is said of a text by its outcome, and by the modules that it spells, is the same.
+-- A text's outcome says whether it spells a module, and which one.
 use Rattle.std.specs.Prelude.{◌≡◌, ◌↔◌, ℕ, List, Some, Ok, Err}
 use Rattle.vlog_module.specs.Parts.{Parts}
 use Rattle.vlog_forms.specs.Items.{IsSpelling}

@@ -1,4 +1,4 @@
--- What the code's reading of a header says of the definitions.
+-- What the code's answer says of the reading of a header as the definitions have it.
 use Rattle.std.specs.Prelude.{◌≡◌, ℕ, List, length, Option, Some, None, Result, Ok, Err}
 use Rattle.vlog_tokens.specs.Tokens.{spots_at}
 use Rattle.vlog_forms.specs.Reading.{Found, Reading}
@@ -21,7 +21,7 @@ seen_step Parts = step.PartsNames
 seen_step Closes = step.Closes
 seen_step Stops = step.Stops
 
--- the names are read up to `)`, or the reading is that of the tokens behind one
+-- the names are read up to `)`; or one more token is read, and the answer is that of the tokens after it
 abbrev pub ReadsNames : Reading (List Found) → List ℕ → List Found → Option Turn → ℕ → Type 0
 ReadsNames reading bytes found None end = reading ≡ Ok (found, spots_at bytes end)
 ReadsNames reading bytes found (Some next) end = reading ≡ port_names (length bytes) (turn_of next) found (spots_at bytes end)

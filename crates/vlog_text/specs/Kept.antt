@@ -1,4 +1,4 @@
--- Names, sorts, readings and words that are kept, each once.
+-- Names, kinds, readings and words that are kept, each once.
 use Rattle.std.specs.Prelude.{ℕ, Bool, true, ◌&&◌, ◌==◌, List, [], ◌∷◌, ◌++◌, Option, Some, None, is_some, bytes_eq, if◌then◌else◌}
 use Rattle.std.specs.List.{list_any}
 use Rattle.vlog_module.specs.declared.sort.Sort.{Sort}
@@ -8,11 +8,11 @@ use Rattle.vlog_module.specs.WellFormed.{Reading, sort_in, is_unless}
 abbrev pub has_name : List (List ℕ) → List ℕ → Bool
 has_name names name = list_any (λ other. bytes_eq other name) names
 
--- names with one more, where it isn't there
+-- names with one more, if it isn't listed yet
 abbrev pub with_name : List (List ℕ) → List ℕ → List (List ℕ)
 with_name names name = if has_name names name then names else names ++ name ∷ []
 
--- whether the word of a memory is among others
+-- whether a word of a memory is among others
 abbrev pub has_word : List (List ℕ × ℕ) → List ℕ → ℕ → Bool
 has_word words memory place = list_any (λ other. bytes_eq other.0 memory && (other.1 == place)) words
 
@@ -22,7 +22,7 @@ with_word words memory place = if has_word words memory place then words else wo
 abbrev pub with_sort : List (List ℕ × Sort) → List ℕ → Sort → List (List ℕ × Sort)
 with_sort declared name sort = if is_some (sort_in declared name) then declared else declared ++ (name, sort) ∷ []
 
--- whether a name, by how it is read if it is, is only read but for the time in which this wire is 1, when the value is this bit
+-- whether a name that is read, if it is, is only read by way of this asynchronous set or reset
 abbrev pub is_only_unless : Option Reading → List ℕ → Bool → Bool
 is_only_unless (Some reading) reset set = is_unless reset set reading
 is_only_unless None reset set = true

@@ -1,4 +1,4 @@
--- The scope that kept names stand for.
+-- The scope for which the kept names stand.
 use Rattle.std.specs.Prelude.{◌≡◌, ℕ, Bool, true, false, List, [], ◌++◌, flat_map}
 use Rattle.vlog_module.specs.declared.sort.Sort.{Sort}
 use Rattle.vlog_module.specs.declared.item.Item.{Item}
@@ -8,14 +8,16 @@ use Rattle.vlog_module.specs.Uses.{Use}
 use Rattle.vlog_module.specs.WellFormed.{Scope, Reading, sort_in, declared_by, read_by, assigned_by, started_by, is_read_unless}
 use Rattle.vlog_text.specs.Kept.{has_name, has_word, is_only_unless}
 
--- what is declared, read by wires, assigned and started so far; a name that is read in several ways counts as one that is read plainly
+-- the names that are declared, read by wires and assigned so far, and the words with a start value; a name that is read in several ways
+-- counts as one that is read as it is
 pub record Known : Type 0 where
   pub declared : List (List ℕ × Sort)
   pub read : List (List ℕ × Reading)
   pub assigned : List (List ℕ)
   pub started : List (List ℕ × ℕ)
 
--- every name has in both the same sort, is read so in both that a wire may set it at once or in neither, and is assigned in both or in neither
+-- both agree on every name: what it is declared as, whether wires read it only by way of a given asynchronous set or reset, whether it is
+-- assigned, and which of its words have a start value
 pub record Holds (known : Known) (scope : Scope) : Type 0 where
   pub declared : (name : List ℕ) → sort_in known.declared name ≡ sort_in scope.declared name
   pub read : (name reset : List ℕ) (set : Bool) → is_only_unless (value_in known.read name) reset set ≡ is_read_unless scope.read reset set name
@@ -27,12 +29,12 @@ abbrev pub is_wire : Item → Bool
 is_wire (Wire name right) = true
 is_wire _ = false
 
--- what the names of an item read, if it is a wire
+-- what an item with these uses reads, if it is a wire
 abbrev pub wire_reads : Bool → List Use → List (List ℕ × Reading)
 wire_reads true uses = flat_map read_by uses
 wire_reads false uses = []
 
--- a scope, with what the names of a wire, or of another item, declare, read and assign
+-- a scope to which is added what an item with these uses declares, reads (if it is a wire), assigns and starts
 abbrev pub entered : Scope → Bool → List Use → Scope
 entered scope wire uses = record {
   section = scope.section;

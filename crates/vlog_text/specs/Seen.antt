@@ -1,4 +1,4 @@
--- What the code keeps of names: uses, readings and faults.
+-- Uses, readings and faults as the definitions have them, made from those of the code.
 use Rattle.std.specs.Prelude.{List, [], ◌∷◌, Option, Some, None}
 use Rattle.vlog_module.specs.Uses.{Use}
 use Rattle.vlog_module.specs.Uses.Use.{Declares, Reads, ReadsBit, Takes, Assigns, Chooses, AssignsAtOnce, Starts}
@@ -11,7 +11,7 @@ use Rattle.vlog_text.specs.declared.readings.Reading as kept_reading
 use Rattle.vlog_text.specs.declared.readings.Reading.TheVariants as read
 use Rattle.vlog_text.specs.declared.name_faults.Fault as kept_fault
 
--- the use that the code keeps
+-- the use for which a use of the code stands
 abbrev pub seen_use : kept_use.Use → Use
 seen_use (used.Declares sort name) = Declares sort name.now
 seen_use (used.Reads name) = Reads name.now
@@ -22,16 +22,16 @@ seen_use (used.Chooses reset name) = Chooses reset.wire.now reset.set name.now
 seen_use (used.AssignsAtOnce reset name) = AssignsAtOnce reset.wire.now reset.set name.now
 seen_use (used.Starts name k) = Starts name.now k
 
--- the uses of a value, of which there is one at most
+-- the uses of a value: one or none
 abbrev pub seen_uses : Option kept_use.Use → List Use
 seen_uses (Some one) = seen_use one ∷ []
 seen_uses None = []
 
--- how a name is read; several ways count as one that is plain
+-- how a name is read; if it is read in several ways, it counts as read as it is
 abbrev pub seen_reading : kept_reading.Reading → Reading
 seen_reading read.Plainly = plainly
 seen_reading (read.Unless reset) = unless reset.wire.now reset.set
 
--- a fault that the code finds
+-- the fault for which a fault of the code stands
 abbrev pub seen_fault : kept_fault.Fault → Fault
 seen_fault one = record { offset = one.offset; cause = one.cause }

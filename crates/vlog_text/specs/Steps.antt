@@ -1,4 +1,4 @@
--- What a step of the code says of an outcome, whatever comes behind it.
+-- What a step of the code says of an outcome, whatever follows in the text.
 use Rattle.std.specs.Prelude.{◌≡◌, ℕ, suc, ◌<◌, ◌≤◌, List, length, Option, Some, None, Result, Ok, Err}
 use Rattle.vlog_tokens.specs.Tokens.{Spot, spots_at}
 use Rattle.vlog_module.specs.declared.modules.Port.{Port}
@@ -11,11 +11,11 @@ use Rattle.vlog_text.specs.declared.items.Step.{Step}
 use Rattle.vlog_text.specs.declared.items.Step.TheVariants as step
 use Rattle.vlog_text.specs.Answers.{RefusesAt}
 
--- an outcome, by what comes behind a module so far
+-- an outcome, by what comes of the text after the next item
 abbrev pub Outcome : Type 0
 Outcome = (Parts → List Spot → Result Parts Fault) → Result Parts Fault
 
--- one more item stands up to an offset, or the module is whole
+-- one more item ends at an offset, or the module is finished
 abbrev pub StepsTo : Outcome → List ℕ → Parts → Step → Type 0
 StepsTo outcome bytes m (step.Next end) = (more : Parts → List Spot → Result Parts Fault) → outcome more ≡ more m (spots_at bytes end)
 StepsTo outcome bytes m step.Done = (more : Parts → List Spot → Result Parts Fault) → outcome more ≡ Ok m
@@ -24,41 +24,41 @@ abbrev pub Steps : Outcome → List ℕ → Parts → Result Step Refusal → Ty
 Steps outcome bytes m (Ok step) = StepsTo outcome bytes m step
 Steps outcome bytes m (Err refusal) = (more : Parts → List Spot → Result Parts Fault) → RefusesAt (outcome more) refusal
 
--- a step to this offset, if to any
+-- the step ends at this offset, if the module isn't finished
 abbrev pub IsAt : ℕ → Step → Type 0
 IsAt end (step.Next behind) = behind ≡ end
 IsAt end step.Done = Unit {0}
 
--- a step to an offset from which fewer tokens are left
+-- the step ends at an offset after which fewer tokens are left
 abbrev pub IsBehind : List ℕ → ℕ → Step → Type 0
 IsBehind bytes from (step.Next end) = (end ≤ length bytes) × (length (spots_at bytes end) < length (spots_at bytes from))
 IsBehind bytes from step.Done = Unit {0}
 
--- an item has no fault and is added, or has this fault
+-- an item has no fault and is added, or it has this fault
 abbrev pub Adds : Option Fault → Parts → Parts → Result (Unit {0}) Refusal → Type 0
 Adds found before after (Ok done) = (found ≡ None) × (after ≡ before)
 Adds found before after (Err (refusal.Fault one)) = found ≡ Some (seen_fault one)
 Adds found before after (Err (refusal.Memory refused)) = Unit {0}
 
--- the items behind a module so far, from an offset on
+-- what comes of the items from an offset on, after a module as far as it is read
 abbrev pub items_from : List ℕ → Parts → ℕ → Result Parts Fault
 items_from bytes m from = items_outcome (suc (length (spots_at bytes from))) (length bytes) m (spots_at bytes from)
 
--- an outcome that is a module, or a refusal
+-- an outcome is this module, or the fault of a refusal
 abbrev pub Ends : Result Parts Fault → Parts → Result (Unit {0}) Refusal → Type 0
 Ends outcome m (Ok done) = outcome ≡ Ok m
 Ends outcome m (Err refusal) = RefusesAt outcome refusal
 
--- an outcome, by what comes behind the declarations of ports
+-- an outcome, by what comes of the text after the declarations of ports
 abbrev pub Declarations : Type 0
 Declarations = (List Port → List Spot → Result Parts Fault) → Result Parts Fault
 
--- all ports are declared, up to an offset
+-- all ports are declared, and the declarations end at an offset
 abbrev pub Declares : Declarations → List ℕ → List Port → Result ℕ Refusal → Type 0
 Declares outcome bytes ports (Ok end) = (next : List Port → List Spot → Result Parts Fault) → outcome next ≡ next ports (spots_at bytes end)
 Declares outcome bytes ports (Err refusal) = (next : List Port → List Spot → Result Parts Fault) → RefusesAt (outcome next) refusal
 
--- one more port is declared, up to an offset; `behind` is the outcome of the others
+-- one more port is declared, and its declaration ends at an offset; `behind` is what comes of the others
 abbrev pub DeclaresOne : Declarations → (List Port → List Spot → Declarations) → List ℕ → List Port → Result ℕ Refusal → Type 0
 DeclaresOne outcome behind bytes ports (Ok end) = (next : List Port → List Spot → Result Parts Fault) → outcome next ≡ behind ports (spots_at bytes end) next
 DeclaresOne outcome behind bytes ports (Err refusal) = (next : List Port → List Spot → Result Parts Fault) → RefusesAt (outcome next) refusal

@@ -1,4 +1,4 @@
-// Modules by way of their text.
+// Modules that are printed and parsed again.
 ghost use Rattle.std.specs.Prelude.{◌≡◌, IfOk};
 
 use crate::fault::VlogFault;
@@ -7,7 +7,10 @@ use std::alloc::{AllocError, Global};
 use vlog_module::Module;
 use vlog_print::print;
 
-/// The module that the printed text of a module is read as: the same one.
+/// Prints a module and parses the text: the result is the same module, a copy.
+///
+/// # Errors
+/// `AllocError` if memory is out, and for no other cause.
 pub fn from_own_text(alloc: Global, module: &Module) -> Result<Module, AllocError>
     ensures { IfOk result (λ again. again ≡ «module».now) }
 {

@@ -21,7 +21,7 @@ pub(crate) struct Draft<'a> {
     pub name: Name,
     pub ports: Vec<Port>,
     pub items: Vec<Item>,
-    /// The section of the last item; 1 where there is none.
+    /// The section of the last item; 1 if there is none.
     pub section: u8,
     pub names: Names<'a>,
 }
@@ -40,7 +40,7 @@ pub(crate) fn new_draft<'a>(alloc: Global, name: Name) -> Draft<'a>
     }
 }
 
-/// Adds a port. No items stand there yet.
+/// Adds a port. There are no items yet.
 pub(crate) fn push_port<'a>(
     alloc: Global,
     draft: &mut Draft<'a>,
@@ -67,7 +67,7 @@ fn port_sort(output: bool) -> Sort
     if output { Sort::Output } else { Sort::Input }
 }
 
-/// Adds an item, which has these values.
+/// Adds an item that was made of these values.
 pub(crate) fn push_item<'a>(
     draft: &mut Draft<'a>,
     item: Item,

@@ -22,7 +22,7 @@ pub(crate) fn is_end(form: Form) -> bool
     matches!(form, Form::End)
 }
 
-/// Ends a module with `endmodule`, which stands from one offset to another.
+/// Ends a module with `endmodule`, which begins at one offset and ends at another.
 pub(crate) fn end_module(
     bytes: &[u8],
     at: usize,
@@ -43,7 +43,7 @@ pub(crate) fn end_module(
     }
 }
 
-/// A fault where a token stands from an offset on.
+/// Takes the end of the text after `endmodule`. Another token is a fault.
 fn end_text(bytes: &[u8], from: usize, draft: &Draft<'_>) -> Result<(), Refusal>
     requires { from ≤ length bytes.now }
     ensures { Ends (at_end (so_far draft.now) (spots_at bytes.now from)) (so_far draft.now) result }
@@ -65,7 +65,7 @@ fn are_assigned(draft: &Draft<'_>) -> bool
     all_assigned(&draft.names, &draft.ports)
 }
 
-/// Whether each output among ports is assigned.
+/// Whether each output among these ports is assigned.
 fn all_assigned(names: &Names<'_>, ports: &[Port]) -> bool
     ensures { result ≡ list_all (λ port. not port.output || has_name names.now.assigned port.name) ports.now }
 {

@@ -10,23 +10,23 @@ use vlog_read::Stop;
 /// Why a text is refused.
 #[derive(Debug, Drop)]
 pub enum VlogFault {
-    /// The text spells no module: the cause of its first fault, and the offset of the token at fault, or the length of the text
-    /// where it ends there.
+    /// The text spells no module. This is the cause of its first fault, and the offset of the token at fault (the length of the text if it
+    /// ends there).
     At { offset: u64, cause: VlogCause },
-    /// There is no memory for the module.
+    /// Out of memory.
     Memory(AllocError),
 }
 
-/// Why a part of the text isn't taken.
+/// Why a part of the text is refused.
 #[derive(Clone, Copy, Debug)]
 pub(crate) enum Refusal {
     /// A fault of the text.
     Fault(Fault),
-    /// There is no memory.
+    /// Out of memory.
     Memory(AllocError),
 }
 
-/// A refusal where a reading stops.
+/// The refusal for a reading that stopped.
 pub(crate) fn refusal_of(stop: Stop) -> Refusal
     ensures { result ≡ refusal_of stop }
 {

@@ -22,7 +22,7 @@ fn header_slots() -> &'static [Slot]
     ]
 }
 
-/// Reads the header: the module's name goes to `head`, the names of the ports to `names`.
+/// Reads the header. The module's name is added to `head`, the names of the ports to `names`.
 pub(crate) fn read_header<'a>(
     bytes: &'a [u8],
     head: &mut Vec<Found<'a>>,
@@ -45,7 +45,7 @@ pub(crate) fn read_header<'a>(
     }
 }
 
-/// What was read of the names of the ports.
+/// What the list of ports had last.
 #[derive(Clone, Copy, Debug)]
 pub(crate) enum Turn {
     /// `(`: a name or `)` may follow.
@@ -56,20 +56,20 @@ pub(crate) enum Turn {
     Parted,
 }
 
-/// What a token is among the names of the ports.
+/// What a token does in the list of ports.
 #[derive(Clone, Copy, Debug)]
 pub(crate) enum Step<'a> {
     /// The next name.
     TakesName(&'a [u8]),
-    /// The comma between two names.
+    /// A comma between two names.
     Parts,
-    /// The end of the names.
+    /// The `)` that ends the list.
     Closes,
-    /// A token that can't go on.
+    /// A token that doesn't fit.
     Stops,
 }
 
-/// Reads the names of the ports, up to `)`.
+/// Reads the names of the ports, up to `)`, and adds them.
 fn read_names<'a>(bytes: &'a [u8], from: usize, names: &mut Vec<Found<'a>>) -> Result<usize, Stop>
     requires { from ≤ length bytes.now }
     ensures reads { ReadsTo (port_names (length bytes.now) (turn_of Turn.Opened) (all_found names.old.items) (spots_at bytes.now from)) bytes.now (all_found names.new.items) result }
@@ -89,7 +89,7 @@ fn read_names<'a>(bytes: &'a [u8], from: usize, names: &mut Vec<Found<'a>>) -> R
     }
 }
 
-/// Reads the next token among the names of the ports: what may follow it, none behind `)`, and the offset behind it.
+/// Reads the next token of the list of ports. Returns what the list had last (none after `)`), and the offset after the token.
 fn read_turn<'a>(
     bytes: &'a [u8],
     from: usize,
@@ -117,7 +117,7 @@ fn read_turn<'a>(
     }
 }
 
-/// What a token is among the names of the ports.
+/// What a token does in the list of ports.
 fn step_of<'a>(turn: Turn, token: Token<'a>) -> Step<'a>
     ensures { seen_step result ≡ port_step (turn_of turn) (seen token.entry) }
 {
@@ -137,7 +137,7 @@ fn step_of<'a>(turn: Turn, token: Token<'a>) -> Step<'a>
     }
 }
 
-/// What a token that is no name is among the names of the ports.
+/// What a token that is no name does in the list of ports.
 fn sign_step<'a>(turn: Turn, token: Token<'a>) -> Step<'a>
     ensures { seen_step result ≡ sign_step (turn_of turn) (seen token.entry) }
 {

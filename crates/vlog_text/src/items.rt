@@ -23,16 +23,16 @@ use vlog_module::Item;
 use vlog_read::{Found, Whole, all_forms, item_of, read_forms};
 use vlog_tokens::next_token;
 
-/// What a form that is whole makes of a module.
+/// What an item that fits a form does to a module.
 #[derive(Clone, Copy, Debug)]
 pub(crate) enum Step {
-    /// One more item; the offset behind it.
+    /// It is added; this is the offset after it.
     Next(usize),
-    /// The module is whole.
+    /// It is `endmodule`, and the module is finished.
     Done,
 }
 
-/// Reads items up to `endmodule`, behind which nothing may stand.
+/// Reads items up to `endmodule`, after which nothing may follow.
 pub(crate) fn read_items<'a>(
     alloc: Global,
     bytes: &'a [u8],
@@ -54,7 +54,7 @@ pub(crate) fn read_items<'a>(
     }
 }
 
-/// Reads an item or `endmodule`. The values that stood in the list are dropped.
+/// Reads an item or `endmodule`. The values that the list had are dropped.
 fn read_item<'a>(
     alloc: Global,
     bytes: &'a [u8],
@@ -82,7 +82,7 @@ fn read_item<'a>(
     }
 }
 
-/// The offset of the next token, or the end of the text.
+/// The offset of the next token, or the length of the text if there is none.
 fn token_offset(bytes: &[u8], from: usize) -> usize
     requires { from ≤ length bytes.now }
     ensures { result ≡ offset_of (length bytes.now) (spots_at bytes.now from) }
@@ -93,7 +93,7 @@ fn token_offset(bytes: &[u8], from: usize) -> usize
     }
 }
 
-/// Takes a form that is whole and begins at an offset.
+/// Takes an item that fits a form and begins at an offset.
 fn take_whole<'a>(
     alloc: Global,
     bytes: &'a [u8],
@@ -124,7 +124,7 @@ fn take_whole<'a>(
     }
 }
 
-/// Takes the item of a form and values, where it may stand at an offset.
+/// Adds the item of a form and values, if it has no fault here.
 fn take_item<'a>(
     alloc: Global,
     at: usize,

@@ -1,8 +1,8 @@
-//! The Verilog subset: modules, their text, and modules from text.
+//! The Verilog subset: modules, and how they are printed and parsed.
 //!
-//! A text spells a module where it has the module's tokens, with spaces, tabs and line ends between them as you like. `print`
-//! writes one spelling of a module, item by item. `parse` takes exactly the spellings of well-formed modules, and tells of any
-//! other text the first fault: its cause, and the offset of the token at fault.
+//! A text spells a module if its tokens are the module's tokens; between them may be any spaces, tabs and line ends. [`print`] writes
+//! one spelling of a module, item by item. [`parse`] takes exactly the spellings of well-formed modules. Of any other text it returns the
+//! first fault: its cause, and the offset of the token at fault.
 #![tactic(auto)]
 
 mod again;

@@ -1,4 +1,4 @@
-// Modules from text.
+// Parses modules.
 ghost use Rattle.std.specs.Prelude.{◌≡◌, ◌≤◌, [], length, None, Ok, IfOk, IfErr, MatchResult};
 ghost use Rattle.vlog_tokens.specs.Tokens.{spots_at};
 ghost use Rattle.vlog_module.specs.Parts.{Parts};
@@ -21,7 +21,20 @@ use std::alloc::Global;
 use vlog_module::{Module, Name};
 use vlog_read::{Found, name_at};
 
-/// The module that a text spells, or the first fault of the text. A text spells exactly one module, or has exactly one first fault.
+/// The module that a text spells. A text either spells exactly one module or has exactly one first fault.
+///
+/// # Errors
+/// [`VlogFault::At`] if the text spells no module: the cause of its first fault, and the offset of the token at fault (the length of the
+/// text if it ends there). [`VlogFault::Memory`] if memory is out; it may come in place of any other answer.
+///
+/// # Example
+/// ```ignore
+/// match parse(alloc, b"module m (q); output q; assign q = 1'b1; endmodule") {
+///     Ok(module) => assert!(module.items().len() == 1),
+///     Err(VlogFault::At { offset, cause }) => panic!("{cause:?} at byte {offset}"),
+///     Err(VlogFault::Memory(_)) => panic!("out of memory"),
+/// }
+/// ```
 pub fn parse(alloc: Global, bytes: &[u8]) -> Result<Module, VlogFault>
     ensures spells { IfOk result (λ taken. IsSpelling bytes.now taken) }
     ensures takes { (m : Parts) → IsSpelling bytes.now m → Takes m result }
@@ -39,7 +52,7 @@ pub fn parse(alloc: Global, bytes: &[u8]) -> Result<Module, VlogFault>
     }
 }
 
-/// The module that a text spells, or why there is none.
+/// Parses a text, and says why if it spells no module.
 fn parse_module(alloc: Global, bytes: &[u8]) -> Result<Module, Refusal>
     ensures { MatchResult result (λ parsed. outcome_of bytes.now ≡ Ok parsed) (λ refusal. RefusesAt (outcome_of bytes.now) refusal) }
 {
@@ -55,7 +68,7 @@ fn parse_module(alloc: Global, bytes: &[u8]) -> Result<Module, Refusal>
     }
 }
 
-/// The module behind a header.
+/// The rest of a module, after its header.
 fn parse_named<'a>(
     alloc: Global,
     bytes: &'a [u8],
@@ -76,7 +89,7 @@ fn parse_named<'a>(
     }
 }
 
-/// The module of a name behind a header.
+/// The rest of a module with this name, after its header.
 fn parse_body<'a>(
     alloc: Global,
     bytes: &'a [u8],
@@ -99,7 +112,7 @@ fn parse_body<'a>(
     }
 }
 
-/// The module that was read of a text.
+/// The module of the parts that were read.
 fn whole_module(bytes: &[u8], draft: Draft<'_>) -> Module
     requires { outcome_of bytes.now ≡ Ok (so_far draft) }
     ensures { outcome_of bytes.now ≡ Ok result }

@@ -24,14 +24,14 @@ pub struct Fault {
     pub cause: VlogCause,
 }
 
-/// The first name, from left to right, that isn't there, isn't what it is used as, or is declared or assigned before.
+/// The first name, from left to right, that isn't declared, isn't what it is used as, or is declared or assigned before.
 pub fn name_fault<'a>(names: &Names<'_>, values: &[Found<'a>]) -> Option<Fault>
     ensures { (scope : Scope) → Holds names.now scope → option_map seen_fault result ≡ name_fault scope (all_found values.now) }
 {
     fault_from(names, values, 0, values)
 }
 
-/// The first fault among the names of the last values of an item, which stand from a place on.
+/// The first fault among the last values of an item, which begin at an index.
 fn fault_from<'a>(
     names: &Names<'_>,
     values: &[Found<'a>],
@@ -51,7 +51,7 @@ fn fault_from<'a>(
     }
 }
 
-/// Whether the name of a value is at fault, which has a place among the values of its item.
+/// The fault of the name in a value, if there is one; `place` is the value's index among the values of the item.
 fn value_fault(
     names: &Names<'_>,
     one: Found<'_>,
@@ -68,7 +68,7 @@ fn value_fault(
     }
 }
 
-/// Whether a name that is used is at fault.
+/// The fault of a use of a name, if there is one.
 fn use_fault(names: &Names<'_>, at: usize, used: Use<'_>) -> Option<Fault>
     ensures { (scope : Scope) → Holds names.now scope → option_map seen_fault result ≡ use_fault scope at (seen_use used.entry ∷ []) }
 {
@@ -89,7 +89,7 @@ fn use_fault(names: &Names<'_>, at: usize, used: Use<'_>) -> Option<Fault>
     }
 }
 
-/// The first name of a port that stands among those before it.
+/// The fault of the first port name that is listed twice, if there is one.
 pub fn twice_fault(alloc: Global, names: &[Found<'_>]) -> Result<Option<Fault>, AllocError>
     ensures { IfOk result (λ fault. option_map seen_fault fault ≡ twice_fault [] (all_found names.now)) }
 {
@@ -107,7 +107,7 @@ pub fn twice_fault(alloc: Global, names: &[Found<'_>]) -> Result<Option<Fault>, 
     Ok(None)
 }
 
-/// The text of the name that a value is; `x` where it is none.
+/// The name that a value is; `x` if it is none.
 pub fn text_of<'a>(value: Value<'a>) -> &'a [u8]
     ensures { result.now ≡ name_in (seen value.entry ∷ []) }
 {

@@ -1,4 +1,4 @@
-// The names of a module so far.
+// The names of a module as far as it is read.
 ghost use Rattle.std.specs.Prelude.{◌≡◌, ◌+◌, ◌≤◌, ◌<◌, [], ◌∷◌, length, OnOk};
 ghost use Rattle.vlog_module.specs.WellFormed.{has_bit, is_first, is_known, is_same_sort, is_sort, Scope};
 ghost use Rattle.vlog_forms.specs.Outcome.{uses_from, uses_in, value_uses};
@@ -24,7 +24,7 @@ use vlog_read::Found;
 #[derive(Drop)]
 pub struct Names<'a> {
     declared: SortMap<'a>,
-    /// What wires read.
+    /// How wires read names.
     read: ReadingMap<'a>,
     assigned: NameSet<'a>,
     started: WordSet<'a>,
@@ -39,7 +39,7 @@ impl<'a> Model for Names<'a> {
 }
 
 impl<'a> Names<'a> {
-    /// No names.
+    /// No names yet.
     pub fn new(alloc: Global) -> Names<'a>
         ensures declared { result.declared ≡ [] }
         ensures read { result.read ≡ [] }
@@ -61,7 +61,7 @@ impl<'a> Names<'a> {
         self.assigned.contains(name)
     }
 
-    /// Enters what the values of a wire, or of another item, declare, read and assign.
+    /// Adds what the values of an item declare, read (if the item is a wire), assign and start.
     pub fn enter(&mut self, values: &[Found<'a>], wire: bool) -> Result<(), AllocError>
         ensures { OnOk result ((scope : Scope) → Holds self.old scope
             → Holds self.new (entered scope wire (uses_in (values_of (all_found values.now))))) }
@@ -69,7 +69,7 @@ impl<'a> Names<'a> {
         self.enter_from(values, 0, values, wire)
     }
 
-    /// Enters the same of the last values of an item, which stand from a place on.
+    /// Adds what the last values of an item, which begin at an index, declare, read, assign and start.
     fn enter_from(
         &mut self,
         values: &[Found<'a>],
@@ -90,7 +90,7 @@ impl<'a> Names<'a> {
         }
     }
 
-    /// Enters the same of a value, which has a place among the values of its item.
+    /// Adds what a value declares, reads, assigns or starts; `place` is its index among the values of the item.
     fn enter_value(
         &mut self,
         value: Value<'a>,
@@ -108,7 +108,7 @@ impl<'a> Names<'a> {
         }
     }
 
-    /// Enters a name that a wire, or another item, uses.
+    /// Adds a use of a name by an item, which is a wire or isn't.
     pub fn enter_use(&mut self, used: Use<'a>, wire: bool) -> Result<(), AllocError>
         ensures { OnOk result ((scope : Scope) → Holds self.old scope → Holds self.new (entered scope wire (seen_use used.entry ∷ []))) }
     {
@@ -136,7 +136,8 @@ impl<'a> Names<'a> {
         }
     }
 
-    /// Whether a name is declared as what it is used as, and a register that a wire sets at once is read accordingly.
+    /// Whether a name is declared as what it is used as. If it is a register with an asynchronous set or reset, whether wires read it only
+    /// by way of that.
     pub(crate) fn is_known(&self, used: Use<'_>) -> bool
         ensures { (scope : Scope) → Holds self.now scope → result ≡ is_known scope (seen_use used.entry) }
     {
@@ -155,7 +156,7 @@ impl<'a> Names<'a> {
         }
     }
 
-    /// Whether nothing so far declares or assigns the same.
+    /// Whether nothing so far declares the same name, assigns it, or gives the same word a start value.
     pub(crate) fn is_first(&self, used: Use<'_>) -> bool
         ensures { (scope : Scope) → Holds self.now scope → result ≡ is_first scope (seen_use used.entry) }
     {
@@ -172,7 +173,7 @@ impl<'a> Names<'a> {
     }
 }
 
-/// Whether a name of this sort has a value of one bit.
+/// Whether a name of this kind has a value of one bit.
 fn has_bit(sort: Option<Sort>) -> bool
     ensures { result ≡ has_bit sort }
 {
@@ -187,7 +188,7 @@ fn has_bit(sort: Option<Sort>) -> bool
     }
 }
 
-/// Whether a sort is this one.
+/// Whether a name is declared as this.
 fn is_sort(sort: Sort, other: Option<Sort>) -> bool
     ensures { result ≡ is_sort sort other }
 {
@@ -197,7 +198,7 @@ fn is_sort(sort: Sort, other: Option<Sort>) -> bool
     }
 }
 
-/// Whether two sorts are the same.
+/// Whether both are the same kind of name.
 fn is_same_sort(one: Sort, other: Sort) -> bool
     ensures { result ≡ is_same_sort one other }
 {

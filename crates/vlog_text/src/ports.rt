@@ -46,7 +46,7 @@ pub(crate) fn read_ports<'a>(
     Ok(from)
 }
 
-/// Reads the declaration of the port that has a name.
+/// Reads the declaration of the port with this name.
 fn read_port<'a>(
     alloc: Global,
     bytes: &'a [u8],
@@ -75,7 +75,7 @@ fn read_port<'a>(
     }
 }
 
-/// Whether a declaration is an output's.
+/// Whether a form declares an output.
 fn is_output(form: Form) -> bool
     ensures { result ≡ is_output form }
 {

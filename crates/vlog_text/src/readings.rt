@@ -16,11 +16,11 @@ use std::marker::Model;
 pub(crate) enum Reading<'a> {
     /// As it is, or in several ways.
     Plainly,
-    /// Only but for the time in which a wire is 1.
+    /// Only by way of an asynchronous set or reset.
     Unless(Reset<'a>),
 }
 
-/// Names with how they are read, in the order in which they came, each once.
+/// Names and how they are read, each once, in the order in which they were added.
 #[derive(Drop)]
 pub(crate) struct ReadingMap<'a> {
     readings: IndexMap<&'a [u8], Reading<'a>>,
@@ -46,7 +46,7 @@ impl<'a> ReadingMap<'a> {
         }
     }
 
-    /// Adds one reading of a name.
+    /// Adds a reading of a name.
     pub(crate) fn push(&mut self, name: &'a [u8], reading: Reading<'a>) -> Result<(), AllocError>
         ensures { OnOk result ((other reset : List ℕ) (set : Bool) → is_only_unless (value_in self.new other) reset set
             ≡ (is_only_unless (value_in self.old other) reset set && (not (bytes_eq name.now other) || is_unless reset set (seen_reading reading.entry)))) }
@@ -57,7 +57,7 @@ impl<'a> ReadingMap<'a> {
         }
     }
 
-    /// Keeps this for a name, in place of what was kept.
+    /// Keeps a reading for a name, in place of the earlier one.
     fn put(&mut self, name: &'a [u8], reading: Reading<'a>) -> Result<(), AllocError>
         ensures { OnOk result ((other : List ℕ) → value_in self.new other
             ≡ (if bytes_eq name.now other then Some (seen_reading reading.entry) else value_in self.old other)) }
@@ -73,7 +73,7 @@ impl<'a> ReadingMap<'a> {
         self.readings.get(name).copied()
     }
 
-    /// Whether a name, if it is read, is only read but for the time in which a wire is 1.
+    /// Whether a name, if it is read, is only read by way of this asynchronous set or reset.
     pub(crate) fn is_only_unless(&self, name: &[u8], reset: Reset<'_>) -> bool
         ensures { result ≡ is_only_unless (value_in self.now name.now) reset.entry.wire.now reset.entry.set }
     {
@@ -84,7 +84,7 @@ impl<'a> ReadingMap<'a> {
     }
 }
 
-/// Two readings of a name as one.
+/// What two readings of a name count as.
 fn both<'a>(one: Reading<'a>, other: Reading<'a>) -> Reading<'a>
     ensures { (reset : List ℕ) (set : Bool) → is_unless reset set (seen_reading result)
         ≡ (is_unless reset set (seen_reading one.entry) && is_unless reset set (seen_reading other.entry)) }
@@ -101,7 +101,7 @@ fn both<'a>(one: Reading<'a>, other: Reading<'a>) -> Reading<'a>
     }
 }
 
-/// Whether a reading is but for the time in which this wire is 1.
+/// Whether a reading is by way of this asynchronous set or reset.
 fn is_unless(reset: Reset<'_>, reading: Reading<'_>) -> bool
     ensures { result ≡ is_unless reset.entry.wire.now reset.entry.set (seen_reading reading.entry) }
 {

@@ -6,7 +6,7 @@ use indexmap::IndexSet;
 use std::alloc::{AllocError, Global};
 use std::marker::Model;
 
-/// Names in the order in which they came, each once.
+/// Names, each once, in the order in which they were added.
 #[derive(Drop)]
 pub(crate) struct NameSet<'a> {
     names: IndexSet<&'a [u8]>,
@@ -30,7 +30,7 @@ impl<'a> NameSet<'a> {
         }
     }
 
-    /// Adds a name, where it isn't there.
+    /// Adds a name, if it isn't there yet.
     pub(crate) fn push(&mut self, name: &'a [u8]) -> Result<(), AllocError>
         ensures { OnOk result (self.new ≡ with_name self.old name.now) }
     {

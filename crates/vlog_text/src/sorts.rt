@@ -8,7 +8,7 @@ use std::alloc::{AllocError, Global};
 use std::marker::Model;
 use vlog_module::Sort;
 
-/// Names with what they are declared as, in the order in which they came, each once.
+/// Names and what they are declared as, each once, in the order in which they were added.
 #[derive(Drop)]
 pub(crate) struct SortMap<'a> {
     sorts: IndexMap<&'a [u8], Sort>,
@@ -33,7 +33,7 @@ impl<'a> SortMap<'a> {
         }
     }
 
-    /// Adds a name, where it isn't there.
+    /// Adds a name, if it isn't there yet.
     pub(crate) fn push(&mut self, name: &'a [u8], sort: Sort) -> Result<(), AllocError>
         ensures { OnOk result (self.new ≡ with_sort self.old name.now sort) }
     {
@@ -43,7 +43,7 @@ impl<'a> SortMap<'a> {
         }
     }
 
-    /// Adds a name that isn't there.
+    /// Adds a name that isn't there yet.
     fn push_new(&mut self, name: &'a [u8], sort: Sort) -> Result<(), AllocError>
         requires { sort_in self.old name.now ≡ None }
         ensures { OnOk result (self.new ≡ self.old ++ (name.now, sort) ∷ []) }
@@ -52,7 +52,7 @@ impl<'a> SortMap<'a> {
         Ok(())
     }
 
-    /// What a name is declared as.
+    /// What a name is declared as, if it is.
     pub(crate) fn get(&self, name: &[u8]) -> Option<Sort>
         ensures { result ≡ sort_in self.now name.now }
     {

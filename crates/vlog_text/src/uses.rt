@@ -10,7 +10,7 @@ use vlog_forms::{Role, Value};
 use vlog_module::Sort;
 use vlog_read::{Found, bit_at, index_at, text_at};
 
-/// A wire, and the bit that a register has while the wire is 1.
+/// An asynchronous set or reset: a wire, and the bit that the register has while the wire is 1.
 #[derive(Clone, Copy, Debug)]
 pub struct Reset<'a> {
     pub wire: &'a [u8],
@@ -22,23 +22,23 @@ pub struct Reset<'a> {
 pub enum Use<'a> {
     /// It declares the name.
     Declares(Sort, &'a [u8]),
-    /// It reads the value of one bit that the name has.
+    /// It reads the name, which has a value of one bit.
     Reads(&'a [u8]),
-    /// It reads a bit of the register of 16 bits that the name is.
+    /// It reads a bit of the name, a register of 16 bits.
     ReadsBit(&'a [u8], u8),
-    /// It takes the name for a clock, a wire or a memory.
+    /// It uses the name as a clock, as an asynchronous set or reset, or as a memory.
     Takes(Sort, &'a [u8]),
-    /// It assigns what the name is.
+    /// It assigns the name.
     Assigns(Sort, &'a [u8]),
-    /// It reads the register that the name is, but for the time in which a wire is 1.
+    /// It reads the name, a register, by way of its asynchronous set or reset.
     Chooses(Reset<'a>, &'a [u8]),
-    /// It assigns the register that the name is, which a wire sets at once.
+    /// It assigns the name, a register with an asynchronous set or reset.
     AssignsAtOnce(Reset<'a>, &'a [u8]),
-    /// It gives a word of the memory that the name is its start.
+    /// It gives a word of the name, a memory, a start value.
     Starts(&'a [u8], u8),
 }
 
-/// How a value uses a name, if it does. The value has a place among the values of its item.
+/// How a value uses a name, if it does; `place` is the value's index among the values of the item.
 pub(crate) fn use_of<'a>(value: Value<'a>, values: &[Found<'a>], place: usize) -> Option<Use<'a>>
     requires { place < length values.now }
     ensures { seen_uses result ≡ value_uses (seen value.entry) (values_of (all_found values.now)) place }
@@ -55,7 +55,7 @@ pub(crate) fn use_of<'a>(value: Value<'a>, values: &[Found<'a>], place: usize) -
     }
 }
 
-/// How a name is used in a role. It has a place among the values of its item.
+/// How an item uses a name; `place` is the name's index among the values of the item.
 fn role_use<'a>(role: Role, values: &[Found<'a>], place: usize, name: &'a [u8]) -> Use<'a>
     requires { place < length values.now }
     ensures { seen_use result ≡ role_use role (values_of (all_found values.now)) place name.now }

@@ -6,14 +6,14 @@ use indexmap::IndexSet;
 use std::alloc::{AllocError, Global};
 use std::marker::Model;
 
-/// A word of a memory.
+/// A word of a memory, by its address.
 #[derive(Clone, Copy, PartialEq, Eq, Hash)]
 pub(crate) struct MemoryWord<'a> {
     memory: &'a [u8],
     place: u8,
 }
 
-/// Words of memories in the order in which they came, each once.
+/// Words of memories, each once, in the order in which they were added.
 #[derive(Drop)]
 pub(crate) struct WordSet<'a> {
     words: IndexSet<MemoryWord<'a>>,
@@ -37,7 +37,7 @@ impl<'a> WordSet<'a> {
         }
     }
 
-    /// Adds the word of a place, where it isn't there.
+    /// Adds the word at an address, if it isn't there yet.
     pub(crate) fn push(&mut self, memory: &'a [u8], place: u8) -> Result<(), AllocError>
         ensures { OnOk result (self.new ≡ with_word self.old memory.now place) }
     {
@@ -45,7 +45,7 @@ impl<'a> WordSet<'a> {
         Ok(())
     }
 
-    /// Whether the word of a place is among them.
+    /// Whether the word at an address is among them.
     pub(crate) fn contains(&self, memory: &[u8], place: u8) -> bool
         ensures { result ≡ has_word self.now memory.now place }
     {

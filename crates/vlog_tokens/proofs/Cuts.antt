@@ -16,7 +16,7 @@ spots_from-covered offset (suc covered) (byte ∷ bytes) =
     let same : (offset + 1) + covered ≡ offset + suc covered = omega arith in
     spots_from-covered (offset + 1) covered bytes ∙ ap (λ at. spots_from at zero (drop covered bytes)) same
 
--- a byte at the front that is blank, or isn't
+-- a byte at the front that is white space, or isn't
 blank_step : (b : Bool) (offset byte : ℕ) (bytes : List ℕ) (rest : ℕ) → is_blank byte ≡ b → spots_from (offset + 1) zero bytes ≡ spots_from ((offset + 1) + rest) zero (drop rest bytes) → spots_from offset zero (byte ∷ bytes) ≡ spots_from (offset + cond (not (not b)) (1 + rest) 0) zero (drop (cond (not (not b)) (1 + rest) 0) (byte ∷ bytes))
 unfolding spots_from
 blank_step true offset byte bytes rest blank more =
@@ -29,14 +29,14 @@ blank_step false offset byte bytes rest blank more =
     let same : offset ≡ offset + 0 = omega arith in
     ap (λ at. spots_from at zero (byte ∷ bytes)) same
 
--- blanks at the front may be left out
+-- white space at the front may be left out
 pub spots_from-blanks : (offset : ℕ) (bytes : List ℕ) → spots_from offset zero bytes ≡ spots_from (offset + position_or_len (λ byte. not (is_blank byte)) bytes) zero (drop (position_or_len (λ byte. not (is_blank byte)) bytes) bytes)
 unfolding spots_from
 spots_from-blanks offset [] = refl
 spots_from-blanks offset (byte ∷ bytes) =
     blank_step (is_blank byte) offset byte bytes (position_or_len (λ byte. not (is_blank byte)) bytes) refl (spots_from-blanks (offset + 1) bytes)
 
--- where no blank stands, a token begins
+-- a token begins at a byte that isn't white space
 pub spots_from-token : (offset : ℕ) (bytes : List ℕ) → 0 < length bytes → is_blank (byte_at bytes 0) ≡ false → spots_from offset zero bytes ≡ spot offset (front_token bytes) ∷ spots_from (offset + front_length bytes) zero (drop (front_length bytes) bytes)
 unfolding spots_from
 spots_from-token offset [] some unblank = absurd (omega arith)
@@ -51,13 +51,13 @@ spots_from-token offset (byte ∷ bytes) some unblank =
     ∙ ap (λ at. spots_from at zero (drop n bytes)) far
     ∙ ap (λ left. spots_from (offset + front_length (byte ∷ bytes)) zero left) (sym rest))
 
--- the blanks from an offset on may be left out
+-- the white space from an offset on may be left out
 pub spots_at-blanks : (bytes : List ℕ) (from : ℕ) → spots_at bytes from ≡ spots_at bytes (from + position_or_len (λ byte. not (is_blank byte)) (drop from bytes))
 spots_at-blanks bytes from =
     let skipped : ℕ = position_or_len (λ byte. not (is_blank byte)) (drop from bytes) in
     spots_from-blanks from (drop from bytes) ∙ ap (λ left. spots_from (from + skipped) zero left) (drop-drop skipped from bytes)
 
--- no blank stands behind them
+-- no white space follows them
 pub unblank_behind : (bytes : List ℕ) (from : ℕ) → from + position_or_len (λ byte. not (is_blank byte)) (drop from bytes) < length bytes → is_blank (byte_at bytes (from + position_or_len (λ byte. not (is_blank byte)) (drop from bytes))) ≡ false
 unblank_behind bytes from inside =
     let skipped : ℕ = position_or_len (λ byte. not (is_blank byte)) (drop from bytes) in

@@ -1,6 +1,6 @@
 -- the tokens from an offset on
 pub mod Cuts
--- every token has a byte at least, and stands within the text
+-- every token has at least one byte, and lies within the text
 pub mod Lengths
 -- at each place the longest token is taken
 pub mod Longest

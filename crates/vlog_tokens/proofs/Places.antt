@@ -3,7 +3,7 @@ use Rattle.std.proofs.Common.{◌≡◌, ℕ, ◌<◌, List, length, get_or, ari
 use Rattle.std.proofs.lemmas.Bool.{cases_lt}
 use Rattle.std.proofs.lemmas.List.{get_or_past}
 
--- a byte that isn't 0 stands within the text
+-- a byte that isn't 0 lies within the text
 pub present : (bytes : List ℕ) (place : ℕ) → 0 < get_or bytes place 0 → place < length bytes
 present bytes place more =
     elim (cases_lt place (length bytes)) [

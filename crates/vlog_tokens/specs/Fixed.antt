@@ -1,10 +1,10 @@
--- Signs and reserved words: the tokens of which there is one spelling.
+-- Signs and reserved words: the tokens that have only one spelling (IEEE Std 1364-2005, clause 3, as far as the subset has them).
 use Rattle.std.specs.Prelude.{ℕ, ◌&&◌, List, ◌==◌, if◌then◌else◌, Option, Some, None, codes}
 use Rattle.std.specs.Str.{bytes_eq}
 use Rattle.vlog_tokens.specs.declared.fixed.Fixed.{Fixed}
 use Rattle.vlog_tokens.specs.declared.fixed.Fixed.TheVariants.{OpenParen, CloseParen, OpenBracket, CloseBracket, OpenBrace, CloseBrace, Comma, Semicolon, Colon, Equals, LessEquals, And, Or, Not, ShiftLeft, ShiftRight, At, Question, Module, Endmodule, Input, Output, Reg, Wire, Assign, Always, Posedge, Negedge, If, Begin, End, Else, Initial, OrEdge}
 
--- how each is spelled
+-- how each of them is spelled
 abbrev pub fixed_text : Fixed → List ℕ
 fixed_text OpenParen = codes "("
 fixed_text CloseParen = codes ")"
@@ -41,7 +41,7 @@ fixed_text Else = codes "else"
 fixed_text Initial = codes "initial"
 fixed_text OrEdge = codes "or"
 
--- the reserved word of a spelling
+-- the reserved word with this spelling, if there is one
 unfoldable pub word_of : List ℕ → Option Fixed
 word_of text =
     if bytes_eq text (codes "module") then Some Module else
@@ -62,7 +62,7 @@ word_of text =
     if bytes_eq text (codes "or") then Some OrEdge else
     None
 
--- the sign of two bytes
+-- the sign of two bytes that these two bytes are, if any
 unfoldable pub pair_of : ℕ → ℕ → Option Fixed
 pair_of first second =
     if (first == 60) && (second == 61) then Some LessEquals else
@@ -70,7 +70,7 @@ pair_of first second =
     if (first == 62) && (second == 62) then Some ShiftRight else
     None
 
--- the sign of one byte
+-- the sign of one byte that this byte is, if any
 unfoldable pub sign_of : ℕ → Option Fixed
 sign_of byte =
     if byte == 40 then Some OpenParen else

@@ -1,4 +1,4 @@
--- What spells a token, and the longest token that begins at the front of bytes.
+-- Which bytes spell a token, and the longest token at the front of bytes (IEEE Std 1364-2005, 3.1 lexical tokens).
 use Rattle.std.specs.Prelude.{◌≡◌, ◌≢◌, ◌≤◌, ◌<◌, ℕ, ◌+◌, ◌*◌, true, List, [], ◌∷◌, ◌++◌, codes, drop, fold, length, take, if◌then◌else◌}
 use Rattle.std.specs.List.{list_all}
 use Rattle.vlog_tokens.specs.declared.fixed.Fixed.{Fixed}
@@ -7,7 +7,7 @@ use Rattle.vlog_tokens.specs.Fixed.{fixed_text}
 use Rattle.vlog_tokens.specs.Tokens.{TokenValue}
 use Rattle.vlog_tokens.specs.Tokens.{TokenValue as token}
 
--- the number that digits write, the most significant first
+-- the number that digits spell, the most significant digit first
 abbrev pub number_in : ℕ → (ℕ → ℕ) → List ℕ → ℕ
 number_in base value digits = fold (λ number digit. base * number + value digit) 0 digits
 
@@ -40,11 +40,11 @@ IsSpelling text (token.word value) = IsWordText text value
 IsSpelling text (token.number value) = IsNumberText text value
 IsSpelling text token.stray = ⊥
 
--- no more than that many bytes at the front spell a token
+-- no token is spelled by more than this many bytes at the front
 abbrev pub AreAtMost : List ℕ → ℕ → Type 0
 AreAtMost bytes most = (count : ℕ) (other : TokenValue) → count ≤ length bytes → IsSpelling (take count bytes) other → count ≤ most
 
--- that many bytes at the front spell the token, and no more bytes there spell one; or one byte is stray, since none does
+-- this many bytes at the front spell the token, and no more bytes there spell one; or no token begins there, and one byte is stray
 abbrev pub IsLongest : List ℕ → TokenValue → ℕ → Type 0
 IsLongest bytes token.stray count = (count ≡ 1) × AreAtMost bytes 0
 IsLongest bytes token count = IsSpelling (take count bytes) token × AreAtMost bytes count

@@ -1,4 +1,4 @@
--- The tokens of a text, each by its value and with its offset.
+-- The tokens of a text, each with its value and its offset (IEEE Std 1364-2005, 3.1 lexical tokens).
 use Rattle.std.specs.Prelude.{ℕ, zero, suc, ◌+◌, ◌-◌, Bool, not, List, [], ◌∷◌, take, drop, ◌==◌, if◌then◌else◌, Option, Some, None}
 use Rattle.std.specs.List.{position_or_len}
 use Rattle.vlog_tokens.specs.Bytes.{is_blank, is_letter, is_digit, is_name_byte, byte_at, is_bit_text, is_word_text, word_value, number_length, number_value}
@@ -7,7 +7,7 @@ use Rattle.vlog_tokens.specs.declared.fixed.Fixed.{Fixed}
 use Rattle.vlog_tokens.specs.declared.token.Token.{Token}
 use Rattle.vlog_tokens.specs.declared.token.Token.TheVariants as read
 
--- a token by its value
+-- the value of a token: what its spelling stands for
 pub data TokenValue : Type 0 where
   fixed : Fixed → TokenValue
   name : List ℕ → TokenValue
@@ -17,7 +17,7 @@ pub data TokenValue : Type 0 where
   -- a byte at which no token begins
   stray : TokenValue
 
--- the value of a token that was read
+-- the value of a token of the code
 abbrev pub seen : Token → TokenValue
 seen (read.Fixed sign) = fixed sign
 seen (read.Name text) = name text.now
@@ -34,20 +34,20 @@ pub record Spot : Type 0 where
 abbrev pub spot : ℕ → TokenValue → Spot
 spot offset token = record { offset = offset; token = token }
 
--- the reserved word, where there is one, else the name
+-- the reserved word if there is one, else the name
 abbrev pub word_or_name : Option Fixed → List ℕ → TokenValue
 word_or_name (Some reserved) text = fixed reserved
 word_or_name None text = name text
 
--- what a text of letters, digits and underscores is
+-- the token that letters, digits and underscores make: a reserved word or a name
 unfoldable pub name_or_word : List ℕ → TokenValue
 name_or_word text = word_or_name (word_of text) text
 
--- how many bytes at the front a name has
+-- how many bytes at the front belong to a name
 abbrev pub name_length : List ℕ → ℕ
 name_length bytes = position_or_len (λ byte. not (is_name_byte byte)) bytes
 
--- the token at the front, where a digit stands, and its length
+-- the token at the front, if the first byte is a digit, and its length
 unfoldable pub digits_token : List ℕ → TokenValue
 digits_token bytes =
     if is_bit_text bytes then bit (byte_at bytes 3 == 49)
@@ -57,7 +57,7 @@ digits_token bytes =
 unfoldable pub digits_length : List ℕ → ℕ
 digits_length bytes = if is_bit_text bytes then 4 else if is_word_text bytes then 8 else number_length bytes
 
--- a sign of two bytes, else one of one byte, else a stray byte
+-- a sign of two bytes if there is one, else a sign of one byte, else a stray byte
 abbrev pub first_sign : Option Fixed → Option Fixed → TokenValue
 first_sign (Some pair) single = fixed pair
 first_sign None (Some single) = fixed single
@@ -67,14 +67,14 @@ abbrev pub first_length : Option Fixed → ℕ
 first_length (Some pair) = 2
 first_length None = 1
 
--- the token at the front, where neither a letter nor a digit stands, and its length
+-- the token at the front, if the first byte is neither a letter nor a digit, and its length
 unfoldable pub sign_token : List ℕ → TokenValue
 sign_token bytes = first_sign (pair_of (byte_at bytes 0) (byte_at bytes 1)) (sign_of (byte_at bytes 0))
 
 unfoldable pub sign_length : List ℕ → ℕ
 sign_length bytes = first_length (pair_of (byte_at bytes 0) (byte_at bytes 1))
 
--- the longest token at the front, where no blank stands, and its length
+-- the longest token at the front, if the first byte isn't white space, and its length
 unfoldable pub front_token : List ℕ → TokenValue
 front_token bytes =
     if is_letter (byte_at bytes 0) then name_or_word (take (name_length bytes) bytes)
@@ -87,7 +87,7 @@ front_length bytes =
     else if is_digit (byte_at bytes 0) then digits_length bytes
     else sign_length bytes
 
--- the tokens of bytes of which the first has this offset; so many bytes at the front belong to an earlier token
+-- the tokens of bytes whose first byte has this offset; the first `covered` bytes belong to an earlier token
 unfoldable pub spots_from : ℕ → ℕ → List ℕ → List Spot
 spots_from offset covered [] = []
 spots_from offset (suc covered) (byte ∷ bytes) = spots_from (offset + 1) covered bytes

@@ -1,9 +1,9 @@
-// Sorts of bytes, and the values of digits.
+// Kinds of bytes, and the values of digits.
 ghost use Rattle.std.specs.Prelude.{◌≡◌, ◌<◌, ◌≤◌, ◌+◌, length, drop, position, not};
 ghost use Rattle.std.specs.List.{position_or_len};
 ghost use Rattle.vlog_tokens.specs.Bytes.{is_blank, is_letter, is_digit, is_name_byte, is_hex_digit, hex_value, digit_value, byte_at};
 
-/// Whether the byte is a space, a tab, CR or LF.
+/// Whether the byte is white space: a space, a tab, CR or LF.
 pub(crate) fn is_blank(byte: u8) -> bool
     ensures { result ≡ is_blank byte }
 {
@@ -24,7 +24,7 @@ pub(crate) fn is_digit(byte: u8) -> bool
     byte.is_ascii_digit()
 }
 
-/// Whether a name may go on with the byte.
+/// Whether a name may have the byte after its first: a letter, an underscore or a digit.
 fn is_name_byte(byte: u8) -> bool
     ensures { result ≡ is_name_byte byte }
 {
@@ -62,14 +62,14 @@ pub(crate) fn digit_value(byte: u8) -> u8
     if is_digit(byte) { byte - b'0' } else { 0 }
 }
 
-/// The byte at a place, and 0 past the end.
+/// The byte at an index, and 0 past the end.
 pub(crate) fn byte_at(bytes: &[u8], place: usize) -> u8
     ensures { result ≡ byte_at bytes.now place }
 {
     if place < bytes.len() { bytes[place] } else { 0 }
 }
 
-/// How many bytes at the front may stand in a name.
+/// How many bytes at the front a name may have after its first: the index of the first other byte.
 pub(crate) fn name_length(bytes: &[u8]) -> usize
     ensures { result ≡ position_or_len (λ byte. not (is_name_byte byte)) bytes.now }
 {
@@ -79,14 +79,14 @@ pub(crate) fn name_length(bytes: &[u8]) -> usize
     }
 }
 
-/// Where the first byte stands that no name may go on with.
+/// The index of the first byte that no name has, if there is one.
 fn first_other(bytes: &[u8]) -> Option<usize>
     ensures { result ≡ position (λ byte. not (is_name_byte byte)) bytes.now }
 {
     bytes.iter().position(|byte| !is_name_byte(*byte))
 }
 
-/// How many bytes at the front are blank.
+/// How many bytes at the front are white space.
 pub(crate) fn blank_length(bytes: &[u8]) -> usize
     ensures place { result ≡ position_or_len (λ byte. not (is_blank byte)) bytes.now }
     ensures within { result ≤ length bytes.now }
@@ -97,14 +97,14 @@ pub(crate) fn blank_length(bytes: &[u8]) -> usize
     }
 }
 
-/// Where the first byte stands that is no blank.
+/// The index of the first byte that isn't white space, if there is one.
 fn first_unblank(bytes: &[u8]) -> Option<usize>
     ensures { result ≡ position (λ byte. not (is_blank byte)) bytes.now }
 {
     bytes.iter().position(|byte| !is_blank(*byte))
 }
 
-/// The bytes from a place on.
+/// The bytes from an index on.
 pub(crate) fn rest_from(bytes: &[u8], from: usize) -> &[u8]
     requires { from ≤ length bytes.now }
     ensures rest { result.now ≡ drop from bytes.now }

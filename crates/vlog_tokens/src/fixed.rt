@@ -2,7 +2,7 @@
 ghost use Rattle.std.specs.Prelude.{◌≡◌};
 ghost use Rattle.vlog_tokens.specs.Fixed.{fixed_text, pair_of, sign_of, word_of};
 
-/// A token of which there is one spelling: a sign or a reserved word.
+/// A token that has only one spelling: a sign or a reserved word.
 #[derive(Clone, Copy, Debug, PartialEq, Eq)]
 pub enum Fixed {
     OpenParen,
@@ -43,7 +43,7 @@ pub enum Fixed {
 }
 
 impl Fixed {
-    /// How it is spelled.
+    /// How the token is spelled.
     pub fn text(self) -> &'static [u8]
         ensures { result.now ≡ fixed_text self }
     {
@@ -86,7 +86,7 @@ impl Fixed {
     }
 }
 
-/// The reserved word of this spelling.
+/// The reserved word with this spelling, if there is one.
 #[tactic(auto, unfolding(crate::specs::Fixed::word_of))]
 pub fn fixed_word(text: &[u8]) -> Option<Fixed>
     ensures { result ≡ word_of text.now }
@@ -128,7 +128,7 @@ pub fn fixed_word(text: &[u8]) -> Option<Fixed>
     }
 }
 
-/// The sign of two bytes that these two are.
+/// The sign that these two bytes are, if any.
 #[tactic(auto, unfolding(crate::specs::Fixed::pair_of))]
 pub(crate) fn fixed_pair(first: u8, second: u8) -> Option<Fixed>
     ensures { result ≡ pair_of first second }
@@ -144,7 +144,7 @@ pub(crate) fn fixed_pair(first: u8, second: u8) -> Option<Fixed>
     }
 }
 
-/// The sign of one byte that this one is.
+/// The sign that this byte is, if any.
 #[tactic(auto, unfolding(crate::specs::Fixed::sign_of))]
 pub(crate) fn fixed_sign(byte: u8) -> Option<Fixed>
     ensures { result ≡ sign_of byte }

@@ -1,8 +1,7 @@
-//! The tokens of the Verilog subset: names, reserved words, signs, bits, words of 16 bits and short decimal numbers.
+//! The lexer of the Verilog subset. Its tokens are names, reserved words, signs, bits, words of 16 bits and short decimal numbers.
 //!
-//! At each place the longest token is taken. Spaces, tabs, CR and LF part tokens and are otherwise nothing. A byte at which no
-//! token begins is a token of its own, one that fits nowhere. Nothing here takes memory: the text of a name is part of the
-//! input.
+//! The lexer always takes the longest token. White space (space, tab, CR, LF) separates tokens and means nothing else. A byte at which no
+//! token begins is a stray token, which no form takes. Nothing here allocates: the text of a name is a part of the input.
 #![tactic(auto)]
 
 mod bytes;

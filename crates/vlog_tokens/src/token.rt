@@ -1,4 +1,4 @@
-// Tokens one after another.
+// The tokens of a text, one after another.
 ghost use Rattle.std.specs.Prelude.{◌≡◌, ◌+◌, ◌-◌, ◌<◌, ◌≤◌, [], ◌∷◌, length, drop, false, MatchOption, IfSome};
 ghost use Rattle.vlog_tokens.specs.Bytes.{is_blank, is_bit_text, is_word_text, word_value, number_length, number_value, byte_at};
 ghost use Rattle.vlog_tokens.specs.Spellings.{IsLongest};
@@ -27,7 +27,7 @@ pub enum Token<'a> {
     Stray,
 }
 
-/// A token, the offset of its first byte, and the offset behind its last one.
+/// A token, the offset of its first byte, and the offset after its last byte.
 #[derive(Clone, Copy, Debug)]
 pub struct Spot<'a> {
     pub token: Token<'a>,
@@ -35,7 +35,7 @@ pub struct Spot<'a> {
     pub end: usize,
 }
 
-/// The first token from an offset on, the longest that begins there: none where only blanks follow.
+/// The first token from an offset on, the longest that begins there. None if only white space follows.
 pub fn next_token(bytes: &[u8], from: usize) -> Option<Spot<'_>>
     requires { from ≤ length bytes.now }
     ensures spots { MatchOption result (spots_at bytes.now from ≡ [])
@@ -56,7 +56,7 @@ pub fn next_token(bytes: &[u8], from: usize) -> Option<Spot<'_>>
     })
 }
 
-/// Where the first byte from an offset on stands that is no blank, or the end.
+/// The offset of the first byte from an offset on that isn't white space, or the end of the text.
 fn skip_blanks(bytes: &[u8], from: usize) -> usize
     requires { from ≤ length bytes.now }
     ensures same { spots_at bytes.now from ≡ spots_at bytes.now result }
@@ -66,7 +66,7 @@ fn skip_blanks(bytes: &[u8], from: usize) -> usize
     from + blank_length(rest_from(bytes, from))
 }
 
-/// The token at the front, where no blank stands, and its length.
+/// The token at the front and its length. The first byte isn't white space.
 #[tactic(auto, using(crate::proofs::Lengths::front_within), unfolding(crate::specs::Tokens::front_token, crate::specs::Tokens::front_length))]
 fn front_token(bytes: &[u8]) -> (Token<'_>, usize)
     requires { 0 < length bytes.now }
@@ -85,7 +85,7 @@ fn front_token(bytes: &[u8]) -> (Token<'_>, usize)
     }
 }
 
-/// The reserved word of this spelling, else the name.
+/// The reserved word with this spelling, else a name.
 #[tactic(auto, unfolding(crate::specs::Tokens::name_or_word))]
 fn name_or_word(text: &[u8]) -> Token<'_>
     ensures { seen result ≡ name_or_word text.now }
@@ -96,7 +96,7 @@ fn name_or_word(text: &[u8]) -> Token<'_>
     }
 }
 
-/// The token at the front, where a digit stands, and its length.
+/// The token at the front and its length, if the first byte is a digit.
 #[tactic(auto, unfolding(crate::specs::Tokens::digits_token, crate::specs::Tokens::digits_length))]
 fn digits_token(bytes: &[u8]) -> (Token<'_>, usize)
     ensures token { seen result.0 ≡ digits_token bytes.now }
@@ -111,7 +111,7 @@ fn digits_token(bytes: &[u8]) -> (Token<'_>, usize)
     }
 }
 
-/// The token at the front, where neither a letter nor a digit stands, and its length.
+/// The token at the front and its length, if the first byte is neither a letter nor a digit.
 #[tactic(auto, unfolding(crate::specs::Tokens::sign_token, crate::specs::Tokens::sign_length))]
 fn sign_token(bytes: &[u8]) -> (Token<'_>, usize)
     ensures token { seen result.0 ≡ sign_token bytes.now }
@@ -150,7 +150,7 @@ fn is_word_text(bytes: &[u8]) -> bool
         && is_hex_digit(byte_at(bytes, 7))
 }
 
-/// The word that the text begins with.
+/// The word at the front, after `16'h`.
 fn word_value(bytes: &[u8]) -> u16
     ensures { result ≡ word_value bytes.now }
 {
@@ -161,7 +161,7 @@ fn word_value(bytes: &[u8]) -> u16
     256 * high + low
 }
 
-/// How many of the first three bytes are digits of one number.
+/// How many digits the number at the front has: three at most.
 fn number_length(bytes: &[u8]) -> usize
     ensures { result ≡ number_length bytes.now }
 {
@@ -174,7 +174,7 @@ fn number_length(bytes: &[u8]) -> usize
     }
 }
 
-/// The number of at most three digits that the text begins with.
+/// The value of the number at the front, which has at most three digits.
 fn number_value(bytes: &[u8]) -> u16
     ensures { result ≡ number_value bytes.now }
 {

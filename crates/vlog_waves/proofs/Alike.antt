@@ -28,7 +28,7 @@ bits-step false ports inputs outputs place i within =
     (drop-drop 1 i inputs)
     ∙ ap (λ n. get_or inputs i false ∷ port_bits ports (drop (i + 1) inputs) (drop n outputs)) same
 
--- the bits of the ports from a place on: the first one, and those behind it
+-- the bits of the ports from an index on: the first one, and those after it
 pub bits-cut : (ports : List Port) (inputs outputs : List Bool) (place i : ℕ) (d : Port) → place < length ports → i ≤ place
     → port_bits (drop place ports) (drop i inputs) (drop (place - i) outputs)
     ≡ (if (get_or ports place d).output then get_or outputs (place - i) false else get_or inputs i false)

@@ -23,7 +23,7 @@ last-one : text_of (codes "$end" ∷ []) ≡ codes "$end\n"
 unfolding text_of
 last-one = refl
 
--- the whole
+-- the whole text
 pub beginning-text : (name : List ℕ) (variables values : List (List ℕ))
     → text_of ((codes "$timescale 1 ns $end" ∷ (codes "$scope module " ++ (name ++ codes " $end")) ∷ variables ++ (codes "$upscope $end" ∷ codes "$enddefinitions $end" ∷ []))
     ++ (time_line 0 ∷ codes "$dumpvars" ∷ values ++ codes "$end" ∷ []))

@@ -27,7 +27,7 @@ values-append number (value ∷ some) more =
     let same : suc number + length some ≡ number + suc (length some) = omega arith in
     ap (λ lines. value_line number value ∷ lines) (values-append (suc number) some more ∙ ap (λ n. value_lines (suc number) some ++ value_lines n more) same)
 
--- the values from a place on: the first one, and those behind it
+-- the values from an index on: the first one, and those after it
 pub values-cut : {A : Type 0} (value : A → Value) (number : ℕ) (list : List A) (place : ℕ) (d : A) → place < length list
     → text_of (value_lines (number + place) (map value (drop place list)))
     ≡ text_of (value_line (number + place) (value (get_or list place d)) ∷ []) ++ text_of (value_lines (number + (place + 1)) (map value (drop (place + 1) list)))
@@ -69,7 +69,7 @@ pub same-word : (number old new : ℕ) → old ≡ new → text_of (changed_line
 same-word number old new is =
     ap (λ (same : Bool). text_of ((if same then [] else value_line number (sixteen_bits new) ∷ []) ++ [])) (eq-eqb old new is) ∙ text_of-none
 
--- the changes from a place on: that of the first value, and those behind it
+-- the changes from an index on: that of the first value, and those after it
 pub changed-cut : {A : Type 0} (value : A → Value) (number : ℕ) (before after : List A) (place : ℕ) (d e : A) → place < length before → length before ≡ length after
     → text_of (changed_lines (number + place) (map value (drop place before)) (map value (drop place after)))
     ≡ text_of (changed_lines (number + place) (value (get_or before place d) ∷ []) (value (get_or after place e) ∷ []))
@@ -93,7 +93,7 @@ changed-end {A = A} value number before after place past =
 
 -- ---- words
 
--- the digits from a place on: the first one, and those behind it
+-- the digits from an index on: the first one, and those after it
 pub digits-cut : (word place : ℕ) → place < 16 → word_digits (16 - place) word ≡ (48 + word / 2 ^ (15 - place) % 2) ∷ word_digits (16 - (place + 1)) word
 unfolding word_digits
 digits-cut word place within =
@@ -111,7 +111,7 @@ unfolding word_digits
 length-digits zero word = refl
 length-digits (suc bits) word = ap suc (length-digits bits word)
 
--- ---- the variables of four kinds, one behind the other
+-- ---- the variables of four kinds, one after another
 
 variables-two : (number : ℕ) (a b : List Variable) → text_of (variable_lines number (a ++ b)) ≡ text_of (variable_lines number a) ++ text_of (variable_lines (number + length a) b)
 variables-two number a b = ap text_of (variables-append number a b) ∙ text_of-append (variable_lines number a) (variable_lines (number + length a) b)

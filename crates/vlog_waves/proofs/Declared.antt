@@ -46,7 +46,7 @@ pub count-next : (kind : Kind) (items : List Item) (place : ℕ) (item : Item) �
 count-next kind items place item within is =
     count-cut kind items place item within ∙ ap (λ (one : Item). length (declared_by kind one) + length (names_of_kind kind (drop (place + 1) items))) (sym is)
 
--- the lines of variables of a kind behind others
+-- the lines of variables of a kind, after others
 pub kinds-append : (kind : kind_told) (number : ℕ) (some more : List (List ℕ)) → text_of (variable_lines number (of_kind kind (some ++ more)))
     ≡ text_of (variable_lines number (of_kind kind some)) ++ text_of (variable_lines (number + length some) (of_kind kind more))
 kinds-append kind number some more =

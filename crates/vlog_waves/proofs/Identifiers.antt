@@ -40,7 +40,7 @@ identifier_step number =
           ap (λ digits. map (λ digit. 33 + digit) ((number % 94) ∷ digits)) (same-digits number (suc (number / 94)) (number / 94) less own)
     ]) refl
 
--- where there is more than one
+-- if there is more than one
 pub identifier-more : (number : ℕ) → 94 ≤ number → identifier number ≡ (33 + number % 94) ∷ identifier (number / 94)
 identifier-more number most =
     identifier_step number ∙ ap (λ last. (33 + number % 94) ∷ (if last then [] else identifier (number / 94))) (le-ltb number 94 most)

@@ -12,7 +12,7 @@ pub mod Declared
 pub mod Alike
 -- texts that are written to a sink piece by piece
 pub mod Sent
--- runs whose changes are told
+-- runs whose changes are dumped
 pub mod Tracing
 -- the lines before the first event
 pub mod Beginning

@@ -9,7 +9,7 @@ use Rattle.ice_io.specs.declared.sink.PutFault.{PutFault}
 use Rattle.ice_io.specs.Put.{written_before}
 use Rattle.vlog_waves.specs.inside.Sent.{Sends}
 
--- a piece behind those before
+-- a piece after those before
 pub Sends-next : (a b c : Option (List ℕ)) (sent now : ℕ) (pieces piece : List ℕ) (result : Result ℕ PutFault) → Sends a b sent pieces (Ok now) → Sends b c now piece result → Sends a c sent (pieces ++ piece) result
 Sends-next a b c sent now pieces piece (Ok after) before next =
     (Appends-trans a b c pieces piece before.0 next.0, omega (arith, before.1, next.1, length-append pieces piece))
@@ -22,7 +22,7 @@ Sends-next a b c sent now pieces piece (Err fault) before next =
       omega (arith, before.1, next.2, length-append pieces piece),
     )
 
--- where writing failed within the first pieces, it failed within all of them
+-- if writing failed within the first pieces, it failed within all of them
 pub Sends-front : (a c : Option (List ℕ)) (sent : ℕ) (pieces more : List ℕ) (fault : PutFault) → Sends a c sent pieces (Err fault) → Sends a c sent (pieces ++ more) (Err fault)
 Sends-front a c sent pieces more fault front =
     let written : ℕ = written_before fault in (

@@ -35,7 +35,7 @@ pub part-made : {A : Type 0} (all now rest part more after : List A) → now ++ 
 part-made {A = A} all now rest part more after so_far cut made =
     ap (λ (text : List A). text ++ more) made ∙ append_assoc now part more ∙ ap (λ (text : List A). now ++ text) (sym cut) ∙ so_far
 
--- the part fits where all does
+-- the part fits if all does
 pub part-fits : (all now rest part more : List ℕ) → now ++ rest ≡ all → rest ≡ part ++ more → length now + length part ≤ length all
 part-fits all now rest part more so_far cut =
     omega (arith, ap length so_far, ap length cut, length-append now rest, length-append part more)
@@ -44,7 +44,7 @@ part-fits all now rest part more so_far cut =
 pub all-made : {A : Type 0} (all now rest : List A) → now ++ rest ≡ all → rest ≡ [] → now ≡ all
 all-made {A = A} all now rest so_far none = sym (append-nil now) ∙ ap (λ (text : List A). now ++ text) (sym none) ∙ so_far
 
--- ---- four texts, one behind the other
+-- ---- four texts, one after another
 
 pub four-joined : (start one two three four a b c d : List ℕ) → one ≡ start ++ a → two ≡ one ++ b → three ≡ two ++ c → four ≡ three ++ d → four ≡ start ++ (a ++ (b ++ (c ++ d)))
 four-joined start one two three four a b c d first second third fourth =
@@ -88,7 +88,7 @@ line-made start one two three four five a b c name d e first second third fourth
 pub length-one : (line : List ℕ) → length (text_of (line ∷ [])) ≡ length line + 1
 length-one line = ap length (text_of_one line) ∙ length-append line (10 ∷ [])
 
--- a byte, something behind it, and the line's end
+-- a byte, something after it, and the line's end
 pub short-made : (start one two three : List ℕ) (byte : ℕ) (rest : List ℕ) → one ≡ start ++ byte ∷ [] → two ≡ one ++ rest → three ≡ two ++ 10 ∷ [] → three ≡ start ++ text_of ((byte ∷ rest) ∷ [])
 short-made start one two three byte rest first second third =
     let end : List ℕ = 10 ∷ [] in

@@ -1,4 +1,4 @@
--- Runs whose changes are told.
+-- Runs whose changes are dumped.
 use Rattle.std.proofs.Common.{◌≡◌, ◌∙◌, ℕ, suc, ◌+◌, ◌<◌, ◌≤◌, List, [], ◌∷◌, ◌++◌, drop, drop_of_length-le, get_or, length, take, Option, Ok, Err, refl, ap, sym, subst, append_assoc, arith}
 use Rattle.std.proofs.KnownBytes.{Appends-nil}
 use Rattle.std.proofs.lemmas.List.{drop_more}
@@ -45,7 +45,7 @@ waves-whole m events =
 
 -- ---- event by event
 
--- the lines of the events from a place on: those of the first one, and those behind them
+-- the lines of the events from an index on: those of the first one, and those after them
 pub lines-cut : (m : Parts) (entry : Entry) (events : List Event) (place : ℕ) (d : Event) → place < length events
     → text_of (lines_after m (place + 1) (last_entry m entry (take place events)) (drop place events))
     ≡ text_of (lines_of_event m (place + 1) (last_entry m entry (take place events)) (get_or events place d))
@@ -59,7 +59,7 @@ lines-cut m entry events place d within =
     ∙ ap (λ n. text_of (lines_of_event m (place + 1) last event) ++ text_of (lines_after m n (followed m last event) (drop (place + 1) events))) same
     ∙ ap (λ after. text_of (lines_of_event m (place + 1) last event) ++ text_of (lines_after m (place + 1 + 1) after (drop (place + 1) events))) (sym (last-more m entry events place d within))
 
--- the lines of the first events are sent, and the runner is where these have brought it
+-- the lines of the first events are sent, and the runner is in the state after these
 pub record Going (m : Parts) (entry : Entry) (held now : Option (List ℕ)) (before sent : ℕ) (tracer : Tracer) (events : List Event) (place : ℕ) : Type 0 where
   pub piece : List ℕ
   pub sends : Sends held now before piece (Ok sent)
@@ -91,7 +91,7 @@ going-next m entry held now next before sent more tracer after events place d li
       traces = subst (Traces after m) (sym (last-more m entry events place d within)) traces;
     }
 
--- where sending the lines of an event failed, sending those of all events did
+-- if sending the lines of an event failed, sending those of all events did
 pub going-failed : (m : Parts) (entry : Entry) (held now next : Option (List ℕ)) (before sent : ℕ) (tracer : Tracer) (events : List Event) (place : ℕ) (d : Event) (line : List ℕ) (fault : PutFault)
     → place < length events → Going m entry held now before sent tracer events place
     → line ≡ text_of (lines_of_event m (place + 1) (last_entry m entry (take place events)) (get_or events place d))

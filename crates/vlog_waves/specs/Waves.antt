@@ -1,4 +1,4 @@
--- The waves of a run: a value change dump, as simulators write it and wave viewers read it.
+-- The waves of a run: a VCD, the value change dump of IEEE Std 1364-2005, 18.2. Identifiers and the order are this project's choice.
 use Rattle.std.specs.Prelude.{ℕ, zero, suc, ◌+◌, ◌/◌, ◌%◌, ◌^◌, ◌==◌, Bool, false, not, List, [], ◌∷◌, ◌++◌, codes, decimal, map, nat_lt, if◌then◌else◌}
 use Rattle.text_lines.specs.Written.{text_of}
 use Rattle.vlog_module.specs.Parts.{Parts}
@@ -10,14 +10,14 @@ use Rattle.vlog_waves.specs.Variables.{Kind, Value, Variable, values_in, variabl
 use Rattle.vlog_waves.specs.Variables.Kind.{wire_kind, register_kind, word_kind}
 use Rattle.vlog_waves.specs.Variables.Value.{one_bit, sixteen_bits}
 
--- ---- what a variable is called
+-- ---- identifiers
 
 -- the digits of a number in base 94, the lowest first and no more than needed; there are at most `most`
 unfoldable pub identifier_digits : ℕ → ℕ → List ℕ
 identifier_digits zero number = []
 identifier_digits (suc most) number = number % 94 ∷ (if nat_lt number 94 then [] else identifier_digits most (number / 94))
 
--- the identifier of a variable by its number: a digit 0 is the byte 33, `!`, and a digit 93 the byte 126, `~`
+-- the identifier code of the variable with this number: digit 0 is the byte 33, `!`, and digit 93 is the byte 126, `~`
 unfoldable pub identifier : ℕ → List ℕ
 identifier number = map (λ digit. 33 + digit) (identifier_digits (suc number) number)
 
@@ -28,7 +28,7 @@ kind_text wire_kind = codes "wire 1 "
 kind_text register_kind = codes "reg 1 "
 kind_text word_kind = codes "reg 16 "
 
--- the bits of a variable, where it has more than one
+-- the range of a variable that has more than one bit
 abbrev pub range_text : Kind → List ℕ
 range_text word_kind = codes " [15:0]"
 range_text _ = []
@@ -37,7 +37,7 @@ abbrev pub variable_line : ℕ → Variable → List ℕ
 variable_line number variable =
     codes "$var " ++ (kind_text variable.kind ++ (identifier number ++ (32 ∷ variable.name ++ (range_text variable.kind ++ codes " $end"))))
 
--- the lines of variables with numbers from one on
+-- the declarations of variables, whose numbers begin with this one
 abbrev pub variable_lines : ℕ → List Variable → List (List ℕ)
 variable_lines number [] = []
 variable_lines number (variable ∷ variables) = variable_line number variable ∷ variable_lines (suc number) variables
@@ -51,7 +51,7 @@ head_lines m =
 
 -- ---- the values
 
--- so many lowest bits of a word as digits, the highest first
+-- the lowest bits of a word as digits, the highest first
 unfoldable pub word_digits : ℕ → ℕ → List ℕ
 word_digits zero word = []
 word_digits (suc bits) word = (48 + word / 2 ^ bits % 2) ∷ word_digits bits word
@@ -60,7 +60,7 @@ abbrev pub value_line : ℕ → Value → List ℕ
 value_line number (one_bit bit) = bit_digit bit ∷ identifier number
 value_line number (sixteen_bits word) = 98 ∷ word_digits 16 word ++ 32 ∷ identifier number
 
--- the lines of values with numbers from one on
+-- the values of variables, whose numbers begin with this one
 abbrev pub value_lines : ℕ → List Value → List (List ℕ)
 value_lines number [] = []
 value_lines number (value ∷ values) = value_line number value ∷ value_lines (suc number) values
@@ -70,7 +70,7 @@ is_same (one_bit a) (one_bit b) = if a then b else not b
 is_same (sixteen_bits a) (sixteen_bits b) = a == b
 is_same _ _ = false
 
--- the lines of the values that aren't what they were
+-- the values that are new, of variables whose numbers begin with this one
 abbrev pub changed_lines : ℕ → List Value → List Value → List (List ℕ)
 changed_lines number (old ∷ before) (new ∷ after) =
     (if is_same old new then [] else value_line number new ∷ []) ++ changed_lines (suc number) before after
@@ -83,7 +83,7 @@ time_line time = 35 ∷ decimal time
 abbrev pub start_lines : List Value → List (List ℕ)
 start_lines values = time_line 0 ∷ codes "$dumpvars" ∷ value_lines 0 values ++ codes "$end" ∷ []
 
--- what follows an entry: for each event its time, and the values that it changed
+-- for each event its number as the time, and the values that it changed
 abbrev pub event_lines : Parts → ℕ → Entry → List Entry → List (List ℕ)
 event_lines m time before [] = []
 event_lines m time before (after ∷ entries) =
@@ -93,6 +93,6 @@ abbrev pub run_lines : Parts → List Entry → List (List ℕ)
 run_lines m [] = []
 run_lines m (entry ∷ entries) = start_lines (values_in m entry) ++ event_lines m 1 entry entries
 
--- the waves of the run of a module over events
+-- the VCD of the run of a module over events
 unfoldable pub waves_text : Parts → List Event → List ℕ
 waves_text m events = text_of (head_lines m ++ run_lines m (module_run m events))

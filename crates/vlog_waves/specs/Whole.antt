@@ -1,4 +1,4 @@
--- The bytes of waves that are made while they are written.
+-- The bytes of a VCD that is made while it is written.
 use Rattle.std.specs.Prelude.{ℕ, List}
 use Rattle.vlog_waves.specs.declared.waves.Waves.{Waves}
 use Rattle.vlog_waves.specs.Waves.{waves_text}

@@ -1,4 +1,4 @@
--- What contracts within this crate cite, and no public one.
+-- Definitions that only contracts inside this crate cite.
 pub mod Declared
 pub mod Sent
 pub mod Tracing

@@ -1,5 +1,5 @@
-// The values that an event changed. The clauses `room` and `full` say that the text's capacity doesn't fall, and that only a lack of
-// room for what is added fails.
+// The lines of the values that an event changed. The clauses `room` and `full` say that the text's capacity doesn't get less, and that
+// adding fails only if the text has too little room.
 ghost use Rattle.std.specs.Prelude.{◌≡◌, ◌+◌, ◌<◌, ◌≤◌, ◌^◌, [], ◌∷◌, ◌++◌, length, map, vec_len, vec_capacity, OnOk, OnErr, if◌then◌else◌};
 ghost use Rattle.text_lines.specs.Written.{text_of};
 ghost use Rattle.vlog_waves.specs.Variables.Value.{one_bit, sixteen_bits};
@@ -46,7 +46,7 @@ fn push_changed_word(
     }
 }
 
-/// Adds the lines of the bits that changed. The variables have numbers from this one on.
+/// Adds the lines of the bits that changed. The numbers of their variables begin with this one.
 fn push_changed_bits(
     text: &mut Vec<u8>,
     number: usize,
@@ -65,7 +65,7 @@ fn push_changed_bits(
     Ok(())
 }
 
-/// Adds the lines of the words that changed. The variables have numbers from this one on.
+/// Adds the lines of the words that changed. The numbers of their variables begin with this one.
 fn push_changed_words(
     text: &mut Vec<u8>,
     number: usize,
@@ -102,7 +102,7 @@ fn push_changes(text: &mut Vec<u8>, before: &Values, after: &Values) -> Result<(
     push_changed_bits(text, before.first_wire(), &before.wires, &after.wires)
 }
 
-/// Adds the time of an event and the lines of the values that it changed. Where the text has room enough for these, it doesn't fail.
+/// Adds the time of an event and the lines of the values that it changed. This doesn't fail if the text has enough room for them.
 pub(crate) fn push_event(
     text: &mut Vec<u8>,
     time: u64,

@@ -1,4 +1,4 @@
-// The lines before the first event: the declarations, and the values at the start.
+// The lines before the first event: the declarations of the variables, and the values at the start.
 ghost use Rattle.std.specs.Prelude.{◌≡◌, ◌+◌, ◌<◌, ◌^◌, ◌∷◌, ◌++◌, [], IfOk, OnOk, codes, length, map};
 ghost use Rattle.text_lines.specs.Written.{text_of};
 ghost use Rattle.vlog_waves.specs.Variables.{of_kind, variables_of};
@@ -14,7 +14,7 @@ use crate::values::Values;
 use std::alloc::{AllocError, Global};
 use vlog_module::{Item, Module, Port};
 
-/// How the line of a variable begins.
+/// How the declaration of a variable begins.
 fn front(kind: Kind) -> &'static [u8]
     ensures { result.now ≡ codes "$var " ++ kind_text (kind_of kind) }
 {
@@ -25,7 +25,7 @@ fn front(kind: Kind) -> &'static [u8]
     }
 }
 
-/// How the line of a variable ends.
+/// How the declaration of a variable ends.
 fn end(kind: Kind) -> &'static [u8]
     ensures { result.now ≡ range_text (kind_of kind) ++ codes " $end\n" }
 {
@@ -35,7 +35,7 @@ fn end(kind: Kind) -> &'static [u8]
     }
 }
 
-/// Adds the line of a variable.
+/// Adds the declaration of a variable.
 fn push_variable(
     text: &mut Vec<u8>,
     kind: Kind,
@@ -52,7 +52,7 @@ fn push_variable(
     Ok(())
 }
 
-/// Adds the lines of the ports, which are the first variables.
+/// Adds the declarations of the ports, which are the first variables.
 fn push_ports(text: &mut Vec<u8>, ports: &[Port]) -> Result<(), AllocError>
     ensures { OnOk result (text.new.items ≡ text.old.items ++ text_of (variable_lines 0 (of_kind wire_kind (map (λ port. port.name) ports.now)))) }
 {
@@ -62,7 +62,7 @@ fn push_ports(text: &mut Vec<u8>, ports: &[Port]) -> Result<(), AllocError>
     Ok(())
 }
 
-/// Adds the line of the variable that an item declares, if it is one of this kind, and returns the next variable's number.
+/// Adds the declaration of an item's variable, if it is of this kind, and returns the number of the next variable.
 fn push_item(
     text: &mut Vec<u8>,
     item: &Item,
@@ -82,7 +82,7 @@ fn push_item(
     }
 }
 
-/// Adds the lines of the variables of a kind that items declare. They have numbers from this one on.
+/// Adds the declarations of the items' variables of this kind. Their numbers begin with this one.
 fn push_items(
     text: &mut Vec<u8>,
     items: &[Item],
@@ -99,7 +99,7 @@ fn push_items(
     Ok(())
 }
 
-/// Adds the lines of all variables.
+/// Adds the declarations of all variables.
 fn push_variables(text: &mut Vec<u8>, module: &Module, values: &Values) -> Result<(), AllocError>
     requires { Fits «module».now values.now }
     ensures { OnOk result (text.new.items ≡ text.old.items ++ text_of (variable_lines 0 (variables_of «module».now))) }
@@ -111,7 +111,7 @@ fn push_variables(text: &mut Vec<u8>, module: &Module, values: &Values) -> Resul
     push_items(text, items, Kind::Wire, values.first_wire())
 }
 
-/// The lines before the first event, for a module that has these values at the start.
+/// The lines before the first event of a module that has these values at the start.
 pub(crate) fn beginning(
     alloc: Global,
     module: &Module,

@@ -5,7 +5,7 @@ ghost use Rattle.vlog_waves.specs.inside.Declared.{declared_by};
 
 use vlog_module::{Item, Name};
 
-/// What an item declares.
+/// The kind of variable that an item declares.
 #[derive(Clone, Copy, Debug, PartialEq, Eq)]
 pub(crate) enum Kind {
     Wire,
@@ -15,7 +15,7 @@ pub(crate) enum Kind {
     Word,
 }
 
-/// The name of the variable that an item declares, if it is one of this kind.
+/// The name that an item declares, if it is of this kind.
 pub(crate) fn declared_name(item: &Item, kind: Kind) -> Option<&Name>
     ensures some { IfSome result (λ name. declared_by kind item.now ≡ name.now ∷ []) }
     ensures none { IfNone result (declared_by kind item.now ≡ []) }
@@ -28,7 +28,7 @@ pub(crate) fn declared_name(item: &Item, kind: Kind) -> Option<&Name>
     }
 }
 
-/// How many wires an item declares.
+/// How many wires an item declares: one or none.
 fn count_wire(item: &Item) -> usize
     ensures is { result ≡ length (declared_by Kind.Wire item.now) }
     ensures few { result ≤ 1 }

@@ -1,5 +1,5 @@
-//! The waves of a run: a value change dump of a module of the Verilog subset over events, as simulators write it and wave viewers
-//! read it.
+//! The waves of a run: a VCD (value change dump) of a module of the Verilog subset over events. Simulators write this format, and wave
+//! viewers read it.
 #![tactic(auto)]
 
 mod changes;

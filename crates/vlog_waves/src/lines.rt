@@ -1,5 +1,5 @@
-// Lines that are appended to a text. The clauses `room` and `full` say that the text's capacity doesn't fall, and that only a lack
-// of room for what is added fails.
+// Lines that are added to a text. The clauses `room` and `full` say that the text's capacity doesn't get less, and that adding fails only
+// if the text has too little room.
 ghost use Rattle.std.specs.Prelude.{◌≡◌, ◌+◌, ◌<◌, ◌≤◌, [], ◌∷◌, ◌++◌, decimal, length, vec_len, vec_capacity, OnOk, OnErr};
 ghost use Rattle.text_lines.specs.Written.{text_of};
 ghost use Rattle.vlog_cycle.specs.Text.{bit_digit};
@@ -19,7 +19,7 @@ pub(crate) fn push_byte(text: &mut Vec<u8>, byte: u8) -> Result<(), AllocError>
     Ok(())
 }
 
-/// Adds the identifier of a variable: its number in base 94 by the bytes from `!` to `~`, the lowest digit first.
+/// Adds the identifier code of a variable: its number in base 94 with the digits from `!` to `~`, the lowest digit first.
 #[tactic(auto, using(crate::proofs::Identifiers::identifier_step))]
 pub(crate) fn push_identifier(text: &mut Vec<u8>, number: usize) -> Result<(), AllocError>
     ensures text { OnOk result (text.new.items ≡ text.old.items ++ identifier number) }
@@ -41,7 +41,7 @@ fn bit_digit(bit: bool) -> u8
     if bit { b'1' } else { b'0' }
 }
 
-/// Adds the line of a variable that has this bit.
+/// Adds the line that gives a variable this bit.
 pub(crate) fn push_bit(text: &mut Vec<u8>, number: usize, bit: bool) -> Result<(), AllocError>
     ensures text { OnOk result (text.new.items ≡ text.old.items ++ text_of (value_line number (one_bit bit) ∷ [])) }
     ensures room { vec_capacity text.old ≤ vec_capacity text.new }
@@ -64,7 +64,7 @@ fn push_digits(text: &mut Vec<u8>, word: u16) -> Result<(), AllocError>
     Ok(())
 }
 
-/// Adds the line of a variable that has this word.
+/// Adds the line that gives a variable this word.
 #[tactic(auto, using(crate::proofs::Texts::text_of_one))]
 pub(crate) fn push_word(text: &mut Vec<u8>, number: usize, word: u16) -> Result<(), AllocError>
     ensures text { OnOk result (text.new.items ≡ text.old.items ++ text_of (value_line number (sixteen_bits word) ∷ [])) }

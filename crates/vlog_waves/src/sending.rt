@@ -1,4 +1,4 @@
-// Waves on their way to a sink.
+// Writes a VCD to a sink, piece by piece.
 ghost use Rattle.std.specs.Prelude.{◌≡◌, ◌+◌, ◌*◌, ◌<◌, ◌≤◌, ◌^◌, ◌++◌, All, length, OnErr};
 ghost use Rattle.ice_io.specs.Faults.{Rose};
 ghost use Rattle.text_lines.specs.Written.{text_of};
@@ -17,7 +17,7 @@ use ice_io::{PutFault, Sink, write_whole};
 use vlog_module::{Module, Port};
 use vlog_plan::Event;
 
-/// Writes a piece of a text of which `sent` bytes are written, and returns how many are written then.
+/// Writes a piece of a text after its first `sent` bytes, and returns how many bytes of it are written then.
 fn write_piece<K: Sink>(sink: &mut K, piece: &[u8], sent: usize) -> Result<usize, PutFault>
     requires { sent + length piece.now < 2 ^ 64 }
     ensures sends { Sends (K.held sink.old) (K.held sink.new) sent piece.now result }
@@ -32,7 +32,7 @@ fn write_piece<K: Sink>(sink: &mut K, piece: &[u8], sent: usize) -> Result<usize
     }
 }
 
-/// Writes the lines of events behind `before` bytes of a text, and returns how many are written then.
+/// Writes the lines of events after the first `before` bytes of a text, and returns how many bytes of it are written then.
 fn write_events<K: Sink>(
     sink: &mut K,
     ports: &[Port],
@@ -55,7 +55,7 @@ fn write_events<K: Sink>(
     Ok(sent)
 }
 
-/// Writes the waves of a run of which the lines before the first event are made, and returns how many bytes these are.
+/// Writes the VCD of a run, whose lines before the first event are made already, and returns how many bytes it has.
 pub(crate) fn write_run<K: Sink>(
     sink: &mut K,
     module: &Module,

@@ -9,7 +9,7 @@ use crate::lines::{push_bit, push_word};
 use crate::values::Values;
 use std::alloc::AllocError;
 
-/// Adds a line for each bit. The variables have numbers from this one on.
+/// Adds a line for each bit. The numbers of their variables begin with this one.
 fn push_bits(text: &mut Vec<u8>, number: usize, bits: &[bool]) -> Result<(), AllocError>
     requires { number + length bits.now < 2 ^ 64 }
     ensures { OnOk result (text.new.items ≡ text.old.items ++ text_of (value_lines number (map one_bit bits.now))) }
@@ -20,7 +20,7 @@ fn push_bits(text: &mut Vec<u8>, number: usize, bits: &[bool]) -> Result<(), All
     Ok(())
 }
 
-/// Adds a line for each word. The variables have numbers from this one on.
+/// Adds a line for each word. The numbers of their variables begin with this one.
 fn push_words(text: &mut Vec<u8>, number: usize, words: &[u16]) -> Result<(), AllocError>
     requires { number + length words.now < 2 ^ 64 }
     ensures { OnOk result (text.new.items ≡ text.old.items ++ text_of (value_lines number (map sixteen_bits words.now))) }

@@ -1,4 +1,4 @@
-// A run whose changes are told.
+// A run whose changes are dumped.
 ghost use Rattle.std.specs.Prelude.{◌≤◌, vec_capacity};
 ghost use Rattle.vlog_waves.specs.inside.Values.{AreAlike, event_room};
 
@@ -10,11 +10,11 @@ use vlog_cycle::Runner;
 use vlog_module::{Module, Port};
 use vlog_plan::Event;
 
-/// A run whose changes are told. All memory is taken when it is made.
+/// A run whose changes are dumped. All memory is taken when it is made.
 #[derive(Drop)]
 pub(crate) struct Tracer {
     runner: Runner,
-    /// The values that were told last.
+    /// The values that were dumped last.
     pub(crate) values: Values,
     /// Room for the values after an event.
     next: Values,
@@ -51,14 +51,14 @@ impl Tracer {
         })
     }
 
-    /// How many bytes the lines of an event have at most.
+    /// The most bytes that the lines of an event may have.
     pub(crate) fn event_room(&self) -> usize
         ensures { result ≡ event_room self.now.values }
     {
         self.values.event_room()
     }
 
-    /// Gives an input a bit, and makes the lines of the event with this number. The ports are those of the module.
+    /// Gives an input a bit, and makes the lines of the event, whose number is its time. The ports are the module's.
     pub(crate) fn event(&mut self, ports: &[Port], event: Event, time: u64)
         requires { event.pin < input_count self.old.runner }
         ensures text { (m : Parts) (entry : Entry) → Traces self.old m entry → ports.now ≡ m.ports

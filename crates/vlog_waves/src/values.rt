@@ -8,8 +8,8 @@ use vlog_cycle::Runner;
 use vlog_module::{Module, Port};
 use vlog_plan::{bit_at, copy_bits, copy_words};
 
-/// The values of the ports, the registers of one bit, those of 16 bits and the wires, each in their order. There are fewer than 2^56 of
-/// each: no memory has more bytes.
+/// The values of the ports, the registers of one bit, the registers of 16 bits and the wires, each in their order. There are fewer than
+/// 2^56 of each, since no memory has room for more.
 #[derive(Drop)]
 pub(crate) struct Values {
     pub(crate) ports: Vec<bool>,
@@ -27,7 +27,7 @@ impl Values {
     ghost use Rattle.vlog_waves.specs.Variables.{values_in};
     ghost use Rattle.vlog_waves.specs.inside.Values.{AreAlike, Fits, event_room, values_held};
 
-    /// The values that a runner shows of a module.
+    /// The values of a module's variables in the state of a runner.
     pub(crate) fn new(alloc: Global, module: &Module, runner: &Runner) -> Result<Values, AllocError>
         ensures fits { (entry : Entry) → Shows runner.now «module».now entry → IfOk result (λ values. Fits «module».now values) }
         ensures held { (entry : Entry) → Shows runner.now «module».now entry → IfOk result (λ values. values_held values ≡ values_in «module».now entry) }
@@ -43,7 +43,7 @@ impl Values {
         Ok(values)
     }
 
-    /// So many values of each kind, which are all 0.
+    /// This many values of each kind, all 0.
     fn with_room(
         alloc: Global,
         ports: usize,
@@ -77,7 +77,7 @@ impl Values {
         }
     }
 
-    /// Takes the values that a runner shows of a module with these ports.
+    /// Takes the values from the state of a runner; the ports are those of its module.
     pub(crate) fn take(&mut self, ports: &[Port], runner: &Runner)
         ensures alike { AreAlike self.old self.new }
         ensures held { (m : Parts) (entry : Entry) → Shows runner.now m entry → ports.now ≡ m.ports → Fits m self.old → values_held self.new ≡ values_in m entry }
@@ -93,28 +93,28 @@ impl Values {
         runner.copy_wires(&mut self.wires);
     }
 
-    /// The number of the first register of one bit.
+    /// The number of the first register of one bit, as a variable.
     pub(crate) fn first_register(&self) -> usize
         ensures { result ≡ vec_len self.now.ports }
     {
         self.ports.len()
     }
 
-    /// The number of the first register of 16 bits.
+    /// The number of the first register of 16 bits, as a variable.
     pub(crate) fn first_word(&self) -> usize
         ensures { result ≡ vec_len self.now.ports + vec_len self.now.registers }
     {
         self.first_register() + self.registers.len()
     }
 
-    /// The number of the first wire.
+    /// The number of the first wire, as a variable.
     pub(crate) fn first_wire(&self) -> usize
         ensures { result ≡ vec_len self.now.ports + vec_len self.now.registers + vec_len self.now.words }
     {
         self.first_word() + self.words.len()
     }
 
-    /// How many bytes the lines of an event have at most: each line has at most 32.
+    /// The most bytes that the lines of an event may have: 32 for each line.
     pub(crate) fn event_room(&self) -> usize
         ensures { result ≡ event_room self.now }
     {
@@ -122,7 +122,7 @@ impl Values {
     }
 }
 
-/// The bit of a port, where those of inputs and those of outputs stand apart.
+/// The bit of a port, from the bits of the inputs and the bits of the outputs.
 fn port_bit(output: bool, inputs: &[bool], input: usize, outputs: &[bool], place: usize) -> bool
     ensures { result ≡ (if output then get_or outputs.now place false else get_or inputs.now input false) }
 {
@@ -133,7 +133,7 @@ fn port_bit(output: bool, inputs: &[bool], input: usize, outputs: &[bool], place
     }
 }
 
-/// The next input behind a port.
+/// The index of the next input after a port.
 fn next_input(output: bool, input: usize) -> usize
     requires { input + 1 < 2 ^ 64 }
     ensures { result ≡ (if output then input else input + 1) }
@@ -141,7 +141,7 @@ fn next_input(output: bool, input: usize) -> usize
     if output { input } else { input + 1 }
 }
 
-/// Gives each port its bit, where those of inputs and those of outputs stand apart. There have to be as many bits as ports.
+/// Sets `bits` to the bits of the ports, from those of the inputs and those of the outputs. `bits` has to be as long as `ports`.
 fn copy_ports(ports: &[Port], inputs: &[bool], outputs: &[bool], bits: &mut [bool])
     ensures { length bits.old ≡ length ports.now → bits.new ≡ port_bits ports.now inputs.now outputs.now }
 {

@@ -1,4 +1,4 @@
-// The waves of a run, made while they are written.
+// The VCD of a run, made while it is written.
 ghost use Rattle.std.specs.Prelude.{◌≡◌, ◌+◌, ◌*◌, ◌<◌, ◌^◌, ◌++◌, All, true, vec_len};
 ghost use Rattle.text_lines.specs.Written.{text_of};
 ghost use Rattle.vlog_plan.specs.Run.{start};
@@ -16,8 +16,17 @@ use std::alloc::{AllocError, Global};
 use vlog_module::Module;
 use vlog_plan::Event;
 
-/// The waves of a module's run over events, made while they are written. Only the lines before the first event and those of one event
-/// lie in memory at a time.
+/// The VCD of a module's run over events, which is made while it is written. Only the lines before the first event and the lines of one
+/// event are in memory at a time.
+///
+/// # Example
+/// ```ignore
+/// let events = read_events(alloc, &module, b"d 1\nc 1\n")?;
+/// let waves = Waves::new(alloc, module, events)?;
+/// let mut sink = MemSink::new(alloc, 4096, 512, Vec::new(alloc))?;
+/// let done = waves.write_to(&mut sink);
+/// assert!(done == Ok(()));
+/// ```
 #[derive(Drop)]
 pub struct Waves {
     module: Module,
@@ -37,7 +46,10 @@ impl Waves {
     ghost use Rattle.vlog_waves.specs.Waves.{waves_text};
     ghost use Rattle.vlog_waves.specs.Whole.{waves_in};
 
-    /// The waves of this module's run over these events. All memory is taken here.
+    /// Prepares the VCD of this module's run over these events. All memory is taken here.
+    ///
+    /// # Errors
+    /// `AllocError` if memory is out, or if the most bytes that the VCD may have don't fit 64 bits.
     pub fn new(alloc: Global, module: Module, events: Vec<Event>) -> Result<Waves, AllocError>
         requires { All (λ event. event.pin < length (input_names «module».ports)) events.items }
         ensures { IfOk result (λ waves. waves_in waves ≡ waves_text «module» events.items) }
@@ -56,7 +68,7 @@ impl Waves {
     }
 }
 
-/// Whether the bytes of the beginning and of events that have at most so many each can be counted.
+/// Whether the most bytes of the VCD fit 64 bits: those of the beginning, and `room` for each event.
 fn is_countable(beginning: usize, events: usize, room: usize) -> bool
     ensures { result ≡ true → beginning + events * room < 2 ^ 64 }
 {
@@ -66,7 +78,7 @@ fn is_countable(beginning: usize, events: usize, room: usize) -> bool
     }
 }
 
-/// Its bytes go out in as many writes as they take, and the lines of an event are made when they are written.
+/// The lines of an event are made when they are written, and each piece goes out in as many writes as the sink takes for it.
 impl Content for Waves {
     ghost use Rattle.vlog_waves.specs.Whole.{waves_in};
 

@@ -15,7 +15,7 @@ pub record HasTaken (layouts : Layouts) (taker : AscLines) (lines : List (List �
   pub taken : TakesEach (begun layouts) lines (state_of taker.reader)
   pub count_is : taker.count ≡ length lines
 
--- under layouts, the first faulty line of a text of these lines is told
+-- under layouts, the fault is that of the first faulty line of a text of these lines
 abbrev pub Refuses : Layouts → List (List ℕ) → AscFault → Type 0
 Refuses layouts lines fault = (text : List ℕ) → lines_of text ≡ lines → Tells (asc_fault_of layouts text) fault
 

@@ -1,4 +1,4 @@
--- Keywords: the first word of a statement, apart from what stands behind it.
+-- Keywords: the first word of a statement, apart from the text after it.
 use Rattle.std.specs.Prelude.{ℕ, List, bytes_eq, if◌then◌else◌, Option, Some, None}
 use Rattle.text_lines.specs.declared.words.Separators.TheVariants.{Spaces}
 use Rattle.text_lines.specs.Words.{words_of, first_word, number_of, numbers_of}
@@ -26,7 +26,7 @@ keyword_of word =
     else if bytes_eq word symbol_keyword then Some Symbol
     else None
 
--- the statement of a keyword and of what stands behind it
+-- the statement of a keyword and the text after it
 abbrev pub spelled_as : Keyword → List ℕ → Option Statement
 spelled_as Comment behind = Some CommentStatement
 spelled_as Device behind = device_of_words (words_of Spaces behind)

@@ -11,7 +11,7 @@ abbrev pub TakesEach : ReaderState → List (List ℕ) → ReaderState → Type 
 TakesEach s [] new = new ≡ s
 TakesEach s (line ∷ lines) new = (between : ReaderState) × (line_refusal s s.expected line ≡ None) × Takes s s.expected line between × TakesEach between lines new
 
--- the first of the lines that is refused, behind so many that were taken before them, and a fault that is told for it
+-- the first of the lines that is refused, after `count` lines that were taken before them, and the fault that is reported for it
 pub record StopsIn (s : ReaderState) (count : ℕ) (lines : List (List ℕ)) (fault : AscFault) : Type 0 where
   pub before : List (List ℕ)
   pub line : List ℕ

@@ -1,5 +1,5 @@
--- What the reader keeps between the lines of a text, and what a line makes of it. What a text means stands in
--- `Meaning` and `Faults`.
+-- What the reader keeps between the lines of a text, and how a line changes it. What a text means is defined in `Meaning` and
+-- `Faults`.
 use Rattle.std.specs.Prelude.{◌≡◌, ℕ, zero, suc, ◌+◌, ◌<◌, Bool, true, false, not, ◌&&◌, ◌||◌, List, [], ◌∷◌, ◌++◌, length, get_or, nat_lt, ◌==◌, if◌then◌else◌, Option, Some, None, is_some, unwrap_or, replicate}
 use Rattle.std.specs.Bool.{MatchBool}
 use Rattle.text_lines.specs.Lines.{lines_of, line_at, trimmed}
@@ -91,7 +91,7 @@ IsReady image AnyStatement = Unit {0}
 IsReady image (Row kind x y row) = HasKind image x y kind × (row < 16)
 IsReady image (Memory x y row) = HasKind image x y RamB × (row < 16)
 
--- how many bytes a row or digits have that are what is expected; a statement has no such number
+-- how many bytes the expected row or digits have; a statement has no fixed length, so it has 0
 abbrev pub plain_length : Expected → ℕ
 plain_length AnyStatement = 0
 plain_length (Row kind x y row) = columns_of kind
@@ -103,7 +103,7 @@ first_line text = line_at (lines_of text) 0
 
 -- ---- what is wrong
 
--- a cause that is told is that one
+-- a cause that is reported is this one
 abbrev pub Reports : Option AscCause → Refusal → Type 0
 Reports cause (Cause told) = cause ≡ Some told
 Reports cause (NoMemory e) = Unit {0}
@@ -139,7 +139,7 @@ statement_refusal s (RamData x y) = or_else (tile_refusal s.image RamB x y) (cau
 statement_refusal s (ExtraBit bank x y) = extra_refusal s.image bank x y
 statement_refusal s (Symbol net) = None
 
--- the same for a line that may not be a valid statement
+-- what is wrong with a line that begins with a dot, and may not be a valid statement
 abbrev pub dotted_refusal : ReaderState → Option Statement → Option AscCause
 dotted_refusal s None = Some StatementCause
 dotted_refusal s (Some statement) = statement_refusal s statement
@@ -162,7 +162,7 @@ line_refusal s AnyStatement line = if begins_with_dot line then dotted_refusal s
 line_refusal s (Row kind x y row) line = row_refusal kind (trimmed line)
 line_refusal s (Memory x y row) line = memory_refusal (trimmed line)
 
--- what is wrong where the text ends
+-- what is wrong if the text ends here
 abbrev pub end_refusal : ReaderState → Expected → Option AscCause
 end_refusal s AnyStatement = cause_if (not (is_some s.image)) NoDevice
 end_refusal s (Row kind x y row) = Some RowCause
@@ -181,7 +181,7 @@ pub record GainsBits (before after : AnyImage) (is_set : Bit → Bool) : Type 0 
   pub device : device_of after ≡ device_of before
   pub gains : Gains is_set (configuration_of before) (configuration_of after)
 
--- where there is an image
+-- an image with more bits, if there is one
 abbrev pub ImageGains : Option AnyImage → Option AnyImage → (Bit → Bool) → Type 0
 ImageGains (Some before) (Some after) is_set = GainsBits before after is_set
 ImageGains (Some before) None is_set = ⊥
@@ -197,7 +197,7 @@ IsBlank layouts None image = ⊥
 abbrev pub HasInserted : ℕ → ℕ → List Bool → List Bool → Type 0
 HasInserted x y before after = (v w : ℕ) → v < 34 → w < 34 → has_tile after v w ≡ (has_tile before v w || ((v == x) && (w == y)))
 
--- the comment with one more line, where there is one
+-- the comment with one more line, if there is a comment
 abbrev pub with_line : Option (List (List ℕ)) → List ℕ → Option (List (List ℕ))
 with_line None line = None
 with_line (Some lines) line = Some (lines ++ line ∷ [])
@@ -206,15 +206,15 @@ with_line (Some lines) line = Some (lines ++ line ∷ [])
 abbrev pub after_text : ReaderState → List ℕ → ReaderState
 after_text s line = record s { comment = if s.in_comment && nat_lt 0 (length line) then with_line s.comment line else s.comment }
 
--- what is expected behind the lines below a statement before that one: it, or a statement behind all sixteen
+-- what is expected after the first `row` lines below a statement: the next line, or a statement after all sixteen
 abbrev pub before_line : (ℕ → Expected) → ℕ → Expected
 before_line line row = if row == 16 then AnyStatement else line row
 
--- the same of the rows of a tile
+-- what is expected after the first `row` rows of a tile
 abbrev pub before_row : TileKind → ℕ → ℕ → ℕ → Expected
 before_row kind x y row = before_line (Row kind x y) row
 
--- and of the lines of a RAM's contents
+-- what is expected after the first `row` lines of a RAM's contents
 abbrev pub before_memory : ℕ → ℕ → ℕ → Expected
 before_memory x y row = before_line (Memory x y) row
 
@@ -252,30 +252,30 @@ Takes s AnyStatement line new = MatchBool (begins_with_dot line) (TakesDotted s 
 Takes s (Row kind x y row) line new = TakesRow s kind x y row (trimmed line) new
 Takes s (Memory x y row) line new = TakesMemory s x y row (trimmed line) new
 
--- the first line of a text was taken, and that is what stands behind it
+-- the first line of a text was taken, and this is the text after it
 pub record TakesFirst (s : ReaderState) (text rest : List ℕ) (new : ReaderState) : Type 0 where
   pub lines : lines_of text ≡ first_line text ∷ lines_of rest
   pub shorter : length rest < length text
   pub fits : line_refusal s s.expected (first_line text) ≡ None
   pub takes : Takes s s.expected (first_line text) new
 
--- whether LF stands at that place of a text
+-- whether the byte at that place of a text is LF
 abbrev pub is_lf_at : List ℕ → ℕ → Bool
 is_lf_at text offset = nat_lt offset (length text) && (get_or text offset 0 == 10)
 
--- that many lines at the front of a text were taken, and that is what stands behind them
+-- a given number of lines at the front of a text were taken, and this is the text after them
 abbrev pub TakesLines : ReaderState → List ℕ → ℕ → List ℕ → ReaderState → Type 0
 TakesLines s text zero rest new = (rest ≡ text) × (new ≡ s)
 TakesLines s text (suc count) rest new = (middle : List ℕ) × (between : ReaderState) × TakesLines s text count middle between × TakesFirst between middle rest new
 
--- that many of the lines below a statement were taken into an image, from that one on
+-- a given number of the lines below a statement were taken into an image, from a given line on
 abbrev pub TakesBelow : (ℕ → Expected) → ℕ → Option AnyImage → List ℕ → ℕ → List ℕ → Option AnyImage → Type 0
 TakesBelow line row before text count rest after = (s : ReaderState) → s.image ≡ before → s.expected ≡ line row
     → TakesLines s text count rest (record s { image = after; expected = before_line line (row + count) })
 
 -- ---- the end
 
--- the settings that were read, the usual ones where none was given
+-- the settings that were read; a setting that was not given has its usual value
 abbrev pub settings_in : ReaderState → Settings
 settings_in s = record { range = unwrap_or s.range Low; warm_boot = unwrap_or s.warm_boot true; no_sleep = unwrap_or s.no_sleep false }
 

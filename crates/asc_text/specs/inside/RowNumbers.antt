@@ -10,7 +10,7 @@ is_bit byte = (byte == 48) || (byte == 49)
 abbrev pub is_odd : ℕ → Bool
 is_odd byte = byte % 2 == 1
 
--- the number of bytes, the first worth 1
+-- bytes as a number, the first the least significant
 abbrev pub bytes_number : List ℕ → ℕ
 bytes_number [] = 0
 bytes_number (byte ∷ bytes) = byte + 256 * bytes_number bytes

@@ -1,4 +1,4 @@
--- The names that lines give to nets, where each line that begins as a statement is one.
+-- The names that lines give to nets, if each line that begins with a dot is a statement.
 use Rattle.std.specs.Prelude.{ℕ, List, [], ◌∷◌, ◌++◌}
 use Rattle.asc_text.specs.declared.file.Symbol.{Symbol as NetName}
 use Rattle.asc_text.specs.Statements.{statement_in}

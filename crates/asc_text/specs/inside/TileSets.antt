@@ -1,4 +1,4 @@
--- Which tiles of a grid were named: a flag for each tile of a grid of 34 by 34, row of the grid by row of the grid.
+-- Which tiles of a grid have been named: a flag for each tile of a grid of 34 by 34 (that of the largest device), row by row.
 use Rattle.std.specs.Prelude.{ℕ, ◌+◌, ◌*◌, Bool, false, List, get_or}
 
 -- whether the tile at a place of the grid was named

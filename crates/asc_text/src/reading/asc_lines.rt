@@ -5,7 +5,7 @@ use crate::reading::reader::Reader;
 use std::alloc::AllocError;
 use text_lines::LineTaker;
 
-/// What the lines so far have given, and how many they are.
+/// What the lines so far have given, and the number of these lines.
 #[derive(Drop)]
 pub(crate) struct AscLines {
     pub(crate) reader: Reader,

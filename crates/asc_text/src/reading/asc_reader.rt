@@ -13,7 +13,7 @@ use std::alloc::Global;
 use text_lines::LineFeed;
 
 /// A reader of a text that comes in pieces. It keeps what the lines so far have given, and the bytes of a line that hasn't
-/// ended yet. The names of nets are looked at and not kept.
+/// ended yet. The names of nets are checked and not kept.
 #[derive(Drop)]
 pub struct AscReader {
     /// How many bytes were fed.
@@ -35,7 +35,7 @@ impl AscReader {
     ghost use Rattle.asc_text.specs.Ended.{IsFaultless};
     ghost use Rattle.asc_text.specs.Feeding.{fed_to, refusal_of, StandsFor};
 
-    /// A reader of texts under the layouts, to which nothing was fed. It takes no memory.
+    /// A new reader of a text under the layouts. It allocates nothing.
     pub fn with(alloc: Global, layouts: Layouts) -> AscReader
         requires { AreLayouts layouts }
         ensures stands { StandsFor layouts [] result }
@@ -49,8 +49,11 @@ impl AscReader {
         }
     }
 
-    /// Takes the next bytes. It refuses exactly where a line that has ended is faulty. That fault stays, whatever follows, and each
-    /// later call answers it again. The same holds after it ran out of memory.
+    /// Takes the next bytes.
+    ///
+    /// # Errors
+    /// `AscFault::At` exactly if a line that has ended is faulty: the first such line. It is the fault of the whole text, whatever follows,
+    /// and each later call returns it again. `AscFault::Memory` if memory is out; it too comes again from each later call.
     pub fn feed(&mut self, piece: &[u8]) -> Result<(), AscFault>
         requires { fed_to self.old + length piece.now + 1 < 2 ^ 64 }
         ensures fed { fed_to self.new ≡ fed_to self.old + length piece.now }
@@ -65,7 +68,10 @@ impl AscReader {
         self.lines.feed(piece)
     }
 
-    /// The image that the text gives, or its first faulty line.
+    /// The image that the text gives.
+    ///
+    /// # Errors
+    /// The error that `feed` returned, if it returned one; `AscFault::At` for the first faulty line; `AscFault::Memory` if memory is out.
     pub fn finish(self) -> Result<AnyImage, AscFault>
         ensures means { IfOk result (λ image. (layouts : Layouts) (text : List ℕ) → StandsFor layouts text self → AscMeans layouts text (configuration_of image) (asc_symbols_of text)) }
         // Each bit is the character, the digit or the statement that stands for it.

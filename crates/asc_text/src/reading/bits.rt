@@ -27,14 +27,14 @@ pub(crate) fn set_memory_line(image: &mut AnyImage, x: u8, y: u8, row: u8, bytes
     ensures device { device_of image.new ≡ device_of image.old }
     ensures bits { Gains (bytes_set x y row bytes.now) (configuration_of image.old) (configuration_of image.new) }
 {
-    // Called for its clause `whole` alone.
+    // Called only for its clause `whole`.
     let _device = image.device();
     for index in 0..16 {
         image.set_word_ones(x, y, 16 * row + index, word_in(bytes, index));
     }
 }
 
-/// A word of sixteen words of two bytes, the first word last and its high byte first.
+/// A word of a line of sixteen words of two bytes. The first word is the last in the line; the high byte of each word is first.
 fn word_in(bytes: &[u8; 32], index: u8) -> u16
     requires { index < 16 }
     ensures { result ≡ word_in bytes.now index }

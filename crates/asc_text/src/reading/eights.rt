@@ -1,19 +1,19 @@
-// Lines of the characters 0 and 1 as numbers, eight characters at a time.
+// Lines of the characters 0 and 1 as numbers, read eight characters at a time.
 ghost use Rattle.std.specs.Prelude.{◌≡◌, ◌+◌, ◌-◌, ◌%◌, ◌≤◌, List, ℕ, take, drop, map, length};
 ghost use Rattle.std.specs.List.{list_all};
 ghost use Rattle.bit_plane.specs.BitList.{word_of};
 ghost use Rattle.asc_text.specs.inside.RowNumbers.{is_bit, is_odd, bytes_number, AreEight};
 
-/// What bytes of a line say as a row of bits.
+/// The bytes of a line as a row of bits.
 #[derive(Drop)]
 pub(crate) struct RowBits {
-    /// Their lowest bits as a number, that of the first byte worth 1.
+    /// Their lowest bits as a number. The bit of the first byte is the bit of value 1.
     pub(crate) ones: u64,
     /// Whether each is the character 0 or 1.
     pub(crate) are_bits: bool,
 }
 
-/// The same of eight bytes.
+/// Eight bytes of a line as a row of bits.
 #[derive(Drop)]
 struct EightBits {
     ones: u8,
@@ -28,7 +28,7 @@ pub(crate) fn row_bits_of(line: &[u8]) -> RowBits
     ensures ones { result.ones ≡ word_of (map is_odd line.now) }
     ensures bits { result.are_bits ≡ list_all is_bit line.now }
 {
-    // The first eight bytes, of which those from `start` on are read a second time with the tail.
+    // The first eight bytes. Those from `start` on are read a second time with the tail.
     let head = eight_at(line, 0);
     let start = line.len() % 8;
     let tail = in_eights(line, start);
@@ -38,7 +38,7 @@ pub(crate) fn row_bits_of(line: &[u8]) -> RowBits
     }
 }
 
-/// The bytes of a line from a place on, which are eight or a multiple of it.
+/// The bytes of a line from a place on, whose number is a multiple of eight and not 0, as a row of bits.
 #[inline(always)]
 fn in_eights(line: &[u8], start: usize) -> RowBits
     requires within { start ≤ length line.now }
@@ -59,7 +59,7 @@ fn in_eights(line: &[u8], start: usize) -> RowBits
     RowBits { ones, are_bits }
 }
 
-/// The lowest bits of eight bytes of a line as a number, that of the first byte worth 1, and whether each is the character 0
+/// The lowest bits of eight bytes of a line as a number, the bit of the first byte worth 1, and whether each byte is the character 0
 /// or 1.
 fn eight_at(line: &[u8], start: usize) -> EightBits
     requires { start + 8 ≤ length line.now }
@@ -90,7 +90,7 @@ fn word_at(line: &[u8], start: usize) -> u64
     ])
 }
 
-/// The lowest bits of eight bytes as a number, that of the first byte worth 1.
+/// The lowest bits of eight bytes as a number, the bit of the first byte worth 1.
 fn packed(word: u64) -> u8
     ensures { (bytes : List ℕ) → AreEight bytes → word ≡ bytes_number bytes → result ≡ word_of (map is_odd bytes) }
 {

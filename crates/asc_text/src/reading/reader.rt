@@ -45,7 +45,7 @@ impl Expected {
     ghost use Rattle.asc_text.specs.Faults.{tile_named};
     ghost use Rattle.asc_text.specs.inside.Reading.{plain_length, statement_of, before_row, before_memory};
 
-    /// What is expected behind the rows of a tile before that one: it, or a statement behind all sixteen.
+    /// What is expected after the rows of a tile before `row`: that row, or a statement if `row` is 16.
     fn before_row(kind: TileKind, x: u8, y: u8, row: u8) -> Expected
         ensures { result ≡ before_row kind x y row }
     {
@@ -56,7 +56,7 @@ impl Expected {
         }
     }
 
-    /// What is expected behind the lines of a RAM's contents before that one: it, or a statement behind all sixteen.
+    /// What is expected after the lines of a RAM's contents before `row`: that line, or a statement if `row` is 16.
     fn before_memory(x: u8, y: u8, row: u8) -> Expected
         ensures { result ≡ before_memory x y row }
     {
@@ -67,7 +67,7 @@ impl Expected {
         }
     }
 
-    /// How many bytes the expected row or digits have; 0 where a statement is expected.
+    /// How many bytes the expected row or digits have, or 0 if a statement is expected.
     fn plain_len(self) -> usize
         ensures is { result ≡ plain_length self }
         ensures small { result ≤ 64 }
@@ -79,7 +79,7 @@ impl Expected {
         }
     }
 
-    /// The tile or RAM that a line belongs to, which is to be this.
+    /// The tile or RAM to which a line belongs that is read as this.
     fn tile(self, line: &[u8]) -> Option<TileXy>
         ensures { result ≡ tile_named (statement_of self line.now) }
     {
@@ -155,7 +155,7 @@ impl Reader {
     ghost use Rattle.asc_text.specs.inside.Reading.{state_of, begun, IsReady, Takes, TakesDotted, TakesFirst, first_line, dotted_refusal, line_refusal, statement_of, text_refusal, after_text, Reports, end_refusal, Finishes, settings_in};
     ghost use Rattle.asc_text.specs.Statements.{statement_in};
 
-    /// Nothing was read.
+    /// A reader that has read nothing.
     pub(crate) fn new(alloc: Global, layouts: Layouts) -> Reader
         ensures { state_of result ≡ begun layouts }
     {
@@ -174,7 +174,7 @@ impl Reader {
         }
     }
 
-    /// Takes the first line of a text, which has that number, whatever it is, and gives the text behind it.
+    /// Takes the first line of a text, which has this line number, in whatever form it has, and returns the text after it.
     #[inline(never)]
     pub(crate) fn accept_any<'a>(
         &mut self,
@@ -199,7 +199,7 @@ impl Reader {
         }
     }
 
-    /// Takes the next line, which has that number.
+    /// Takes the next line, which has this line number.
     fn accept(&mut self, number: u64, line: &[u8]) -> Result<(), AscFault>
         requires { IsReady self.old.image self.old.expected }
         ensures taken { IfOk result (λ _. Takes (state_of self.old) self.old.expected line.now (state_of self.new)) }
@@ -236,7 +236,7 @@ impl Reader {
         }
     }
 
-    /// Takes a line that begins with a dot, which is that statement where it is a valid one.
+    /// Takes a line that begins with a dot, by its statement: `None` if it is not a valid one.
     fn accept_statement(&mut self, statement: Option<Statement>) -> Result<(), Refusal>
         ensures taken { IfOk result (λ _. TakesDotted (state_of self.old) statement (state_of self.new)) }
         ensures accepted { OnOk result (dotted_refusal (state_of self.old) statement ≡ None) }
@@ -270,7 +270,7 @@ impl Reader {
         Ok(())
     }
 
-    /// The image that the text gives, at its end. The number is that of the line after the last, where something is missing.
+    /// The image that the text gives, at its end. If something is missing, the fault has `number`, the number of the line after the last.
     #[tactic(auto, using(crate::proofs::Dotted::none_of_nothing))]
     pub(crate) fn finish(self, number: u64) -> Result<AnyImage, AscFault>
         ensures image { IfOk result (Finishes (state_of self) self.image) }
@@ -302,7 +302,7 @@ impl Reader {
         }
     }
 
-    /// The settings, the usual ones where none was given.
+    /// The settings. A setting that was not given has its usual value.
     fn settings(&self) -> Settings
         ensures { result ≡ settings_in (state_of self.now) }
     {

@@ -9,7 +9,7 @@ ghost use Rattle.asc_text.specs.Rows.{is_memory_line, is_row, memory_bytes, row_
 use crate::reading::eights::row_bits_of;
 use plane_map::TileKind;
 
-/// A row of a tile of that kind as a number, column c being worth 2^c. None where the line is not such a row.
+/// A row of a tile of this kind as a number, column c being worth 2^c, or `None` if the line is not such a row.
 #[inline(never)]
 pub(crate) fn row_ones(line: &[u8], kind: TileKind) -> Option<u64>
     ensures { MatchOption result (is_row (columns_of kind) line.now ≡ false)
@@ -23,7 +23,7 @@ pub(crate) fn row_ones(line: &[u8], kind: TileKind) -> Option<u64>
     }
 }
 
-/// The same of a tile with that many columns.
+/// A row of a tile with `width` columns as a number, column c being worth 2^c, or `None` if the line is not such a row.
 #[inline(always)]
 pub(crate) fn ones_of(line: &[u8], width: usize) -> Option<u64>
     requires long { 8 ≤ width }
@@ -38,7 +38,7 @@ pub(crate) fn ones_of(line: &[u8], width: usize) -> Option<u64>
     if row.are_bits { Some(row.ones) } else { None }
 }
 
-/// The bytes that 64 hexadecimal digits write, the high digit of each byte first.
+/// The bytes of 64 hexadecimal digits, the high digit of each byte first, or `None` if the line is not 64 such digits.
 pub(crate) fn memory_bytes(line: &[u8]) -> Option<[u8; 32]>
     ensures { MatchOption result (is_memory_line line.now ≡ false)
         (λ bytes. (is_memory_line line.now ≡ true) × (memory_bytes line.now ≡ bytes)) }

@@ -23,7 +23,7 @@ pub(crate) fn begins_with_dot(line: &[u8]) -> bool
     matches!(line, [b'.', ..])
 }
 
-/// The statement that the line is: none where it is not a valid one.
+/// The statement that the line is, or `None` if it is not a valid statement.
 #[tactic(auto, unfolding(crate::specs::Statements::statement_in))]
 pub(crate) fn statement_in(line: &[u8]) -> Option<Statement>
     ensures { result ≡ statement_in line.now }
@@ -38,8 +38,8 @@ pub(crate) fn statement_in(line: &[u8]) -> Option<Statement>
     }
 }
 
-/// The net that the line names, where it is `.sym NET NAME` with one space before the number. Such a line may be a statement where
-/// this finds none.
+/// The net that the line names, if it is `.sym NET NAME` with one space before the number. A line may be a valid `.sym` statement even
+/// if the answer is `None`.
 #[tactic(auto, unfolding(crate::specs::Statements::statement_in))]
 #[inline(always)]
 pub(crate) fn plain_symbol_in(line: &[u8]) -> Option<u32>
@@ -52,8 +52,8 @@ pub(crate) fn plain_symbol_in(line: &[u8]) -> Option<u32>
     }
 }
 
-/// The net of `.sym NET NAME` with one space before the number, as most such lines have it. It looks at no byte of the name but
-/// the first.
+/// The net of `.sym NET NAME` with one space before the number, as most such lines have it. It looks only at the first byte of the
+/// name.
 fn plain_symbol(line: &[u8]) -> Option<u32>
     ensures { IfSome result (λ net. spelled (first_word Spaces line.now) (behind_word Spaces line.now) ≡ Some (Symbol net)) }
 {
@@ -64,7 +64,7 @@ fn plain_symbol(line: &[u8]) -> Option<u32>
     }
 }
 
-/// The number at the front of a text behind which one space and a byte at least stand.
+/// The number at the front of a text, if one space and at least one more byte follow it.
 fn number_before_name(text: &[u8]) -> Option<u32>
     ensures { IfSome result (λ number. (name : List ℕ) × StartsWithNumber 32 text.now number name × (0 < length name)) }
 {
@@ -93,7 +93,7 @@ pub(crate) fn name_in(line: &[u8]) -> &[u8]
     after_space(behind_word(behind_word(trimmed(line))))
 }
 
-/// The statement of a keyword and of what stands behind it.
+/// The statement of a keyword and the text after it.
 #[tactic(auto, using(crate::proofs::Spellings::spelled_by_keyword))]
 fn spelled(keyword: &[u8], behind: &[u8]) -> Option<Statement>
     ensures { result ≡ spelled keyword.now behind.now }
@@ -104,7 +104,7 @@ fn spelled(keyword: &[u8], behind: &[u8]) -> Option<Statement>
     }
 }
 
-/// The statement of a known keyword and of what stands behind it.
+/// The statement of a known keyword and the text after it.
 fn spelled_as(keyword: Keyword, behind: &[u8]) -> Option<Statement>
     ensures { result ≡ spelled_as keyword behind.now }
 {
@@ -121,7 +121,7 @@ fn spelled_as(keyword: Keyword, behind: &[u8]) -> Option<Statement>
     }
 }
 
-/// `.device` with what stands behind it.
+/// The statement `.device` with the text after it.
 fn device_of(behind: &[u8]) -> Option<Statement>
     ensures { result ≡ device_of_words (words_of Spaces behind.now) }
 {
@@ -131,7 +131,7 @@ fn device_of(behind: &[u8]) -> Option<Statement>
     }
 }
 
-/// `.warmboot` with what stands behind it.
+/// The statement `.warmboot` with the text after it.
 fn warm_boot_of(behind: &[u8]) -> Option<Statement>
     ensures { result ≡ warm_boot_of_words (words_of Spaces behind.now) }
 {
@@ -141,7 +141,7 @@ fn warm_boot_of(behind: &[u8]) -> Option<Statement>
     }
 }
 
-/// `.freqrange` with what stands behind it.
+/// The statement `.freqrange` with the text after it.
 fn range_of(behind: &[u8]) -> Option<Statement>
     ensures { result ≡ range_of_words (words_of Spaces behind.now) }
 {
@@ -151,7 +151,7 @@ fn range_of(behind: &[u8]) -> Option<Statement>
     }
 }
 
-/// `.nosleep` with what stands behind it.
+/// The statement `.nosleep` with the text after it.
 fn no_sleep_of(behind: &[u8]) -> Option<Statement>
     ensures { result ≡ no_sleep_of_words (words_of Spaces behind.now) }
 {
@@ -161,7 +161,7 @@ fn no_sleep_of(behind: &[u8]) -> Option<Statement>
     }
 }
 
-/// The keyword of a kind of tile with what stands behind it.
+/// The statement of a tile of this kind, with the text after its keyword.
 fn tile_of(kind: TileKind, behind: &[u8]) -> Option<Statement>
     ensures { result ≡ tile_of_numbers kind (numbers_of (words_of Spaces behind.now)) }
 {
@@ -171,7 +171,7 @@ fn tile_of(kind: TileKind, behind: &[u8]) -> Option<Statement>
     }
 }
 
-/// `.ram_data` with what stands behind it.
+/// The statement `.ram_data` with the text after it.
 fn ram_data_of(behind: &[u8]) -> Option<Statement>
     ensures { result ≡ ram_data_of_numbers (numbers_of (words_of Spaces behind.now)) }
 {
@@ -181,7 +181,7 @@ fn ram_data_of(behind: &[u8]) -> Option<Statement>
     }
 }
 
-/// `.extra_bit` with what stands behind it.
+/// The statement `.extra_bit` with the text after it.
 fn extra_bit_of(behind: &[u8]) -> Option<Statement>
     ensures { result ≡ extra_bit_of_numbers (numbers_of (words_of Spaces behind.now)) }
 {
@@ -191,7 +191,7 @@ fn extra_bit_of(behind: &[u8]) -> Option<Statement>
     }
 }
 
-/// `.sym` with what stands behind it.
+/// The statement `.sym` with the text after it.
 #[tactic(auto, unfolding(text_lines::specs::Words::number_of))]
 fn symbol_of(behind: &[u8]) -> Option<Statement>
     ensures { result ≡ symbol_of_parts (number_of (first_word Spaces behind.now)) (name_behind behind.now) }
@@ -202,7 +202,7 @@ fn symbol_of(behind: &[u8]) -> Option<Statement>
     }
 }
 
-/// The statement of a net's number and of its name.
+/// The `.sym` statement of a net's number and name.
 fn named(net: Option<u32>, name: &[u8]) -> Option<Statement>
     ensures { result ≡ symbol_of_parts net name.now }
 {
@@ -212,7 +212,7 @@ fn named(net: Option<u32>, name: &[u8]) -> Option<Statement>
     }
 }
 
-/// What stands behind one space.
+/// The text after one space.
 fn after_space(rest: &[u8]) -> &[u8]
     ensures { result.now ≡ drop 1 rest.now }
 {
@@ -222,7 +222,7 @@ fn after_space(rest: &[u8]) -> &[u8]
     }
 }
 
-/// What stands behind the first word.
+/// The text after the first word.
 #[tactic(auto, using(text_lines::proofs::Spaced::behind_no_word))]
 fn behind_word(line: &[u8]) -> &[u8]
     ensures { result.now ≡ behind_word Spaces line.now }
@@ -233,7 +233,7 @@ fn behind_word(line: &[u8]) -> &[u8]
     }
 }
 
-/// The switch that a word names.
+/// The Boolean that `enabled` or `disabled` names, or `None` for another word.
 fn switch_named(word: &[u8]) -> Option<bool>
     ensures { result ≡ switch_named word.now }
 {
@@ -246,7 +246,7 @@ fn switch_named(word: &[u8]) -> Option<bool>
     }
 }
 
-/// The range that a word names.
+/// The oscillator range that a word names, or `None` for another word.
 fn range_named(word: &[u8]) -> Option<Range>
     ensures { result ≡ range_named word.now }
 {

@@ -11,8 +11,8 @@ use crate::statement::Statement;
 use std::alloc::{AllocError, Global};
 use text_lines::first_line;
 
-/// The names that the lines of a text give to nets, in their order. In a text without a faulty line each line that begins as a
-/// statement is one.
+/// The names that the lines of a text give to nets, in their order. In a text without a faulty line each line that begins with a dot is
+/// a statement.
 pub(crate) fn symbols_in(alloc: Global, text: &[u8]) -> Result<Vec<Symbol>, AllocError>
     ensures { IfOk result (λ symbols. symbols.items ≡ symbols_in (lines_of text.now)) }
 {
@@ -25,7 +25,7 @@ pub(crate) fn symbols_in(alloc: Global, text: &[u8]) -> Result<Vec<Symbol>, Allo
     Ok(symbols)
 }
 
-/// Adds the name that a line gives to a net, where it gives one.
+/// Adds the name that a line gives to a net, if it gives one.
 fn add_symbol(alloc: Global, symbols: &mut Vec<Symbol>, line: &[u8]) -> Result<(), AllocError>
     ensures { OnOk result (symbols.new.items ≡ symbols.old.items ++ symbol_in (statement_in line.now) line.now) }
 {

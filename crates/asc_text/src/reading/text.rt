@@ -1,4 +1,4 @@
-// A text that is there as a whole.
+// A text that is in memory as a whole.
 ghost use Rattle.std.specs.Prelude.{◌≡◌, None, IfOk, IfErr, OnOk};
 ghost use Rattle.layout_file.specs.Layouts.{standard_layouts, AreLayouts};
 ghost use Rattle.ice_image.specs.Either.{configuration_of};
@@ -14,7 +14,10 @@ use ice_image::AnyImage;
 use layout_file::Layouts;
 use std::alloc::Global;
 
-/// The configuration and the names that a text gives under the standard layouts, or its first faulty line.
+/// The configuration and the names of nets that a text gives under the standard layouts.
+///
+/// # Errors
+/// `AscFault::At` for the first faulty line, with its tile or RAM and its cause; `AscFault::Memory` if memory is out.
 pub fn read(alloc: Global, bytes: &[u8]) -> Result<AscFile, AscFault>
     ensures means { IfOk result (λ file. AscMeans standard_layouts bytes.now (configuration_of file.image) file.symbols.items) }
     // Each bit is the character, the digit or the statement that stands for it.
@@ -25,7 +28,19 @@ pub fn read(alloc: Global, bytes: &[u8]) -> Result<AscFile, AscFault>
     read_with(alloc, bytes, Layouts::standard())
 }
 
-/// The configuration and the names that a text gives under the layouts, or its first faulty line.
+/// The configuration and the names of nets that a text gives under the layouts.
+///
+/// # Errors
+/// As [`read`].
+///
+/// # Example
+/// ```ignore
+/// match read_with(alloc, text.as_bytes(), Layouts::standard()) {
+///     Ok(file) => Ok(file.image),
+///     Err(AscFault::At { line, .. }) => Err(line),
+///     Err(AscFault::Memory(_)) => Err(0),
+/// }
+/// ```
 pub fn read_with(alloc: Global, bytes: &[u8], layouts: Layouts) -> Result<AscFile, AscFault>
     requires { AreLayouts layouts }
     ensures means { IfOk result (λ file. AscMeans layouts bytes.now (configuration_of file.image) file.symbols.items) }
@@ -39,7 +54,10 @@ pub fn read_with(alloc: Global, bytes: &[u8], layouts: Layouts) -> Result<AscFil
     Ok(AscFile { image, symbols })
 }
 
-/// The configuration alone that a text gives under the layouts, or its first faulty line.
+/// The configuration that a text gives under the layouts, without the names of nets.
+///
+/// # Errors
+/// As [`read`].
 pub fn read_image_with(alloc: Global, bytes: &[u8], layouts: Layouts) -> Result<AnyImage, AscFault>
     requires { AreLayouts layouts }
     ensures means { IfOk result (λ image. AscMeans layouts bytes.now (configuration_of image) (asc_symbols_of bytes.now)) }

@@ -1,4 +1,4 @@
-// Which tiles of a grid were named.
+// Which tiles of a grid have been named.
 ghost use Rattle.std.specs.Prelude.{◌≡◌, ℕ, ◌+◌, ◌*◌, ◌<◌, ◌==◌, ◌&&◌, ◌||◌, true, false, replicate, set, length};
 ghost use Rattle.asc_text.specs.inside.TileSets.{has_tile};
 
@@ -21,7 +21,7 @@ impl Model for TileSet {
 }
 
 impl TileSet {
-    /// No tile.
+    /// The empty set.
     pub(crate) fn new() -> TileSet
         ensures { result ≡ replicate 1156 false }
     {
@@ -30,7 +30,7 @@ impl TileSet {
         }
     }
 
-    /// Whether the tile is among them.
+    /// Whether the tile is in the set.
     pub(crate) fn has(&self, x: u32, y: u32) -> bool
         requires column { x < 34 }
         requires row { y < 34 }

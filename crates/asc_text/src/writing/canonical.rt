@@ -17,12 +17,12 @@ use std::alloc::{AllocError, Global};
 /// Room for the text of a row of the grid: 34 tiles and RAMs, each with sixteen lines of at most 65 bytes below its statement.
 const ROW_ROOM: usize = 34 * (66 + 32 * 65);
 
-/// The canonical text of an image, made while it is written. Only the text of one row of the grid lies in memory at a time, and
-/// the lines before the tiles and behind them.
+/// The canonical text of an image, made while it is written. Only the text of one row of the grid is in memory at a time, besides
+/// the lines before and after the tiles.
 #[derive(Drop)]
 pub struct CanonicalText {
     image: AnyImage,
-    // The lines before the tiles and those behind them, and where the latter begin.
+    // The lines before the tiles and the lines after them, and where the latter begin.
     around: Vec<u8>,
     behind: usize,
     row: Vec<u8>,
@@ -39,8 +39,11 @@ impl CanonicalText {
     ghost use Rattle.asc_text.specs.Meaning.{AscMeans};
     ghost use Rattle.asc_text.specs.InPieces.{canonical_in};
 
-    /// The canonical text of this image. All memory is allocated here: the lines before the tiles and those behind them, and
-    /// room for a row of the grid.
+    /// The canonical text of this image. All memory is allocated here: the lines before and after the tiles, and room for a row of the
+    /// grid.
+    ///
+    /// # Errors
+    /// `AllocError` if memory is out, and for no other cause.
     pub fn of(alloc: Global, image: AnyImage) -> Result<CanonicalText, AllocError>
         ensures text { IfOk result (λ text. canonical_in text ≡ asc_text_of (configuration_of image)) }
         ensures means { IfOk result (λ text. (layouts : Layouts) → HasLayout layouts (configuration_of image).layout → AscMeans layouts (canonical_in text) (configuration_of image) []) }
@@ -59,7 +62,7 @@ impl CanonicalText {
     }
 }
 
-/// Its bytes go out in as many writes as they take, and a row of the grid is made when it is written.
+/// Writes the text piece by piece; the text of a row of the grid is made when it is written.
 impl Content for CanonicalText {
     ghost use Rattle.asc_text.specs.InPieces.{canonical_in};
 
@@ -79,7 +82,7 @@ impl Content for CanonicalText {
     }
 }
 
-/// Writes all tiles between what stands before them and what stands behind them, and returns how many bytes these are.
+/// Writes the lines before the tiles, all tiles and the lines after them, and returns how many bytes were written.
 fn write_around<K: Sink>(
     sink: &mut K,
     before: &[u8],
@@ -98,7 +101,7 @@ fn write_around<K: Sink>(
     write_piece(sink, behind, end)
 }
 
-/// Writes a piece of a text of which `sent` bytes are written, and returns how many are written then.
+/// Writes a piece of a text of which `sent` bytes have been written, and returns how many have been written then.
 fn write_piece<K: Sink>(sink: &mut K, piece: &[u8], sent: usize) -> Result<usize, PutFault>
     requires { sent + length piece.now < 2 ^ 64 }
     ensures sends { Sends (K.held sink.old) (K.held sink.new) sent piece.now result }
@@ -113,8 +116,8 @@ fn write_piece<K: Sink>(sink: &mut K, piece: &[u8], sent: usize) -> Result<usize
     }
 }
 
-/// Writes all tiles of a text of which `before` bytes are written, and returns how many are written then. The text of each row
-/// of the grid is made in `row`, which has room enough.
+/// Writes all tiles of a text of which `before` bytes have been written, and returns how many have been written then. The text of each
+/// row of the grid is made in `row`, which has enough room.
 fn write_tiles<K: Sink>(
     sink: &mut K,
     image: &AnyImage,

@@ -1,5 +1,5 @@
-// Lines that are appended to a text, whole or word by word. Where a line has a most length, the clauses `room`, `most` and `full`
-// say that the text's capacity doesn't fall, how many bytes are added at most, and that only a lack of room for so many fails.
+// Lines that are appended to a text, whole or word by word. For lines of bounded length, the clauses `room`, `most` and `full` say
+// that the text's capacity doesn't fall, how many bytes are added at most, and that a call fails only if there is no room for that many.
 ghost use Rattle.std.specs.Prelude.{◌≡◌, ◌+◌, ◌<◌, ◌≤◌, [], ◌∷◌, ◌++◌, length, vec_len, vec_capacity, OnOk, OnErr, decimal};
 ghost use Rattle.text_lines.specs.Written.{text_of};
 ghost use Rattle.asc_text.specs.Canonical.{grid_line};

@@ -1,5 +1,5 @@
 // The lines of the tiles, and of the contents of the RAMs. The clauses `room`, `most` and `full` say that the text's capacity
-// doesn't fall, how many bytes are added at most, and that only a lack of room for so many fails.
+// doesn't fall, how many bytes are added at most, and that a call fails only if there is no room for that many.
 ghost use Rattle.std.specs.Prelude.{◌≡◌, ℕ, ◌+◌, ◌<◌, ◌≤◌, [], ◌∷◌, ◌++◌, get_or, length, vec_len, vec_capacity, Some, OnOk, OnErr};
 ghost use Rattle.place_search.specs.Places.{gathered_below};
 ghost use Rattle.text_lines.specs.Written.{text_of};
@@ -42,7 +42,7 @@ pub(crate) fn append_grid_row(text: &mut Vec<u8>, image: &AnyImage, y: u8) -> Re
     Ok(())
 }
 
-/// Appends the tile at a place of the grid, and behind a lower tile its RAM's contents.
+/// Appends the tile at a position of the grid, and after a lower tile its RAM's contents.
 fn append_place(text: &mut Vec<u8>, image: &AnyImage, x: u8, y: u8) -> Result<(), AllocError>
     ensures text { OnOk result (text.new.items ≡ text.old.items ++ text_of (lines_of_tile_at (configuration_of image.now) x y (kind_of (configuration_of image.now).layout.device x y))) }
     ensures room { vec_capacity text.old ≤ vec_capacity text.new }
@@ -115,7 +115,7 @@ fn append_row(
     end_line(text)
 }
 
-/// The characters of the bits of a word, that of value 1 first.
+/// The characters of the bits of a word, the bit of value 1 first.
 fn characters_of(bits: u64) -> [u8; 64]
     ensures { (col : ℕ) → col < 64 → get_or result col 0 ≡ character_of (number_bit bits col) }
 {
@@ -149,7 +149,7 @@ fn append_ram(text: &mut Vec<u8>, image: &AnyImage, x: u8, y: u8) -> Result<(), 
     Ok(())
 }
 
-/// Appends sixteen words of a RAM, the first of them at the right.
+/// Appends sixteen words of a RAM, the first word at the right.
 fn append_memory_line(
     text: &mut Vec<u8>,
     image: &AnyImage,

@@ -18,7 +18,17 @@ use ice_image::{AnyImage, Comment, Range};
 use plane_map::DeviceName;
 use std::alloc::{AllocError, Global};
 
-/// The canonical text of an image. `read_with` under layouts of which the image has one gives that image back, and no names.
+/// The canonical text of an image. `read_with` under layouts that include the image's layout gives the image back, and no names of nets.
+///
+/// # Errors
+/// `AllocError` if memory is out, and for no other cause.
+///
+/// # Example
+/// ```ignore
+/// let image = AnyImage::zeroed(alloc, DeviceName::L384)?;
+/// let text = write(alloc, &image)?;
+/// let lines = text.iter().filter(|byte| **byte == b'\n').count();
+/// ```
 pub fn write(alloc: Global, image: &AnyImage) -> Result<Vec<u8>, AllocError>
     ensures text { IfOk result (λ text. text.items ≡ asc_text_of (configuration_of image.now)) }
     ensures means { IfOk result (λ text. (layouts : Layouts) → HasLayout layouts (configuration_of image.now).layout → AscMeans layouts text.items (configuration_of image.now) []) }
@@ -30,7 +40,7 @@ pub fn write(alloc: Global, image: &AnyImage) -> Result<Vec<u8>, AllocError>
     Ok(text)
 }
 
-/// Appends what stands before the tiles: the comment, the device and the settings.
+/// Appends the lines before the tiles: the comment, the device and the settings.
 pub(crate) fn append_head(text: &mut Vec<u8>, image: &AnyImage) -> Result<(), AllocError>
     ensures text { OnOk result (text.new.items ≡ text.old.items ++ text_of (head_lines (configuration_of image.now))) }
     ensures lines { OnOk result (IfSome (configuration_of image.now).comment (All IsCommentLine)) }
@@ -44,7 +54,7 @@ pub(crate) fn append_head(text: &mut Vec<u8>, image: &AnyImage) -> Result<(), Al
     append_no_sleep(text, settings.no_sleep)
 }
 
-/// Room enough for a text with a short comment and few extra bits.
+/// The number of bytes to reserve for a text with a short comment and few extra bits.
 fn usual_len(device: DeviceName) -> usize
     ensures { result ≤ 2 ^ 20 }
 {
@@ -55,7 +65,7 @@ fn usual_len(device: DeviceName) -> usize
     }
 }
 
-/// Appends the comment, where there is one.
+/// Appends the comment, if there is one.
 fn append_comment<'a>(text: &mut Vec<u8>, comment: Option<&'a Comment>) -> Result<(), AllocError>
     ensures text { OnOk result (text.new.items ≡ text.old.items ++ text_of (comment_lines (option_copied comment.entry))) }
     ensures lines { OnOk result (IfSome (option_copied comment.entry) (All IsCommentLine)) }
@@ -85,7 +95,7 @@ fn append_device(text: &mut Vec<u8>, device: DeviceName) -> Result<(), AllocErro
     append_setting(text, b".device", device.word())
 }
 
-/// Appends warm boot, where it is disabled.
+/// Appends the statement `.warmboot`, if warm boot is disabled.
 fn append_warm_boot(text: &mut Vec<u8>, warm_boot: bool) -> Result<(), AllocError>
     ensures { OnOk result (text.new.items ≡ text.old.items ++ text_of (warm_boot_lines warm_boot)) }
 {
@@ -96,7 +106,7 @@ fn append_warm_boot(text: &mut Vec<u8>, warm_boot: bool) -> Result<(), AllocErro
     }
 }
 
-/// Appends the range, where it isn't low.
+/// Appends the statement `.freqrange`, if the range isn't low.
 fn append_range(text: &mut Vec<u8>, range: Range) -> Result<(), AllocError>
     ensures { OnOk result (text.new.items ≡ text.old.items ++ text_of (range_lines range)) }
 {
@@ -107,7 +117,7 @@ fn append_range(text: &mut Vec<u8>, range: Range) -> Result<(), AllocError>
     }
 }
 
-/// Appends no sleep, where it is enabled.
+/// Appends the statement `.nosleep`, if no sleep is enabled.
 fn append_no_sleep(text: &mut Vec<u8>, no_sleep: bool) -> Result<(), AllocError>
     ensures { OnOk result (text.new.items ≡ text.old.items ++ text_of (no_sleep_lines no_sleep)) }
 {

@@ -1,4 +1,4 @@
-// Files and streams, of the system and in memory.
+// Files and streams, real and in memory.
 
 use ice_io::{
     DirFiles, Failed, Files, MemFiles, MemSink, MemSource, NamedFile, PutFault, Source, StdSink,
@@ -9,7 +9,7 @@ use std::fs;
 use std::io::{Error, ErrorKind, Read, Write};
 use std::test::Fail;
 
-/// A reader and a writer of one byte a call. It is interrupted three times before the second byte, and fails after that byte.
+/// A reader and writer of one byte a call. It is interrupted three times before the second byte, and fails after that byte.
 #[derive(Drop)]
 struct Unsteady {
     calls: u8,

@@ -6,7 +6,7 @@ use std::alloc::{AllocError, Global};
 /// As many bytes as a chunk has room for.
 const CHUNK: usize = 65_536;
 
-/// So many bytes, of which neighbours differ.
+/// Bytes of that length, of which neighbours differ.
 fn some_bytes(alloc: Global, count: usize) -> Result<Vec<u8>, AllocError> {
     let mut bytes = Vec::with_capacity(alloc, count)?;
     for place in 0..count {
@@ -15,7 +15,7 @@ fn some_bytes(alloc: Global, count: usize) -> Result<Vec<u8>, AllocError> {
     Ok(bytes)
 }
 
-/// Pushes a name again and again, up to so many names.
+/// Pushes the same name up to that many times.
 fn push_each(
     names: &mut NameArena,
     ids: &mut Vec<NameId>,
@@ -30,13 +30,13 @@ fn push_each(
     Ok(())
 }
 
-/// Whether each of some names is that one.
+/// Whether each of these names is that one.
 fn is_each(names: &NameArena, ids: &[NameId], name: &[u8]) -> bool {
     ids.iter()
         .all(|id| names.has(*id) && names.get(*id) == name)
 }
 
-/// Whether so many names of so many bytes are all got again.
+/// Whether that many names of that many bytes are all found again.
 fn keeps_names(alloc: Global, count: u32, bytes: usize) -> Result<bool, AllocError> {
     let name = some_bytes(alloc, bytes)?;
     let mut names = NameArena::new(alloc);
@@ -62,7 +62,7 @@ fn names_of_one_byte_are_got_again(rt: HostRuntime) {
     assert!(rt; keeps_names(rt.alloc(), 1_000, 1) == Ok(true));
 }
 
-/// Adds the beginnings of some bytes to a table, the shortest one first.
+/// Adds the prefixes of these bytes to a table, the shortest one first.
 fn push_beginnings(table: &mut NameTable, bytes: &[u8]) -> Result<(), AllocError> {
     for count in 0..bytes.len() {
         if table.len() < 1_000_000 {
@@ -80,7 +80,7 @@ fn is_found(table: &NameTable, name: &[u8], place: usize) -> bool {
     }
 }
 
-/// Whether each of the beginnings of some bytes is found at its place.
+/// Whether each prefix of these bytes is found at its place.
 fn is_each_found(table: &NameTable, bytes: &[u8]) -> bool {
     for place in 0..bytes.len() {
         if !is_found(table, &bytes[..place], place) {
@@ -90,7 +90,7 @@ fn is_each_found(table: &NameTable, bytes: &[u8]) -> bool {
     true
 }
 
-/// Whether the beginnings of so many bytes are found, and all of the bytes, which weren't added, aren't.
+/// Whether the prefixes of that many bytes are found. All of the bytes together weren't added, and must not be found.
 fn finds_beginnings(alloc: Global, count: usize) -> Result<bool, AllocError> {
     let bytes = some_bytes(alloc, count)?;
     let mut table = NameTable::new(alloc);

@@ -12,7 +12,7 @@ fn a_narrow_word_is_got(rt: HostRuntime) {
     assert!(rt; get(2, 0x9836, 3) == 0x1100);
 }
 
-/// Word 5 of 256 words at an address of two modes.
+/// Word 5 of 256 words, at an address in each of two modes.
 fn at_word_five(word: u16) -> [u16; 2] {
     let mut words = [0; 256];
     words[5] = word;

@@ -1,4 +1,4 @@
-// In which order a run loads and stores files, and how often.
+// The order in which a run loads and stores files, and how often it does.
 ghost use Rattle.std.specs.Prelude.{◌≡◌, ◌∷◌, [], codes, if◌then◌else◌, IfOk, IfErr};
 ghost use Rattle.tool_run.specs.Tasks.{Done, Refused};
 ghost use Rattle.tool_run.specs.Stops.{StopsWith};
@@ -8,8 +8,8 @@ use std::alloc::{AllocError, Global};
 use std::test::Fail;
 use tool_run::{FilesAndStreams, Host, Job, Load, PieceTool, Refusal, Stop, Tool, text};
 
-/// Files that note each call: `l` for a load, `p` for the first part of one in pieces and `s` for a store, and the name. They
-/// have the three calls alone that are required of files.
+/// Files that log each call: `l` for a load, `p` for the first part of a load in pieces and `s` for a store, each with the name. They have
+/// only the three calls that are required of files.
 #[derive(Drop)]
 struct Watched<F: Files> {
     files: F,
@@ -17,7 +17,7 @@ struct Watched<F: Files> {
 }
 
 impl<F: Files> Watched<F> {
-    // What isn't noted, for want of memory, is missing in the end.
+    // A call that couldn't be logged because memory is out is missing at the end.
     fn note(&mut self, call: &str, name: &str)
         ensures { self.new.files ≡ self.old.files }
     {
@@ -55,7 +55,7 @@ impl<F: Files> Files for Watched<F> {
     }
 }
 
-/// Makes one byte of whatever it loads, or refuses that.
+/// Makes one byte of whatever it loads, or refuses it.
 #[derive(Clone, Copy)]
 struct Stamp {
     refuses: bool,
@@ -138,7 +138,7 @@ fn watched_files(alloc: Global, room: usize) -> Result<Watched<MemFiles>, AllocE
     })
 }
 
-/// A run over two files, the second with this limit, into a file.
+/// A run over two files into a third one; the second input has this limit.
 #[derive(Clone, Copy)]
 struct Run {
     first: &'static str,
@@ -149,7 +149,7 @@ struct Run {
     room: usize,
 }
 
-/// Whether the run has this status, and makes these calls and no others.
+/// Whether the run has this status, and makes exactly these calls.
 fn calls_are(
     alloc: Global,
     run: Run,

@@ -1,4 +1,4 @@
-// A tool that takes what it needs in pieces, from files or standard input.
+// A tool that takes its inputs in pieces, from files or from standard input.
 ghost use Rattle.std.specs.Prelude.{◌≡◌, ◌∷◌, [], ◌%◌, codes, if◌then◌else◌, IfOk, IfErr};
 ghost use Rattle.tool_run.specs.Tasks.{Done, Refused};
 ghost use Rattle.tool_run.specs.Stops.{StopsWith};
@@ -8,7 +8,7 @@ use std::alloc::{AllocError, Global};
 use std::test::Fail;
 use tool_run::{FilesAndStreams, Host, Job, Load, PieceTool, Refusal, Stop, text};
 
-/// Counts the bytes of its needs, by 256, and refuses a byte 0 among them.
+/// Counts the bytes of its inputs, modulo 256, and refuses a byte 0 among them.
 struct Counting;
 
 #[derive(Drop)]
@@ -68,7 +68,7 @@ impl PieceTool for Counting {
     }
 }
 
-/// A file `in` with these bytes, and room for one byte in a file `out`. The bytes are given by three.
+/// A file `in` with these bytes, of which a read gives three, and room for one byte in a file `out`.
 fn files_with(alloc: Global, bytes: &[u8], failing: &[u64]) -> Result<MemFiles, AllocError> {
     let mut files = Vec::new(alloc);
     files.push(NamedFile {
@@ -78,14 +78,14 @@ fn files_with(alloc: Global, bytes: &[u8], failing: &[u64]) -> Result<MemFiles, 
     MemFiles::new(alloc, files, "out", 1, 3, failing.to_vec(alloc)?)
 }
 
-/// A count, of standard input or of the file `in`, told on standard output or in the file `out`.
+/// Counts standard input or the file `in`, and writes the answer to standard output or to the file `out`.
 #[derive(Clone, Copy)]
 struct Way {
     from: Option<&'static str>,
     to: Option<&'static str>,
 }
 
-/// What comes of a count.
+/// The outcome of a count.
 #[derive(Clone, Copy)]
 struct Outcome<'a> {
     status: u8,
@@ -93,7 +93,7 @@ struct Outcome<'a> {
     said: &'a str,
 }
 
-/// Whether this comes of a count of these bytes, at most eight, which are read by three.
+/// Whether a count of these bytes, at most eight and read three at a time, has this outcome.
 fn is_counted(
     alloc: Global,
     way: Way,

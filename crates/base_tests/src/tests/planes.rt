@@ -3,7 +3,7 @@
 use bit_plane::{Bits, Plane, Tile};
 use std::alloc::{AllocError, Global};
 
-/// Whether a byte that is put at position 4 of rows of 6 bits goes on in row 1, the most significant bit first.
+/// Whether a byte that is put at position 4 of rows of 6 bits continues in row 1, the most significant bit first.
 fn goes_on(plane: &mut Plane<6, 4>) -> bool {
     plane.put_byte(4, 0b10_100011);
     let mut bytes = [0; 3];
@@ -21,7 +21,7 @@ fn a_byte_goes_on_in_the_next_row(rt: HostRuntime) {
     assert!(rt; a_byte_goes_on(rt.alloc()) == Ok(true));
 }
 
-/// Whether three bytes that are put in rows 1 and 2 of twelve bits are the rows' bits.
+/// Whether three bytes that are put into rows 1 and 2 of twelve bits are the bits of these rows.
 fn fills_rows(plane: &mut Plane<12, 5>, other: &mut Plane<12, 5>) -> bool {
     plane.put_bytes(1, 2, &[0x12, 0x34, 0x56]);
     other.set_row_bits(0, 1, 12, 0b1100_0100_1000);
@@ -40,7 +40,7 @@ fn whole_rows_hold_bytes(rt: HostRuntime) {
     assert!(rt; whole_rows_are_filled(rt.alloc()) == Ok(true));
 }
 
-/// Whether a row gains bits on both sides of column 64, and keeps those that it has.
+/// Whether a row gains bits on both sides of column 64, and keeps the bits that it has.
 fn gains_bits(plane: &mut Plane<332, 5>) -> bool {
     plane.set_row_bits(60, 1, 8, 0b0010_1001);
     plane.gain_row_bits(61, 1, 6, 0xFFC9);
@@ -73,7 +73,7 @@ fn a_large_plane_keeps_its_last_bit(rt: HostRuntime) {
     assert!(rt; a_large_plane_is_made(rt.alloc()) == Ok(true));
 }
 
-/// Whether column c of a tile's row is the bit of value 2^c of the row's word.
+/// Whether column c of a tile's row is the bit with the value 2^c of the row's word.
 fn rows_are_words(tile: &mut Tile<54>) -> bool {
     tile.set_row(15, 0x15_5555_5555_5555);
     tile.set(15, 53, true);

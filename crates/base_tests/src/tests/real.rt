@@ -78,7 +78,7 @@ fn files_with_names_of_one_length_are_told_apart(rt: HostRuntime) -> Result<(), 
     Ok(())
 }
 
-/// A pipe with these bytes, which no one writes to any more.
+/// A pipe that holds these bytes, and to which nobody writes any more.
 fn pipe_with<R: rt::Files>(rt: &R, bytes: &[u8]) -> Result<PipeReader, Error> {
     let (reader, mut writer) = io::pipe(rt)?;
     writer.write_all(bytes)?;

@@ -24,7 +24,7 @@ head_size bytes = 1 + length (payload_in bytes)
 
 -- ---- as a command
 
--- the opcode of a command that isn't data, and the number of its payload
+-- the opcode of a command that isn't data, and the value of its payload
 abbrev pub numbers_in : ShortCommand → ℕ × ℕ
 numbers_in Reset = (control_opcode, reset_number)
 numbers_in WakeUp = (control_opcode, wake_up_number)
@@ -43,17 +43,17 @@ opcode_in command = (numbers_in command).0
 abbrev pub number_in : ShortCommand → ℕ
 number_in command = (numbers_in command).1
 
--- A command that was read is that of an opcode and of a payload with a number.
+-- A command that was read is the one of an opcode and of the value of a payload.
 abbrev pub IsOf : ℕ → ℕ → Parsed → Type 0
 IsOf opcode n (ParsedData kind) = data_kind opcode n ≡ Some kind
 IsOf opcode n (ParsedShort command) = (opcode ≡ opcode_in command) × (n ≡ number_in command)
 
--- no command has that opcode and a payload with that number
+-- no command has that opcode and a payload of that value
 pub record IsUnknown (opcode n : ℕ) : Type 0 where
   pub no_data : data_kind opcode n ≡ None
   pub unknown : (reached : Bool) (found : ℕ) → short_cause_where reached found opcode n ≡ Some UnknownCommand
 
--- What was read of a command is that command; of data only what comes before the rows.
+-- What was read of a command is that command; for data it is only the part before the rows.
 abbrev pub Shows : Command → Parsed → Type 0
 Shows (Data kind payload body) (ParsedData other) = other ≡ kind
 Shows (Short opcode payload) (ParsedShort command) = (opcode ≡ opcode_in command) × (number_of payload ≡ number_in command)

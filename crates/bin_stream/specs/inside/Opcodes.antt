@@ -30,14 +30,14 @@ pub record IsNoOpcode (n : ℕ) : Type 0 where
   pub offset : n ≢ offset_opcode
   pub mode : n ≢ mode_opcode
 
--- the number of a control command's payload
+-- the value of a control command's payload
 abbrev pub control_number : ControlTask → ℕ
 control_number CramData = kind_number Cram
 control_number BramData = kind_number Bram
 control_number Reset = reset_number
 control_number WakeUp = wake_up_number
 
--- a number that no control command's payload has
+-- a value that no control command's payload has
 pub record IsNoControl (n : ℕ) : Type 0 where
   pub cram_data : n ≢ kind_number Cram
   pub bram_data : n ≢ kind_number Bram

@@ -1,4 +1,4 @@
--- The check value in one register: what a bit does that enters it.
+-- The check value in one register, as a shift register computes it: what happens if a bit enters.
 use Rattle.std.specs.Prelude.{ℕ, ◌*◌, ◌%◌, Bool, true, false, not, List, [], ◌∷◌, bit_xor, nat_lt, if◌then◌else◌}
 
 -- whether a bit differs from another
@@ -6,7 +6,7 @@ abbrev pub differs : Bool → Bool → Bool
 differs true bit = not bit
 differs false bit = bit
 
--- the register doubles, and where the bit differs from the one that leaves at the top, the divisor is taken off
+-- the register shifts up by one; if the bit differs from the one that leaves at the top, the divisor is XORed into it
 abbrev pub entered : ℕ → Bool → ℕ
 entered value bit =
     let shifted = 2 * value % 65536 in

@@ -1,4 +1,4 @@
--- What a decoder keeps of the commands so far, and what a command does to it.
+-- What a decoder keeps of the commands so far, and how a command changes it.
 use Rattle.std.specs.Prelude.{◌≡◌, ℕ, ◌+◌, ◌*◌, ◌%◌, ◌≤◌, Bool, false, ◌||◌, List, ◌==◌, if◌then◌else◌, Option, Some, None, Result, Ok, Err}
 use Rattle.bit_plane.specs.BitList.{bits_of}
 use Rattle.plane_map.specs.declared.device.DeviceName.{DeviceName}
@@ -13,7 +13,7 @@ use Rattle.bin_stream.specs.Meaning.{settings_from}
 use Rattle.bin_stream.specs.Refusals.{device_where, data_cause_where, gives_last_where, reached_in, short_cause_where}
 use Rattle.bin_stream.specs.declared.fault.BinCause.{BinCause}
 
--- numbers that commands give, the check value's register, and whether a configuration plane's last row was given
+-- the values that commands give, the register of the check value, and whether the last row of a configuration plane was given
 pub record Held : Type 0 where
   pub bank : ℕ
   pub width : ℕ
@@ -24,7 +24,7 @@ pub record Held : Type 0 where
   pub check : ℕ
   pub reached : Bool
 
--- what is kept behind commands
+-- what is kept after commands
 abbrev pub held_after : List Command → Held
 held_after commands = record {
   bank = bank_after commands;
@@ -45,7 +45,7 @@ size_by held = size_where held.width held.height
 abbrev pub held_first : Held
 held_first = record { bank = 0; width = 0; height = 0; first_row = 0; range = 0; mode = 32; check = 65535; reached = false }
 
--- the cause that a test tells
+-- the cause that a test returns
 abbrev pub refusal_of : {A : Type 0} → Result A BinCause → Option BinCause
 refusal_of (Ok value) = None
 refusal_of (Err cause) = Some cause
@@ -56,7 +56,7 @@ settings_by held = settings_from held.range held.mode
 
 -- ---- commands that aren't data
 
--- what is wrong with a command, the register being that behind it
+-- what is wrong with a command, if the register is the one after it
 abbrev pub short_cause_by : Held → ℕ → ℕ → Option BinCause
 short_cause_by held opcode n = short_cause_where held.reached held.check opcode n
 
@@ -67,7 +67,7 @@ checked held bytes = record held { check = entered_all held.check (bits_of bytes
 abbrev pub after_control : Held → ℕ → Held
 after_control held n = if n == reset_number then record held { check = 65535 } else held
 
--- what is kept behind a command, the register being that behind it
+-- what is kept after a command, if the register is the one after it
 abbrev pub after_short : Held → ℕ → ℕ → Held
 after_short held opcode n =
     if opcode == control_opcode then after_control held n
@@ -81,7 +81,7 @@ after_short held opcode n =
 
 -- ---- data
 
--- what is wrong with data where a device is fixed, or none is
+-- what is wrong with data, whether a device is fixed or not
 abbrev pub data_cause_by : Held → Option DeviceName → PlaneKind → Option BinCause
 data_cause_by held fixed kind =
     data_cause_where (device_where fixed kind held.width) kind held.first_row held.height held.width
@@ -96,7 +96,7 @@ pub record Fits (device : DeviceName) (kind : PlaneKind) (held : Held) : Type 0 
   pub rows : held.first_row + held.height ≤ plane_height kind device
   pub whole : held.width * held.height % 8 ≡ 0
 
--- what is kept behind data, which are spelled by these bytes
+-- what is kept after data, which are spelled by these bytes
 abbrev pub after_data : Held → PlaneKind → List ℕ → Held
 after_data held kind bytes = record held {
   check = entered_all held.check (bits_of bytes);

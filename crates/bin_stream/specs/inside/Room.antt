@@ -1,4 +1,4 @@
--- How much room is asked for. Only contracts within this crate cite this.
+-- How much memory is reserved. Only contracts within this crate cite this.
 use Rattle.std.specs.Prelude.{ℕ, ◌+◌, ◌*◌, ◌/◌}
 use Rattle.plane_map.specs.declared.device.DeviceName.{DeviceName}
 use Rattle.ice_image.specs.declared.planes.PlaneKind.{PlaneKind}

@@ -29,7 +29,7 @@ is_cut (Memory e) = false
 abbrev pub begins_comment : List ℕ → Bool
 begins_comment bytes = bytes_eq (take 2 bytes) (0xFF ∷ 0 ∷ [])
 
--- Bytes are enough to tell that they begin no comment.
+-- There are enough bytes to know that they begin no comment.
 abbrev pub IsPlain : List ℕ → Type 0
 IsPlain bytes = (3 ≤ length bytes) × (begins_comment bytes ≡ false)
 
@@ -46,8 +46,8 @@ pub record KeepsPlain (bytes : List ℕ) (last : List ℕ) : Type 0 where
 
 -- ---- commands
 
--- The bytes are a front, the preamble, allowed commands without a wake-up up to an offset, and a rest. The comment is that of
--- the front, and registers and an image are what the commands leave.
+-- The bytes are a front, the preamble, allowed commands without a wake-up up to an offset, and a rest. The comment is the comment of
+-- the front, and the registers and the image are the result of the commands.
 pub record IsReading (layouts : Layouts) (bytes : List ℕ) (comment : Option (List (List ℕ))) (held : Held) (image : Option AnyImage) (offset : ℕ) (rest : List ℕ) : Type 0 where
   pub front : List ℕ
   pub commands : List Command
@@ -59,7 +59,7 @@ pub record IsReading (layouts : Layouts) (bytes : List ℕ) (comment : Option (L
   pub stands : Stands layouts commands held image
   pub offset_is : offset ≡ length front + 4 + length (spelled commands)
 
--- the same where the rest is less than a command
+-- the bytes are such a front, preamble, commands and rest, and the rest is less than a command
 pub record IsCut (layouts : Layouts) (bytes : List ℕ) (comment : Option (List (List ℕ))) (held : Held) (image : Option AnyImage) (offset : ℕ) (rest : List ℕ) : Type 0 where
   pub reading : IsReading layouts bytes comment held image offset rest
   pub cut : first_fault reading.commands offset rest ≡ Some (fault_at (offset + length rest) Truncated)
@@ -71,11 +71,11 @@ pub record IsWoken (layouts : Layouts) (bytes : List ℕ) (comment : Option (Lis
 
 -- ---- commands that are taken
 
--- the machine is what commands leave up to a cursor
+-- the machine is the result of the commands up to a cursor
 abbrev pub ReadsAt : Machine → Cursor → List ℕ → Option (List (List ℕ)) → Type 0
 ReadsAt machine at bytes comment = IsReading machine.layouts bytes comment machine.registers machine.image at.offset at.bytes.now
 
--- what was taken at a cursor leaves less than a command
+-- after what was taken at a cursor, the rest is less than a command
 abbrev pub LeavesCut : Machine → Cursor → Taken → Type 0
 LeavesCut machine at taken = (bytes : List ℕ) (comment : Option (List (List ℕ))) → ReadsAt machine at bytes comment → IsCut machine.layouts bytes comment taken.machine.registers taken.machine.image (at.offset + taken.end) (drop taken.end at.bytes.now)
 
@@ -83,7 +83,7 @@ LeavesCut machine at taken = (bytes : List ℕ) (comment : Option (List (List �
 abbrev pub LeavesWoken : Machine → Cursor → Taken → Type 0
 LeavesWoken machine at taken = (bytes : List ℕ) (comment : Option (List (List ℕ))) → ReadsAt machine at bytes comment → IsWoken machine.layouts bytes comment taken.machine.registers taken.machine.image
 
--- a fault at a cursor or behind it settles the bytes
+-- a fault at a cursor or after it settles the bytes
 abbrev pub FailsBehind : Machine → Cursor → BinFault → Type 0
 FailsBehind machine at fault = (bytes : List ℕ) (comment : Option (List (List ℕ))) → ReadsAt machine at bytes comment → Settles (bin_read_of machine.layouts bytes) fault
 
@@ -97,7 +97,7 @@ length_kept (Commands comment registers image pending) = length pending.items
 length_kept (Image image) = 0
 length_kept (Refused fault) = 0
 
--- a stage is that of the bytes
+-- a stage is the stage of the bytes
 abbrev pub IsStage : Layouts → List ℕ → Stage → Type 0
 IsStage layouts bytes (Front kept) = KeepsFront bytes kept.items
 IsStage layouts bytes (Plain last) = KeepsPlain bytes last
@@ -105,7 +105,7 @@ IsStage layouts bytes (Commands comment registers image pending) = IsCut layouts
 IsStage layouts bytes (Image image) = bin_read_of layouts bytes ≡ Ok (configuration_of image)
 IsStage layouts bytes (Refused fault) = Settles (bin_read_of layouts bytes) fault
 
--- the stage that follows, which is a refusal where there is a fault
+-- the stage that follows, which is a refusal if there is a fault
 abbrev pub stage_of : Result Stage BinFault → Stage
 stage_of (Ok stage) = stage
 stage_of (Err fault) = Refused fault

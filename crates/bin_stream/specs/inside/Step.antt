@@ -40,29 +40,29 @@ abbrev pub Refuses : Option Fault → BinFault → Type 0
 Refuses found (At offset cause) = found ≡ Some (fault_at offset cause)
 Refuses found (Memory e) = Unit {0}
 
--- what is wrong with data at an offset, whose bytes begin at another
+-- what is wrong with data whose command begins at `offset` and whose bytes begin at `start`
 abbrev pub data_refusal : Held → Option DeviceName → PlaneKind → ℕ → ℕ → List ℕ → Option Fault
 data_refusal held fixed kind offset start bytes =
     or_else (fault_where offset (data_cause_by held fixed kind)) (body_fault (size_by held) start bytes)
 
--- the device of the image, where there is one
+-- the device of the image, if there is one
 abbrev pub device_if : Option AnyImage → Option DeviceName
 device_if None = None
 device_if (Some image) = Some (device_of image)
 
--- what is wrong with data at a cursor, whose head has so many bytes
+-- what is wrong with data at a cursor, whose head has `start` bytes
 abbrev pub data_fault_at : Machine → PlaneKind → Cursor → ℕ → Option Fault
 data_fault_at machine kind at start =
     data_refusal machine.registers (device_if machine.image) kind at.offset (at.offset + start) (drop start at.bytes.now)
 
 -- ---- the image
 
--- the image so far, or one of a layout without a bit
+-- the image so far, or a blank one of a layout
 abbrev pub image_or_blank : Layout → Option AnyImage → Configuration
 image_or_blank layout None = blank_image layout
 image_or_blank layout (Some image) = configuration_of image
 
--- data were written into the image so far, or into one without a bit under the device's layout
+-- data were written into the image so far, or into a blank one under the device's layout
 pub record IsDrawnOn (layouts : Layouts) (kind : PlaneKind) (held : Held) (body : List ℕ) (before after : Option AnyImage) : Type 0 where
   pub device : DeviceName
   pub image : AnyImage
@@ -93,7 +93,7 @@ Holds layouts commands (Some image) = IsDrawn layouts commands image
 
 -- ---- commands
 
--- registers and an image are what commands leave
+-- the registers and the image are the result of the commands
 pub record Stands (layouts : Layouts) (commands : List Command) (held : Held) (image : Option AnyImage) : Type 0 where
   pub held_is : held ≡ held_after commands
   pub drawn : Holds layouts commands image
@@ -110,11 +110,11 @@ pub record IsEntered (layouts : Layouts) (commands : List Command) (offset : ℕ
 abbrev pub ShowsFirst : Cursor → Parsed → Type 0
 ShowsFirst at parsed = (commands : List Command) → Shows (first_command commands at.bytes.now) parsed
 
--- the fault is that of the first command at a cursor, whatever came before it
+-- the fault is the fault of the first command at a cursor, whatever came before it
 abbrev pub FailsAnyhow : Cursor → BinFault → Type 0
 FailsAnyhow at fault = (commands : List Command) → Refuses (first_fault commands at.offset at.bytes.now) fault
 
--- the fault is that of the first command at a cursor behind commands that leave the machine
+-- the fault is the fault of the first command at a cursor after commands whose result is the machine
 abbrev pub FailsFirst : Machine → Cursor → BinFault → Type 0
 FailsFirst machine at fault = (commands : List Command) → Stands machine.layouts commands machine.registers machine.image → Refuses (first_fault commands at.offset at.bytes.now) fault
 
@@ -122,11 +122,11 @@ FailsFirst machine at fault = (commands : List Command) → Stands machine.layou
 abbrev pub EndsFirst : Machine → Cursor → Type 0
 EndsFirst machine at = (commands : List Command) → Stands machine.layouts commands machine.registers machine.image → first_fault commands at.offset at.bytes.now ≡ Some (fault_at (at.offset + length at.bytes.now) Truncated)
 
--- the first command at a cursor was read, and leaves another machine
+-- the first command at a cursor was read, and the result is another machine
 abbrev pub EntersFirst : Machine → Cursor → Entered → Machine → Type 0
 EntersFirst machine at entered after = (commands : List Command) → Stands machine.layouts commands machine.registers machine.image → IsEntered machine.layouts commands at.offset at.bytes.now entered.size entered.is_last after.registers after.image
 
--- Commands were read up to an offset, and registers and an image are what they leave.
+-- Commands were read up to an offset, and the registers and the image are their result.
 pub record HasRead (layouts : Layouts) (bytes : List ℕ) (start offset : ℕ) (held : Held) (image : Option AnyImage) : Type 0 where
   pub commands : List Command
   pub most : ℕ

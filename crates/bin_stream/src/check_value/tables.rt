@@ -1,6 +1,6 @@
-// What a byte adds to the check value's register.
+// What a byte adds to the register of the CRC.
 
-/// `REMAINDERS[n][b]` is what byte b adds where n bytes follow it in the same step: the remainder of its bits times
+/// `REMAINDERS[n][b]` is what byte b adds if n bytes follow it in the same step: the remainder of its bits times
 /// x^(16 + 8n).
 pub(super) const REMAINDERS: [[u16; 256]; 8] = [
     [

@@ -1,4 +1,4 @@
-// What a command says, as far as its payload tells.
+// What a command says by its opcode and its payload.
 ghost use Rattle.std.specs.Prelude.{◌≡◌, ◌==◌, ◌&&◌, MatchOption};
 ghost use Rattle.bin_stream.specs.Commands.{control_opcode, wake_up_number};
 ghost use Rattle.bin_stream.specs.inside.Opcodes.{opcode_number};
@@ -7,16 +7,16 @@ ghost use Rattle.bin_stream.specs.inside.Heads.{opcode_in, number_in, IsOf, IsUn
 use crate::opcode::{Control, Opcode};
 use ice_image::PlaneKind;
 
-/// A command. Of data this is what comes before their rows.
+/// A command. For data this is only the part before their rows.
 #[derive(Clone, Copy)]
 pub(crate) enum Command {
-    /// Rows of a plane of that kind follow.
+    /// Rows of a plane of this kind follow.
     Data(PlaneKind),
     /// A command without rows.
     Short(ShortCommand),
 }
 
-/// A command without rows, with the number that its payload is. `Control` says what the first two are for, and `Opcode` the others.
+/// A command without rows, with the value of its payload. `Control` says what the first two are for, and `Opcode` the others.
 #[derive(Clone, Copy)]
 pub(crate) enum ShortCommand {
     Reset,
@@ -32,7 +32,7 @@ pub(crate) enum ShortCommand {
 }
 
 impl Command {
-    /// The command that the number of an opcode and that of a payload make, where there is one.
+    /// The command of the number of an opcode and the value of a payload, if there is one.
     pub(crate) fn from_numbers(opcode: u8, number: u32) -> Option<Command>
         ensures { MatchOption result (IsUnknown opcode number) (IsOf opcode number) }
     {
@@ -42,7 +42,7 @@ impl Command {
         }
     }
 
-    /// The command of an opcode with the number of its payload, where there is one.
+    /// The command of an opcode with the value of its payload, if there is one.
     fn of(opcode: Opcode, number: u32) -> Option<Command>
         ensures { MatchOption result (IsUnknown (opcode_number opcode) number) (IsOf (opcode_number opcode) number) }
     {
@@ -60,7 +60,7 @@ impl Command {
         Some(Command::Short(command))
     }
 
-    /// The control command with the number of its payload, where there is one.
+    /// The control command with the value of its payload, if there is one.
     fn of_control(number: u32) -> Option<Command>
         ensures { MatchOption result (IsUnknown control_opcode number) (IsOf control_opcode number) }
     {
@@ -75,7 +75,7 @@ impl Command {
 }
 
 impl ShortCommand {
-    /// Whether it is the wake-up.
+    /// Whether it is the wake-up command.
     pub(crate) fn is_wake_up(self) -> bool
         ensures { result ≡ ((opcode_in self == control_opcode) && (number_in self == wake_up_number)) }
     {

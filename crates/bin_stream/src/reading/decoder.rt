@@ -11,9 +11,10 @@ use layout_file::Layouts;
 use std::alloc::Global;
 use std::mem;
 
-/// A reader of a bitstream that comes in pieces.
+/// A decoder of a bitstream that comes in pieces.
 ///
-/// It keeps a front only where a comment may be in it, the image so far, and the bytes of a command that isn't whole.
+/// It keeps the image so far and the bytes of a command that isn't complete, and the bytes before the preamble only if they may have a
+/// comment.
 #[derive(Drop)]
 pub struct Decoder {
     alloc: Global,
@@ -34,7 +35,7 @@ impl Decoder {
     ghost use Rattle.bin_stream.specs.Decoding.{fed_to, refusal_of, StandsFor};
     ghost use Rattle.bin_stream.specs.declared.fault.BinFault.{BinFault as Fault};
 
-    /// A decoder of images under the standard layouts, to which nothing was fed. It takes no memory.
+    /// A new decoder of images under the standard layouts. It allocates nothing.
     pub fn new(alloc: Global) -> Decoder
         ensures stands { StandsFor standard_layouts [] result }
         ensures fed { fed_to result ≡ 0 }
@@ -43,7 +44,7 @@ impl Decoder {
         Decoder::with(alloc, Layouts::standard())
     }
 
-    /// A decoder of images under the layouts, to which nothing was fed. It takes no memory.
+    /// A new decoder of images under the layouts. It allocates nothing.
     pub fn with(alloc: Global, layouts: Layouts) -> Decoder
         requires { AreLayouts layouts }
         ensures stands { StandsFor layouts [] result }
@@ -60,9 +61,12 @@ impl Decoder {
         }
     }
 
-    /// Takes the next bytes. It refuses where what was fed has a fault other than that it ended early (`NoPreamble` or
-    /// `Truncated`). That fault stays, whatever follows, and each later call answers it again. The same holds after it
-    /// ran out of memory.
+    /// Takes the next bytes.
+    ///
+    /// # Errors
+    /// `BinFault::At` if the bytes so far have a fault other than that they end too early (`NoPreamble` or `Truncated`). It is the fault of
+    /// the whole bitstream, whatever follows, and each later call returns it again. `BinFault::Memory` if memory is out; it too comes again
+    /// from each later call.
     pub fn feed(&mut self, piece: &[u8]) -> Result<(), BinFault>
         requires { fed_to self.old + length piece.now < 2 ^ 32 }
         ensures fed { fed_to self.new ≡ fed_to self.old + length piece.now }
@@ -86,7 +90,11 @@ impl Decoder {
         answer
     }
 
-    /// The image that what was fed spells, or its first fault.
+    /// The image that the bytes that were fed spell.
+    ///
+    /// # Errors
+    /// The error that `feed` returned, if it returned one; `BinFault::At` for the first fault of the bytes; `BinFault::Memory` if memory is
+    /// out.
     pub fn finish(self) -> Result<AnyImage, BinFault>
         ensures decided { (layouts : Layouts) (bytes : List ℕ) → StandsFor layouts bytes self → IsDecided layouts bytes }
         ensures image { IfOk result (λ image. (layouts : Layouts) (bytes : List ℕ) → StandsFor layouts bytes self → bin_read_of layouts bytes ≡ Ok (configuration_of image)) }

@@ -1,4 +1,4 @@
-// Reading a bitstream that is there as a whole.
+// Reading a bitstream that is in memory as a whole.
 ghost use Rattle.std.specs.Prelude.{◌≡◌, Ok, IfOk, IfErr};
 ghost use Rattle.layout_file.specs.Layouts.{standard_layouts, AreLayouts};
 ghost use Rattle.ice_image.specs.Either.{configuration_of};
@@ -14,7 +14,10 @@ use ice_image::AnyImage;
 use layout_file::Layouts;
 use std::alloc::Global;
 
-/// The image that a bitstream spells under the standard layouts, or its first fault.
+/// The image that a bitstream spells under the standard layouts.
+///
+/// # Errors
+/// `BinFault::At` for the first fault, with its offset and its cause; `BinFault::Memory` if memory is out.
 pub fn decode(alloc: Global, bytes: &[u8]) -> Result<AnyImage, BinFault>
     ensures decided { IsDecided standard_layouts bytes.now }
     ensures image { IfOk result (λ image. bin_read_of standard_layouts bytes.now ≡ Ok (configuration_of image)) }
@@ -23,7 +26,19 @@ pub fn decode(alloc: Global, bytes: &[u8]) -> Result<AnyImage, BinFault>
     decode_with(alloc, bytes, Layouts::standard())
 }
 
-/// The image that a bitstream spells under the layouts, or its first fault.
+/// The image that a bitstream spells under the layouts.
+///
+/// # Errors
+/// As [`decode`].
+///
+/// # Example
+/// ```ignore
+/// match decode_with(alloc, &bytes, Layouts::standard()) {
+///     Ok(image) => Ok(image.device()),
+///     Err(BinFault::At { offset, .. }) => Err(offset),
+///     Err(BinFault::Memory(_)) => Err(0),
+/// }
+/// ```
 #[tactic(auto, using(crate::proofs::Decided::decided))]
 pub fn decode_with(alloc: Global, bytes: &[u8], layouts: Layouts) -> Result<AnyImage, BinFault>
     requires { AreLayouts layouts }

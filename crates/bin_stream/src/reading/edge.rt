@@ -1,14 +1,14 @@
-// Where a piece follows bytes of which only the last three are kept.
+// A preamble that may begin in one piece and end in the next, if only the last three bytes of the earlier pieces are kept.
 ghost use Rattle.std.specs.Prelude.{◌≡◌, ◌+◌, ◌-◌, ◌<◌, ◌≤◌, ◌++◌, Some, None, IfSome, length, take, drop};
 ghost use Rattle.bin_stream.specs.Front.{preamble_offset};
 
 use super::front::preamble_offset;
 use crate::marks::PREAMBLE;
 
-/// How many bytes at the end may belong to a preamble that isn't whole.
+/// How many bytes at the end may belong to a preamble that isn't complete.
 pub(crate) const KEPT: usize = 3;
 
-/// The last three bytes before a piece and up to three first ones of it.
+/// The last three bytes before a piece and its first bytes, at most three.
 #[derive(Clone, Copy)]
 struct Edge {
     bytes: [u8; 6],
@@ -41,7 +41,7 @@ fn edge_of(last: [u8; 3], piece: &[u8]) -> Edge
     }
 }
 
-/// The place in a piece behind the first preamble, which may begin in the last three bytes before the piece.
+/// The index in a piece right after the first preamble, which may begin in the last three bytes before the piece.
 pub(crate) fn start_behind(last: [u8; 3], piece: &[u8]) -> Option<usize>
     ensures within { IfSome result (λ start. start ≤ length piece.now) }
     ensures found { IfSome result (λ start. preamble_offset (last ++ piece.now) ≡ Some (start - 1)) }
@@ -55,7 +55,7 @@ pub(crate) fn start_behind(last: [u8; 3], piece: &[u8]) -> Option<usize>
     }
 }
 
-/// The place behind the first preamble in a piece.
+/// The index right after the first preamble in a piece.
 fn start_within(piece: &[u8]) -> Option<usize>
     ensures within { IfSome result (λ start. (4 ≤ start) × (start ≤ length piece.now)) }
     ensures found { IfSome result (λ start. preamble_offset piece.now ≡ Some (start - 4)) }
@@ -67,7 +67,7 @@ fn start_within(piece: &[u8]) -> Option<usize>
     }
 }
 
-/// The last three bytes behind a piece.
+/// The last three bytes after a piece has come.
 pub(crate) fn last_behind(last: [u8; 3], piece: &[u8]) -> [u8; 3]
     ensures { result ≡ drop (length piece.now) (last ++ piece.now) }
 {

@@ -1,4 +1,4 @@
-// The front of a bitstream: what comes before its commands.
+// The front of a bitstream: the bytes before its preamble.
 ghost use Rattle.std.specs.Prelude.{◌≡◌, ◌+◌, ◌<◌, ◌≤◌, ◌∷◌, [], ◌++◌, IfSome, IfOk, OnOk, IsTrue, length, filter, position, if◌then◌else◌};
 ghost use Rattle.std.specs.List.{position_or_len};
 ghost use Rattle.bin_stream.specs.Front.{is_preamble_at, preamble_offset, pieces_of, is_comment_line, comment_of};
@@ -21,7 +21,7 @@ pub(crate) fn preamble_offset(bytes: &[u8]) -> Option<usize>
     None
 }
 
-/// Whether the preamble is at an offset. Most bytes aren't its first one, so that one is looked at before.
+/// Whether the preamble is at an offset. Most bytes aren't its first one, so that byte is tested first.
 fn is_preamble_at(bytes: &[u8], offset: usize) -> bool
     requires { offset < length bytes.now }
     ensures value { result ≡ is_preamble_at bytes.now offset }
@@ -30,7 +30,7 @@ fn is_preamble_at(bytes: &[u8], offset: usize) -> bool
     bytes[offset] == PREAMBLE[0] && bytes[offset..].starts_with(&PREAMBLE)
 }
 
-/// The comment in the bytes before the preamble.
+/// The comment in the bytes before the preamble, or `None` if there is none.
 #[tactic(auto, unfolding(crate::specs::Front::comment_of))]
 pub(crate) fn comment_of(alloc: Global, front: &[u8]) -> Result<Option<Comment>, AllocError>
     ensures { IfOk result (λ comment. comment ≡ comment_of front.now) }
@@ -59,7 +59,7 @@ fn lines_of(alloc: Global, bytes: &[u8]) -> Result<Comment, AllocError>
     }
 }
 
-/// Adds a piece to a comment, where it may be a line.
+/// Adds a piece to a comment, if it may be a line.
 fn append_piece(comment: &mut Comment, piece: &[u8]) -> Result<(), AllocError>
     ensures { OnOk result (comment.new ≡ comment.old ++ filter is_comment_line (piece.now ∷ [])) }
 {
@@ -70,7 +70,7 @@ fn append_piece(comment: &mut Comment, piece: &[u8]) -> Result<(), AllocError>
     }
 }
 
-/// How many bytes come before the first 00 or FF, or how many there are without one.
+/// How many bytes come before the first 00 or FF; all of them if there is none.
 fn piece_length(bytes: &[u8]) -> usize
     ensures { result ≡ position_or_len is_piece_end bytes.now }
 {

@@ -22,7 +22,7 @@ pub(crate) fn fault_at(offset: usize, cause: BinCause) -> BinFault
     }
 }
 
-/// What the first byte and the payload of a command say.
+/// The head of a command: what its first byte and its payload say.
 #[derive(Clone, Copy)]
 pub(crate) struct Head {
     pub(crate) command: Command,
@@ -47,7 +47,7 @@ impl<'a> Cursor<'a> {
         Cursor { offset: 0, bytes }
     }
 
-    /// The bytes behind the first `count`.
+    /// The bytes after the first `count`.
     pub(crate) fn behind(self, count: usize) -> Cursor<'a>
         requires within { count ≤ length self.bytes.now }
         requires offset { self.offset + length self.bytes.now < 2 ^ 64 }
@@ -60,7 +60,7 @@ impl<'a> Cursor<'a> {
         }
     }
 
-    /// That the input ends too early, which is a fault at its end.
+    /// The fault that the input ends too early, at its end.
     fn cut(self) -> BinFault
         requires { self.offset + length self.bytes.now < 2 ^ 64 }
         ensures { result ≡ fault_of (self.entry.offset + length self.entry.bytes.now) Truncated }
@@ -110,7 +110,7 @@ impl<'a> Cursor<'a> {
         }
     }
 
-    /// The rows of data: the first `size` bytes. Two bytes 00 have to follow.
+    /// The rows of data: the first `size` bytes, after which two bytes 00 have to follow.
     pub(crate) fn body(self, size: usize) -> Result<&'a [u8], BinFault>
         requires { self.offset + length self.bytes.now < 2 ^ 64 }
         ensures body { IfOk result (λ body. body.now ≡ take size self.entry.bytes.now) }
@@ -141,7 +141,7 @@ impl<'a> Cursor<'a> {
     }
 }
 
-/// The number that a payload is, the high byte first.
+/// The value of a payload, the high byte first.
 fn number_of(payload: &[u8]) -> u32
     requires { length payload.now < 5 }
     ensures { result ≡ number_of payload.now }

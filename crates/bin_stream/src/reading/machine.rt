@@ -22,11 +22,11 @@ use std::alloc::{AllocError, Global};
 pub(crate) struct Entered {
     /// How many bytes it has.
     pub(crate) size: usize,
-    /// Whether it is the wake-up.
+    /// Whether it is the wake-up command.
     pub(crate) is_last: bool,
 }
 
-/// What the commands so far leave: the registers, and an image once there were data. The image has the layout of its device.
+/// The result of the commands so far: the registers, and an image once there were data. The image has the layout of its device.
 #[derive(Drop)]
 pub(crate) struct Machine {
     pub(crate) layouts: Layouts,
@@ -35,7 +35,7 @@ pub(crate) struct Machine {
 }
 
 impl Machine {
-    /// What holds before the first command.
+    /// The machine before the first command.
     pub(crate) fn new(layouts: Layouts) -> Machine
         ensures layouts { result.layouts ≡ layouts }
         ensures registers { result.registers ≡ held_first }
@@ -81,8 +81,7 @@ impl Machine {
         }
     }
 
-    /// Takes the data that these bytes begin with, of which `start` come before the rows, and tells how many bytes the command
-    /// has.
+    /// Takes the data with which these bytes begin; the rows come after the first `start` bytes. Returns how many bytes the command has.
     fn enter_data(
         &mut self,
         alloc: Global,
@@ -116,7 +115,7 @@ impl Machine {
         }
     }
 
-    /// The device of the image, where there is one.
+    /// The device of the image, if there is one.
     fn device(&self) -> Option<DeviceName>
         ensures { result ≡ device_if self.now.image }
     {
@@ -126,7 +125,7 @@ impl Machine {
         }
     }
 
-    /// Writes the rows of data into the image, which is made where there is none.
+    /// Writes the rows of data into the image, which is made if there is none.
     fn draw(
         &mut self,
         alloc: Global,
@@ -152,7 +151,7 @@ impl Machine {
     }
 }
 
-/// The image so far, or where there is none one without a bit under the layout.
+/// The image so far, or a blank one under the layout if there is none.
 fn image_or_blank(
     alloc: Global,
     image: Option<AnyImage>,

@@ -1,4 +1,4 @@
-// What a decoder keeps of the commands so far.
+// The registers of a decoder: what it keeps of the commands so far.
 ghost use Rattle.std.specs.Prelude.{◌≡◌, ◌+◌, ◌*◌, ◌/◌, ◌%◌, ◌<◌, ◌≤◌, ◌^◌, ◌==◌, not, None, Some, IfOk, nat_lt};
 ghost use Rattle.plane_map.specs.declared.device.DeviceName.{DeviceName as Name};
 ghost use Rattle.bin_stream.specs.Refusals.{cause_if, is_mode, device_where, is_bad_height, check_cause};
@@ -18,16 +18,16 @@ use std::marker::Model;
 /// The last bank.
 const LAST_BANK: u32 = 3;
 
-/// The number of the high range, the last one.
+/// The value of the high range, the greatest one.
 const HIGH_RANGE: u32 = 2;
 
-/// What warm boot adds to a mode.
+/// The bit of the mode that enables warm boot.
 const WARM_BOOT: u32 = 32;
 
-/// The mode that holds where no command sets one: warm boot, and sleep.
+/// The mode that holds if no command sets one: warm boot is on, and the flash is put to sleep.
 const FIRST_MODE: u32 = WARM_BOOT;
 
-/// The numbers that commands gave, the CRC's register, and whether data reached the last row of a configuration plane.
+/// The values that commands set, the register of the CRC, and whether data reached the last row of a configuration plane.
 #[derive(Drop)]
 pub(crate) struct Registers {
     bank: usize,
@@ -48,12 +48,12 @@ impl Model for Registers {
 
     ghost view = { λ r. record { bank = r.bank; width = r.width; height = r.height; first_row = r.first_row; range = r.range; mode = r.mode; check = r.check; reached = r.reached } };
 
-    // A payload has four bytes at most, and the width is one more than its number.
+    // A payload has at most four bytes, and the width is its value plus one.
     ghost invariant = { λ r. (r.bank < 4) × (r.width ≤ 2 ^ 32) × (r.height < 2 ^ 32) × (r.first_row < 2 ^ 32) };
 }
 
 impl Registers {
-    /// What holds before the first command.
+    /// The registers before the first command.
     pub(crate) fn new() -> Registers
         ensures { result ≡ held_first }
     {
@@ -109,7 +109,7 @@ impl Registers {
         }
     }
 
-    /// Takes a command that isn't data, with all its bytes.
+    /// Takes a command that isn't data; all its bytes enter the CRC.
     pub(crate) fn enter_short(
         &mut self,
         command: ShortCommand,
@@ -182,7 +182,7 @@ impl Registers {
         Ok(())
     }
 
-    /// Changes the width, which is written less one.
+    /// Changes the width. The command has the width minus one.
     fn set_width(&mut self, number: u32) -> Result<(), BinCause>
         ensures allowed { refusal_of result ≡ None }
         ensures entered { self.new ≡ record self.old { width = number + 1 } }
@@ -223,7 +223,7 @@ impl Registers {
         }
     }
 
-    /// The device of the next data: the one of earlier data, else that of their width.
+    /// The device of the next data: the device of earlier data, or else the device whose planes have their width.
     pub(crate) fn device_for(
         &self,
         kind: PlaneKind,
@@ -247,7 +247,7 @@ impl Registers {
         }
     }
 
-    /// Whether the next data have no row, rows past the plane's last, or a part of a byte at the end.
+    /// Whether the next data have no row, rows after the plane's last one, or a part of a byte at the end.
     fn has_bad_height(&self, kind: PlaneKind, device: DeviceName) -> bool
         ensures { result ≡ is_bad_height kind device self.now.first_row self.now.height self.now.width }
     {
@@ -256,7 +256,7 @@ impl Registers {
             || self.width * self.height % 8 != 0
     }
 
-    /// Takes data by all their bytes, from the first byte of the command to the last of the two 00 behind the rows.
+    /// Takes data; all their bytes enter the CRC, from the first byte of the command to the second 00 after the rows.
     pub(crate) fn enter_data(&mut self, kind: PlaneKind, command: &[u8])
         ensures { self.new ≡ after_data self.old kind command.now }
     {
@@ -278,7 +278,7 @@ impl Registers {
     }
 }
 
-/// The range that has a number.
+/// The range of a value.
 fn range_of(number: u32) -> Range
     ensures { result ≡ range_of number }
 {
@@ -289,14 +289,14 @@ fn range_of(number: u32) -> Range
     }
 }
 
-/// Whether a device's planes have rows of that many columns.
+/// Whether a device's planes have rows, and these have `columns` columns.
 fn has_width(kind: PlaneKind, device: DeviceName, columns: usize) -> bool
     ensures { result ≡ has_width kind device columns }
 {
     kind.rows(device) != 0 && columns == kind.columns(device)
 }
 
-/// The device whose planes have rows of that many columns.
+/// The device whose planes have rows of `columns` columns, or `None`.
 fn device_with(kind: PlaneKind, columns: usize) -> Option<DeviceName>
     ensures { result ≡ device_with kind columns }
 {

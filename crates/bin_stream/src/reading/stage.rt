@@ -24,11 +24,11 @@ pub(crate) enum Stage {
     Front {
         kept: Vec<u8>,
     },
-    /// There is no preamble yet, and no comment. The last three bytes are kept.
+    /// There is no preamble yet, and the bytes begin no comment. The last three bytes are kept.
     Plain {
         last: [u8; 3],
     },
-    /// The commands so far, and the bytes of one that isn't whole.
+    /// The result of the commands so far, and the bytes of a command that isn't complete.
     Commands {
         comment: Option<Comment>,
         registers: Registers,
@@ -37,12 +37,12 @@ pub(crate) enum Stage {
     },
     /// The image at the wake-up.
     Image(AnyImage),
-    /// The fault, or that there was no memory.
+    /// The fault, or out of memory.
     Refused(BinFault),
 }
 
 impl Stage {
-    /// What is known with a piece more, where so many bytes came before it.
+    /// The stage after another piece, before which `fed` bytes came.
     pub(crate) fn after(self, alloc: Global, layouts: Layouts, fed: usize, piece: &[u8]) -> Stage
         requires layouts { AreLayouts layouts }
         requires fed { fed + length piece.now < 2 ^ 64 }
@@ -85,7 +85,7 @@ impl Stage {
     }
 }
 
-/// The stage that follows, which is a refusal where there is a fault.
+/// The stage that follows, which is a refusal if there is a fault.
 fn stage_of(stage: Result<Stage, BinFault>) -> Stage
     ensures { result ≡ stage_of stage }
 {
@@ -95,7 +95,7 @@ fn stage_of(stage: Result<Stage, BinFault>) -> Stage
     }
 }
 
-/// The stage behind a piece where all bytes before it are kept.
+/// The stage after a piece, if all bytes before it are kept.
 fn front_after(
     alloc: Global,
     layouts: Layouts,
@@ -118,7 +118,7 @@ fn front_after(
     }
 }
 
-/// The stage of the first piece, which is copied only where it has no preamble and may begin a comment.
+/// The stage of the first piece, which is copied only if it has no preamble and may begin a comment.
 fn first_stage(alloc: Global, layouts: Layouts, piece: &[u8]) -> Result<Stage, BinFault>
     requires layouts { AreLayouts layouts }
     ensures room { length_kept (stage_of result) ≤ length piece.now }
@@ -140,7 +140,7 @@ fn first_stage(alloc: Global, layouts: Layouts, piece: &[u8]) -> Result<Stage, B
     }
 }
 
-/// The stage of all the bytes so far, where they have no preamble.
+/// The stage of all the bytes so far, if they have no preamble.
 fn front_stage(bytes: Vec<u8>) -> Stage
     ensures room { length_kept result ≤ length bytes.items }
     ensures stands { (layouts : Layouts) → preamble_offset bytes.items ≡ None → IsStage layouts bytes.items result }
@@ -154,7 +154,7 @@ fn front_stage(bytes: Vec<u8>) -> Stage
     }
 }
 
-/// Whether bytes are enough to tell that they begin no comment.
+/// Whether there are enough bytes to know that they begin no comment.
 fn is_plain(bytes: &[u8]) -> bool
     ensures { IsTrue result ↔ IsPlain bytes.now }
 {
@@ -168,7 +168,7 @@ fn begins_comment(bytes: &[u8]) -> bool
     bytes.starts_with(&COMMENT_START)
 }
 
-/// The stage of all the bytes so far, where their first preamble is at a place.
+/// The stage of all the bytes so far, if their first preamble is at a given index.
 fn begun_stage(
     alloc: Global,
     layouts: Layouts,
@@ -185,7 +185,7 @@ fn begun_stage(
     commands_after(alloc, Machine::new(layouts), comment, at)
 }
 
-/// The stage behind a piece where the bytes before it have no preamble and no comment, and end with three bytes.
+/// The stage after a piece, if the bytes before it have no preamble and no comment; `last` are the last three of them.
 fn plain_after(
     alloc: Global,
     layouts: Layouts,
@@ -212,7 +212,7 @@ fn plain_after(
     }
 }
 
-/// The stage behind a piece where the commands have begun before it.
+/// The stage after a piece, if the commands have begun before it.
 fn pending_after(
     alloc: Global,
     machine: Machine,
@@ -246,7 +246,7 @@ fn pending_after(
     stage_behind(taken, comment, fed, left)
 }
 
-/// The stage behind the whole commands that bytes begin with.
+/// The stage after the complete commands with which bytes begin.
 fn commands_after(
     alloc: Global,
     machine: Machine,
@@ -263,7 +263,7 @@ fn commands_after(
     stage_behind(taken, comment, at.offset, left)
 }
 
-/// The stage behind commands that were taken, where such bytes are left.
+/// The stage after commands that were taken, if these bytes remain.
 fn stage_behind(
     taken: Taken,
     comment: Option<Comment>,
@@ -296,7 +296,7 @@ fn stage_behind(
     }
 }
 
-/// The bytes behind commands that were taken, as far as another may follow.
+/// The bytes that remain after commands that were taken, or no bytes after the wake-up.
 fn left_of(alloc: Global, taken: &Taken, bytes: &[u8]) -> Result<Vec<u8>, AllocError>
     requires { taken.now.end ≤ length bytes.now }
     ensures within { IfOk result (λ left. length left.items ≤ length bytes.now) }
@@ -309,7 +309,7 @@ fn left_of(alloc: Global, taken: &Taken, bytes: &[u8]) -> Result<Vec<u8>, AllocE
     }
 }
 
-/// The same of a vector, which serves again where no command was taken.
+/// The bytes that remain in a vector after commands that were taken. The vector is used again if no command was taken.
 fn left_of_vector(alloc: Global, taken: &Taken, bytes: Vec<u8>) -> Result<Vec<u8>, AllocError>
     requires { taken.now.end ≤ length bytes.items }
     ensures within { IfOk result (λ left. length left.items ≤ length bytes.items) }

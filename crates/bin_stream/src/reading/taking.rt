@@ -14,16 +14,16 @@ use crate::fault::{BinCause, BinFault};
 use ice_image::{AnyImage, Comment};
 use std::alloc::Global;
 
-/// What commands that were taken leave, and how many bytes they have.
+/// The result of commands that were taken, and how many bytes they have.
 #[derive(Drop)]
 pub(crate) struct Taken {
     pub(crate) machine: Machine,
     pub(crate) end: usize,
-    /// Whether the last one is the wake-up. Else less than a command follows them.
+    /// Whether the last one is the wake-up command. If not, the bytes after them are less than a command.
     pub(crate) is_last: bool,
 }
 
-/// Takes the commands that bytes begin with, up to the wake-up or the last whole one.
+/// Takes the commands with which bytes begin, up to the wake-up or the last complete one.
 pub(crate) fn take_commands(alloc: Global, machine: Machine, at: Cursor) -> Result<Taken, BinFault>
     requires offset { at.offset + length at.bytes.now < 2 ^ 64 }
     requires layouts { AreLayouts machine.layouts }
@@ -54,7 +54,7 @@ pub(crate) fn take_commands(alloc: Global, machine: Machine, at: Cursor) -> Resu
     }
 }
 
-/// Takes the first command of bytes, where it is whole; else its size is 0, and nothing changes.
+/// Takes the first command of bytes if it is complete. If not, the size is 0, and nothing changes.
 fn enter_whole(machine: &mut Machine, alloc: Global, at: Cursor) -> Result<Entered, BinFault>
     requires offset { at.offset + length at.bytes.now < 2 ^ 64 }
     requires layouts { AreLayouts machine.old.layouts }
@@ -95,7 +95,7 @@ fn is_cut(fault: &BinFault) -> bool
     }
 }
 
-/// The image at the wake-up with its comment and the settings that the commands give, or that there is no device at an offset.
+/// The image at the wake-up, with its comment and the settings that the commands give. If there is no device, the fault is at `offset`.
 pub(crate) fn image_at_end(
     machine: Machine,
     comment: Option<Comment>,

@@ -21,7 +21,7 @@ pub(crate) fn append_command(
     out.extend_from_slice(payload)
 }
 
-/// Appends a command whose payload is a number of two bytes, the high one first.
+/// Appends a command whose payload has two bytes, the high one first.
 pub(crate) fn append_word(out: &mut Vec<u8>, opcode: Opcode, word: u16) -> Result<(), AllocError>
     ensures { OnOk result (out.new.items ≡ out.old.items ++ spelling (Short (opcode_number opcode) (to_be_bytes w16 word))) }
 {

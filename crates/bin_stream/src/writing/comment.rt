@@ -8,7 +8,7 @@ use crate::marks::{COMMENT_END, COMMENT_START};
 use ice_image::{AnyImage, Comment};
 use std::alloc::AllocError;
 
-/// Appends the comment of an image, where there is one.
+/// Appends the comment of an image, if there is one.
 pub(crate) fn append_comment(out: &mut Vec<u8>, image: &AnyImage) -> Result<(), AllocError>
     ensures bytes { OnOk result (out.new.items ≡ out.old.items ++ comment_bytes (configuration_of image.now).comment) }
     ensures lines { OnOk result (IfSome (configuration_of image.now).comment (All IsCommentLine)) }

@@ -51,7 +51,7 @@ fn append_cram_bank(out: &mut Vec<u8>, image: &AnyImage, bank: u8) -> Result<(),
     append_data(out, image, PlaneKind::Cram, bank, 0, rows)
 }
 
-/// Appends the RAM planes, with the size of their halves; nothing where there is no RAM.
+/// Appends the RAM planes, with the size of their halves, or nothing if the device has no RAM.
 #[tactic(auto, unfolding(crate::specs::CanonicalBytes::bram_bytes))]
 pub(crate) fn append_bram(out: &mut Vec<u8>, image: &AnyImage) -> Result<(), AllocError>
     ensures { OnOk result (out.new.items ≡ out.old.items ++ bram_bytes (configuration_of image.now).layout.device (configuration_of image.now).bram) }

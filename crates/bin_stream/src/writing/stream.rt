@@ -23,10 +23,20 @@ use std::alloc::{AllocError, Global};
 const WARM_BOOT: u8 = 32;
 
 /// The canonical bytes of an image: the one bitstream that is written for it.
+///
+/// # Errors
+/// `AllocError` if memory is out, and for no other cause.
+///
+/// # Example
+/// ```ignore
+/// let mut image = AnyImage::zeroed(alloc, DeviceName::K1)?;
+/// image.set_comment(Some(Comment::new(alloc)));
+/// let bytes = encode(alloc, &image)?;
+/// ```
 pub fn encode(alloc: Global, image: &AnyImage) -> Result<Vec<u8>, AllocError>
     ensures bytes { IfOk result (λ bytes. bytes.items ≡ canonical_bytes (configuration_of image.now)) }
     ensures spells { IfOk result (λ bytes. (layouts : Layouts) → HasLayout layouts (configuration_of image.now).layout → Spells layouts bytes.items (configuration_of image.now)) }
-    // So `decode_with` under layouts of which the image has one gives it back.
+    // So `decode_with` under layouts that include the image's layout gives the image back.
     ensures read { IfOk result (λ bytes. (layouts : Layouts) → HasLayout layouts (configuration_of image.now).layout → bin_read_of layouts bytes.items ≡ Ok (configuration_of image.now)) }
 {
     let mut out = Vec::with_capacity(alloc, usual_size(image.device()))?;
@@ -46,8 +56,8 @@ pub fn encode(alloc: Global, image: &AnyImage) -> Result<Vec<u8>, AllocError>
     Ok(out)
 }
 
-/// Room enough for the bitstream of an image with a short comment: beside the rows of its planes, which are all written, no
-/// more than 1,024 bytes.
+/// The number of bytes to reserve for the bitstream of an image with a short comment: the rows of its planes, which are all written, and
+/// 1,024 bytes more.
 fn usual_size(device: DeviceName) -> usize
     ensures { result ≤ planes_size device + 1024 }
 {
@@ -58,7 +68,7 @@ fn usual_size(device: DeviceName) -> usize
     }
 }
 
-/// The number of a range.
+/// The value of a range in the range command.
 fn range_number(range: Range) -> u8
     ensures { result ≡ range_number range }
 {
@@ -69,7 +79,7 @@ fn range_number(range: Range) -> u8
     }
 }
 
-/// Appends what the CRC covers: all behind the reset, up to the first byte of the check command.
+/// Appends what the CRC covers: everything after the reset of the CRC, up to the first byte of the check command.
 #[tactic(auto, unfolding(crate::specs::CanonicalBytes::checked_bytes))]
 fn append_checked(out: &mut Vec<u8>, image: &AnyImage) -> Result<(), AllocError>
     ensures { OnOk result (out.new.items ≡ out.old.items ++ checked_bytes (configuration_of image.now)) }

@@ -8,15 +8,15 @@ use Rattle.bit_plane.specs.Cut.{IsGrid-rows_of}
 unfoldable pub packed : List ℕ → List Bool
 packed words = flat_map (word_bits 64) words
 
--- the rows whose bits stand in words, one row after the other
+-- the rows whose bits are kept in words, one row after the other
 abbrev pub rows_in : ℕ → ℕ → List ℕ → Rows
 rows_in width height words = rows_of width height (take (width * height) (packed words))
 
--- no bit from that place on is set, so that words with the same bits before it are the same words
+-- no bit from place `size` on is set, so words with the same bits before it are the same words
 abbrev pub IsClearFrom : ℕ → List ℕ → Type 0
 IsClearFrom size words = drop size (packed words) ≡ replicate (64 * length words - size) false
 
--- as many bits as were asked for
+-- the list has `count` bits
 pub length-word_bits : (count n : ℕ) → length (word_bits count n) ≡ count
 unfolding word_bits
 length-word_bits zero n = refl

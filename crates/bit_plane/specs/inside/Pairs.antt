@@ -1,8 +1,8 @@
--- The places of a word in pairs: a place and the one that it is exchanged with, so many places away.
+-- The places of a word in pairs: a place and its partner, with which it is exchanged, `shift` places away.
 use Rattle.std.specs.Prelude.{◌≡◌, ℕ, ◌+◌, ◌-◌, ◌/◌, ◌%◌, ◌==◌, ◌<◌, nat_lt, nat_le, Bool, true, not, ◌&&◌, ◌||◌, if◌then◌else◌}
 use Rattle.std.specs.Int.{bit_at}
 
--- the place that a place is exchanged with, that many places away
+-- the partner of a place, `shift` places away
 abbrev pub partner : ℕ → ℕ → ℕ
 partner shift k = if k / shift % 2 == 0 then k + shift else k - shift
 
@@ -10,7 +10,7 @@ partner shift k = if k / shift % 2 == 0 then k + shift else k - shift
 abbrev pub has_place : ℕ → ℕ → Bool
 has_place mask k = bit_at mask k == 1
 
--- whether a mask has a place, or the lower one that it is exchanged with
+-- whether a mask is right at a place: it has the lower place of each pair and not the upper one, and both lie in the word
 abbrev pub is_paired : ℕ → ℕ → ℕ → Bool
 is_paired shift mask k =
     if k / shift % 2 == 0 then has_place mask k && nat_lt (k + shift) 64 && (nat_lt k shift || not (has_place mask (k - shift)))

@@ -26,6 +26,10 @@ use std::alloc::{AllocError, Global};
 /// Finds the pins of an image that are ports, and its global nets.
 ///
 /// The database and the image are of one device, and the links are those that the image sets.
+///
+/// # Errors
+/// The first of these causes that holds, with the first tile or pin that has it: `PinFault::Pll` if a PLL is on, `PinFault::PinMode` if a
+/// pin isn't taken. `PinFault::Memory` if memory is out, in place of any other answer.
 pub fn pins(alloc: Global, db: &ChipDb, image: &AnyImage, links: &Links) -> Result<PinSet, PinFault>
     requires device { db.now.chip.device ≡ (configuration_of image.now).layout.device }
     requires links { AreLinks (database_in db.now) (configuration_of image.now) links.now }
@@ -127,7 +131,7 @@ fn append_ports(
     Ok(())
 }
 
-/// Appends a pin where it is a port.
+/// Appends a pin if it is a port.
 fn append_port(
     pins: &mut Vec<Pin>,
     db: &ChipDb,

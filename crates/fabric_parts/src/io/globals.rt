@@ -15,7 +15,7 @@ use ice_image::AnyImage;
 use net_extract::{GlobalFrom, GlobalNet, Name};
 use std::alloc::{AllocError, Global};
 
-/// The nets of globals 0 to 7 with what gives them their values.
+/// The nets of global networks 0 to 7, with what drives them.
 pub(crate) fn globals(
     alloc: Global,
     db: &ChipDb,
@@ -31,7 +31,7 @@ pub(crate) fn globals(
     Ok(globals)
 }
 
-/// Appends the nets of a global that has a source.
+/// Appends the nets of a global network, if it has a source.
 fn append_global(
     globals: &mut Vec<GlobalNet>,
     db: &ChipDb,
@@ -47,7 +47,7 @@ fn append_global(
     }
 }
 
-/// Appends the nets of a global.
+/// Appends the nets of a global network.
 fn append_nets(
     globals: &mut Vec<GlobalNet>,
     db: &ChipDb,
@@ -63,7 +63,7 @@ fn append_nets(
     Ok(())
 }
 
-/// Appends a net of a global where it has the global's name.
+/// Appends a net, if it has the name of the global network.
 fn append_net(
     globals: &mut Vec<GlobalNet>,
     db: &ChipDb,
@@ -91,7 +91,7 @@ fn has_name(db: &ChipDb, net: u32, name: &[u8]) -> bool
     false
 }
 
-/// What gives a global its value: its pad, where the image lets it, else the net `fabout` of the global's tile.
+/// What drives a global network: its pad, if the image lets a pad drive it, else the net `fabout` of its tile.
 pub(crate) fn global_source(db: &ChipDb, image: &AnyImage, g: u8) -> Option<GlobalFrom>
     requires { AreOneDevice db.now image.now }
     ensures { result ≡ global_source (database_in db.now) (configuration_of image.now) g }
@@ -109,7 +109,7 @@ pub(crate) fn global_source(db: &ChipDb, image: &AnyImage, g: u8) -> Option<Glob
     }
 }
 
-/// The pad of a global, where the image lets a pad drive it.
+/// The pad of a global network, if the image lets a pad drive it.
 pub(crate) fn global_pad(db: &ChipDb, image: &AnyImage, g: u8) -> Option<PinXy>
     requires { AreOneDevice db.now image.now }
     ensures { result ≡ global_pad (database_in db.now) (configuration_of image.now) g }
@@ -121,7 +121,7 @@ pub(crate) fn global_pad(db: &ChipDb, image: &AnyImage, g: u8) -> Option<PinXy>
     }
 }
 
-/// The net `fabout` of a global's tile.
+/// The net `fabout` of the tile of a global network.
 fn global_fabout(db: &ChipDb, g: u8) -> Option<u32>
     ensures { result ≡ global_fabout (database_in db.now) g }
 {

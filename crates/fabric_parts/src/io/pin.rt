@@ -11,15 +11,15 @@ use crate::io::pintype::{
 use chipdb_reader::ChipDb;
 use net_extract::{GlobalNet, Links, Name, Pin, is_some_read};
 
-/// The pins that are ports, by tile and number, and the nets of the globals 0 to 7, by global and net. Tiles go by rows, then by
-/// columns.
+/// The pins that are ports, by tile and number, and the nets of global networks 0 to 7, by network and net. Tiles are ordered by row, then
+/// by column.
 #[derive(Drop)]
 pub struct PinSet {
     pub pins: Vec<Pin>,
     pub globals: Vec<GlobalNet>,
 }
 
-/// The net of a port of pin `n`, named by what stands behind the pin.
+/// The net of a port of pin `n`. The port is the part of the name after the pin, such as `/D_IN_0`.
 pub(crate) fn io_net(db: &ChipDb, x: u8, y: u8, n: u8, port: &[u8]) -> Option<u32>
     requires { length port.now ≤ 20 }
     ensures { result ≡ io_net (database_in db.now) x y n port.now }
@@ -37,7 +37,7 @@ pub(crate) fn is_net_read(db: &ChipDb, links: &Links, x: u8, y: u8, n: u8, port:
     is_some_read(links, io_net(db, x, y, n, port))
 }
 
-/// Whether the value of an output pin of a type can be read in the fabric.
+/// Whether an output pin of a type has a readback: the fabric can read its value.
 fn can_be_read(pintype: u8) -> bool
     ensures { result ≡ ((has_plain_output pintype || has_registered_output pintype) && has_plain_input pintype) }
 {

@@ -11,7 +11,7 @@ use ice_image::AnyImage;
 use net_extract::{Name, PinKind, is_on};
 use plane_map::TileKind;
 
-/// The type of pin `n` of the io tile at (x, y): a number of six bits.
+/// The type of pin `n` of the io tile at (x, y), the PIN_TYPE of `SB_IO`: a number of six bits.
 pub(crate) fn pintype(db: &ChipDb, image: &AnyImage, x: u8, y: u8, n: u8) -> u8
     requires { HasTile image.now Io x y }
     ensures { result ≡ pintype_of (database_in db.now) (configuration_of image.now) x y n }
@@ -61,7 +61,7 @@ pub(crate) fn has_registered_output(pintype: u8) -> bool
     pintype / 4 == 0b0101
 }
 
-/// Whether a type has an output that can be switched off.
+/// Whether a type has a tri-state output.
 pub(crate) fn has_tri_state_output(pintype: u8) -> bool
     ensures { result ≡ has_tri_state_output pintype }
 {
@@ -89,7 +89,7 @@ pub(crate) fn is_plain_input(pintype: u8) -> bool
     has_no_output(pintype) && has_plain_input(pintype)
 }
 
-/// Whether a pin of a type is a registered input pin, once it is read.
+/// Whether a pin of a type is a registered input pin if its input is read.
 pub(crate) fn is_registered_input(pintype: u8) -> bool
     ensures { result ≡ is_registered_input pintype }
 {
@@ -103,7 +103,7 @@ pub(crate) fn is_output_pin(pintype: u8) -> bool
     has_plain_output(pintype) || (has_registered_output(pintype) || has_tri_state_output(pintype))
 }
 
-/// Whether a pin of a type, whose input is read or isn't, is a port: an input pin or an output pin.
+/// Whether a pin of a type is a port: an input pin or an output pin. `read` says whether its input is read.
 pub(crate) fn is_port(pintype: u8, read: bool) -> bool
     ensures { result ≡ is_port pintype read }
 {

@@ -90,21 +90,21 @@ fn is_refused(db: &ChipDb, image: &AnyImage, links: &Links, pin: TypedPin) -> bo
     is_type_refused(pin.pintype, read) || is_place_refused(db, image, links, pin, read)
 }
 
-/// Whether a type has another output than those that are taken.
+/// Whether a type has an output of a kind that isn't taken.
 fn has_other_output(pintype: u8) -> bool
     ensures { result ≡ not (has_no_output pintype || is_output_pin pintype) }
 {
     !(has_no_output(pintype) || is_output_pin(pintype))
 }
 
-/// Whether the input of a pin of a type is read, and is neither a plain nor a registered one.
+/// Whether the input of a pin of a type is read, but is neither a plain input nor that of a registered input pin.
 fn is_oddly_read(pintype: u8, read: bool) -> bool
     ensures { result ≡ (read && not (has_plain_input pintype || is_registered_input pintype)) }
 {
     read && !(has_plain_input(pintype) || is_registered_input(pintype))
 }
 
-/// Whether a pin isn't taken by its type, and by whether its input is read.
+/// Whether a pin isn't taken because of its type, and of whether its input is read.
 fn is_type_refused(pintype: u8, read: bool) -> bool
     ensures { result ≡ (not (has_no_output pintype || is_output_pin pintype) || ((read && not (has_plain_input pintype || is_registered_input pintype)) || (has_tri_state_output pintype && read))) }
 {
@@ -112,7 +112,8 @@ fn is_type_refused(pintype: u8, read: bool) -> bool
         || (is_oddly_read(pintype, read) || (has_tri_state_output(pintype) && read))
 }
 
-/// Whether a pin isn't taken by where it stands.
+/// Whether a pin isn't taken because its second input is read, because it is the pad of a global network but no plain input pin, or because
+/// it is a port of a tile with LVDS.
 fn is_place_refused(db: &ChipDb, image: &AnyImage, links: &Links, pin: TypedPin, read: bool) -> bool
     requires together { BelongTogether db.now image.now links.now }
     requires tile { HasTile image.now Io pin.x pin.y }
@@ -124,7 +125,7 @@ fn is_place_refused(db: &ChipDb, image: &AnyImage, links: &Links, pin: TypedPin,
         || (is_odd_pad(db, image, pin) || is_differential(db, image, pin, read))
 }
 
-/// Whether a pin is the pad of a global that its pad drives, and isn't a plain input pin.
+/// Whether a pin is the pad of a global network that is driven by its pad, and isn't a plain input pin.
 fn is_odd_pad(db: &ChipDb, image: &AnyImage, pin: TypedPin) -> bool
     requires { AreOneDevice db.now image.now }
     ensures { result ≡ (is_global_pad (database_in db.now) (configuration_of image.now) pin.x pin.y pin.n && not (is_plain_input pin.pintype)) }
@@ -132,7 +133,7 @@ fn is_odd_pad(db: &ChipDb, image: &AnyImage, pin: TypedPin) -> bool
     is_global_pad(db, image, pin.x, pin.y, pin.n) && !is_plain_input(pin.pintype)
 }
 
-/// Whether a pin is the pad of a global that its pad drives.
+/// Whether a pin is the pad of a global network that is driven by its pad.
 fn is_global_pad(db: &ChipDb, image: &AnyImage, x: u8, y: u8, n: u8) -> bool
     requires { AreOneDevice db.now image.now }
     ensures { result ≡ is_global_pad (database_in db.now) (configuration_of image.now) x y n }
@@ -145,7 +146,7 @@ fn is_global_pad(db: &ChipDb, image: &AnyImage, x: u8, y: u8, n: u8) -> bool
     false
 }
 
-/// Whether a pin is a pad.
+/// Whether a pin is that pad; false if there is no pad.
 fn is_pin_at(x: u8, y: u8, n: u8, pad: Option<PinXy>) -> bool
     ensures { result ≡ is_pin_at x y n pad }
 {
@@ -155,7 +156,7 @@ fn is_pin_at(x: u8, y: u8, n: u8, pad: Option<PinXy>) -> bool
     }
 }
 
-/// Whether a pin is a port in a tile with differential inputs.
+/// Whether a pin is a port in a tile with LVDS.
 fn is_differential(db: &ChipDb, image: &AnyImage, pin: TypedPin, read: bool) -> bool
     requires { HasTile image.now Io pin.x pin.y }
     ensures { result ≡ (is_port pin.pintype read && is_function_on (database_in db.now) (configuration_of image.now) Io pin.x pin.y (codes "IoCtrl.LVDS")) }

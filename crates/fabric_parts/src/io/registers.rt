@@ -15,10 +15,13 @@ use net_extract::{ClockUser, Pin, Register, Source, Table, inputs, is_on, place_
 use plane_map::TileKind;
 use std::alloc::{AllocError, Global};
 
-/// The table that has the value of its lowest input.
+/// The entries of the LUT whose value is that of its input in_0.
 const SAME: u16 = 0xAAAA;
 
 /// The registers of the pins that are registered, in the order of the pins.
+///
+/// # Errors
+/// `AllocError` if memory is out, and for no other cause.
 pub fn pin_registers(
     alloc: Global,
     db: &ChipDb,
@@ -32,7 +35,7 @@ pub fn pin_registers(
     registers(alloc, db, image, &inputs, pins)
 }
 
-/// The registers of pins, where these are the input pins.
+/// The registers of the pins that are registered. `inputs` are the input pins among them.
 fn registers(
     alloc: Global,
     db: &ChipDb,
@@ -68,7 +71,7 @@ fn append_register(
     Ok(())
 }
 
-/// The register of a pin among these input pins.
+/// The register of a pin. `inputs` are the input pins.
 #[tactic(auto, unfolding(net_extract::specs::Registers::pin_register))]
 fn pin_register(
     db: &ChipDb,
@@ -125,7 +128,7 @@ fn clock(db: &ChipDb, pin: Pin) -> Option<u32>
     }
 }
 
-/// What the register of a pin takes: what is given to an output pin, and the value of an input pin.
+/// What the register of a pin takes: `io_n/D_OUT_0` for an output pin, and the pin's value for an input pin.
 fn source(inputs: &[Pin], pin: Pin) -> Result<Source, AllocError>
     ensures { IfOk result (λ source. source ≡ pin_source inputs.now pin) }
 {

@@ -14,14 +14,14 @@ use ice_image::AnyImage;
 use net_extract::{CarrySet, Lc, is_on, listed_bit, lut};
 use plane_map::{RowCol, TileKind};
 
-/// The used logic cells by tile and index, and the carry inputs that are set by tile. Tiles go by rows, then by columns.
+/// The used logic cells, by tile and index, and the carry inputs that are set, by tile. Tiles are ordered by row, then by column.
 #[derive(Drop)]
 pub struct Cells {
     pub lcs: Vec<Lc>,
     pub sets: Vec<CarrySet>,
 }
 
-/// Whether a cell with these bits has a flip-flop whose reset acts at once.
+/// Whether a cell with these bits has a flip-flop with an asynchronous set or reset.
 fn is_at_once(image: &AnyImage, x: u8, y: u8, bits: &[RowCol]) -> bool
     requires tile { HasTile image.now Logic x y }
     requires in_tile { All (IsBitIn 54) bits.now }

@@ -14,7 +14,10 @@ use net_extract::{CarrySet, Lc, cell_places, is_on, is_one_set, tiles_of_image};
 use plane_map::TileKind;
 use std::alloc::{AllocError, Global};
 
-/// Finds the logic cells that an image uses.
+/// Finds the logic cells that an image uses, and the carry inputs that it sets.
+///
+/// # Errors
+/// `AllocError` if memory is out, and for no other cause.
 pub fn cells(alloc: Global, db: &ChipDb, image: &AnyImage) -> Result<Cells, AllocError>
     ensures cells { IfOk result (λ cells. cells.lcs.items ≡ cells_of (database_in db.now) (configuration_of image.now)) }
     ensures sets { IfOk result (λ cells. cells.sets.items ≡ sets_of (database_in db.now) (configuration_of image.now)) }
@@ -59,7 +62,7 @@ fn append_cells(
     Ok(())
 }
 
-/// Appends a cell where it is used.
+/// Appends a cell if it is used.
 #[tactic(auto, unfolding(net_extract::specs::Cells::cell_bits))]
 fn append_cell(
     lcs: &mut Vec<Lc>,
@@ -79,7 +82,7 @@ fn append_cell(
     Ok(())
 }
 
-/// The carry inputs of tiles that are set.
+/// The carry inputs that are set, in some tiles.
 fn carry_sets(
     alloc: Global,
     db: &ChipDb,
@@ -96,7 +99,7 @@ fn carry_sets(
     Ok(sets)
 }
 
-/// Appends the carry input of a tile where it is set.
+/// Appends the carry input of a tile if it is set.
 fn append_set(
     sets: &mut Vec<CarrySet>,
     db: &ChipDb,

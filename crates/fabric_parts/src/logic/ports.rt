@@ -8,7 +8,7 @@ ghost use Rattle.net_extract.specs.Tiles.{each_below};
 use chipdb_reader::ChipDb;
 use net_extract::Name;
 
-/// The net of a port of cell `i`, named by what stands behind the cell.
+/// The net of a port of cell `i`. The port is the part of the name after the cell, such as `/out`.
 pub(crate) fn lutff_net(db: &ChipDb, x: u8, y: u8, i: u8, port: &[u8]) -> Option<u32>
     requires { length port.now ≤ 20 }
     ensures { result ≡ lutff_net (database_in db.now) x y i port.now }
@@ -36,7 +36,7 @@ pub(crate) fn input_nets(db: &ChipDb, x: u8, y: u8, i: u8) -> [Option<u32>; 4]
     ]
 }
 
-/// The net of the carry into cell `i`: the tile's for cell 0, else the carry out of the cell below.
+/// The net of the carry-in of cell `i`: `carry_in_mux` of the tile for cell 0, else the carry-out of the cell before.
 pub(crate) fn carry_in_net(db: &ChipDb, x: u8, y: u8, i: u8) -> Option<u32>
     ensures { result ≡ carry_in_net (database_in db.now) x y i }
 {

@@ -1,4 +1,4 @@
-// RAMs that pass on their addresses, which aren't taken.
+// Cascaded RAMs, which aren't taken.
 ghost use Rattle.std.specs.Prelude.{◌≡◌, All};
 ghost use Rattle.std.specs.List.{flat_map};
 ghost use Rattle.ice_image.specs.Either.{configuration_of};
@@ -13,7 +13,7 @@ use ice_image::AnyImage;
 use net_extract::is_any_on;
 use plane_map::TileKind;
 
-/// The first RAM that passes on its address.
+/// The first cascaded RAM.
 pub(crate) fn first_cascaded(db: &ChipDb, image: &AnyImage, rams: &[TileXy8]) -> Option<TileXy8>
     requires { All (λ tile. HasRam image.now tile.x tile.y) rams.now }
     ensures { first_of (flat_map (λ tile. cascade_at (database_in db.now) (configuration_of image.now) tile.x tile.y) rams.now) ≡ cascade_fault result }
@@ -26,7 +26,7 @@ pub(crate) fn first_cascaded(db: &ChipDb, image: &AnyImage, rams: &[TileXy8]) ->
     None
 }
 
-/// Whether a RAM passes on its address.
+/// Whether a RAM is cascaded: a function whose name starts with `RamCascade.` is on in one of its tiles.
 fn is_cascaded(db: &ChipDb, image: &AnyImage, x: u8, y: u8) -> bool
     requires { HasRam image.now x y }
     ensures { result ≡ is_cascaded (database_in db.now) (configuration_of image.now) x y }

@@ -3,11 +3,11 @@ ghost use Rattle.std.specs.Prelude.{◌≡◌};
 
 use std::alloc::AllocError;
 
-/// Why the RAMs of an image aren't taken: the first cause that holds, with the first RAM that has it, by rows, then by columns. A
-/// RAM is named by its lower tile.
+/// Why the RAMs of an image aren't taken: the first cause that holds, with the first RAM that has it. RAMs are ordered by row, then by
+/// column, and a RAM is named by its lower tile.
 #[derive(Clone, Copy, Debug, PartialEq, Eq)]
 pub enum RamFault {
-    /// The RAM at (x, y) passes on its address.
+    /// The RAM at (x, y) is cascaded.
     Cascade { x: u8, y: u8 },
     /// Out of memory. It may come in place of any other answer.
     Memory(AllocError),

@@ -21,9 +21,13 @@ use net_extract::{Links, RamCell, tiles_of_image};
 use plane_map::TileKind;
 use std::alloc::{AllocError, Global};
 
-/// Finds the RAMs that an image uses, by rows, then by columns.
+/// Finds the RAMs that an image uses, ordered by row, then by column.
 ///
 /// The database and the image are of one device, and the links are those that the image sets.
+///
+/// # Errors
+/// `RamFault::Cascade` if a used RAM is cascaded: it tells the first one. `RamFault::Memory` if memory is out, in place of any other
+/// answer.
 pub fn rams(
     alloc: Global,
     db: &ChipDb,

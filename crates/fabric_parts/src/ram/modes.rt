@@ -29,7 +29,7 @@ pub(crate) fn write_mode(db: &ChipDb, image: &AnyImage, x: u8, y: u8) -> u8
     mode(db, image, x, y, 0, 1)
 }
 
-/// The mode that two functions of the upper tile give.
+/// The mode that two functions of the upper tile form: the values of `RamConfig.CBIT_low` and `RamConfig.CBIT_high`.
 fn mode(db: &ChipDb, image: &AnyImage, x: u8, y: u8, low: u8, high: u8) -> u8
     requires { HasRam image.now x y }
     ensures { result ≡ mode_of (database_in db.now) (configuration_of image.now) x y low high }

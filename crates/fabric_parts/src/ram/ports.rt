@@ -1,4 +1,4 @@
-// The nets of a RAM's ports, each named at its lower tile or else at its upper one.
+// The nets of a RAM's ports. A port's name is looked up at the lower tile, then at the upper one.
 ghost use Rattle.std.specs.Prelude.{◌≡◌, ◌<◌, ◌≤◌, length};
 ghost use Rattle.chipdb_reader.specs.Kept.{database_in};
 ghost use Rattle.net_extract.specs.Nets.{ending_in};
@@ -8,7 +8,7 @@ ghost use Rattle.net_extract.specs.Tiles.{each_below};
 use chipdb_reader::ChipDb;
 use net_extract::Name;
 
-/// The net of a port of the RAM at (x, y).
+/// The net of a port of the RAM at (x, y), or `None` if neither tile has such a net.
 pub(crate) fn port_net(db: &ChipDb, x: u8, y: u8, name: &[u8]) -> Option<u32>
     requires { y < 255 }
     ensures { result ≡ port_net (database_in db.now) x y name.now }
@@ -28,7 +28,7 @@ pub(crate) fn numbered_net(db: &ChipDb, x: u8, y: u8, before: &[u8], k: u8) -> O
     port_net(db, x, y, Name::ending_in(before, k).bytes())
 }
 
-/// The nets of N ports whose names end in a number, that of number 0 first.
+/// The nets of N ports whose names end in a number, counted from 0.
 pub(crate) fn numbered_nets<const N: usize>(
     db: &ChipDb,
     x: u8,

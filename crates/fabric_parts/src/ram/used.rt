@@ -11,7 +11,7 @@ use ice_image::AnyImage;
 use net_extract::{Links, is_some_read};
 use std::alloc::{AllocError, Global};
 
-/// Those of the lower tiles whose RAMs are used.
+/// The lower tiles, among these, whose RAMs are used.
 pub(crate) fn used_rams(
     alloc: Global,
     db: &ChipDb,

@@ -18,7 +18,7 @@ bits 14
 extra 0
 ";
 
-/// Whether that is counted of an image by the database of a text.
+/// Whether these are the counts of an image, by the database of a text.
 fn counts(alloc: Global, text: &[u8], image: &AnyImage, counted: &[u8]) -> bool {
     match database(alloc, text) {
         Some(db) => match stat(alloc, &db, image) {
@@ -29,7 +29,7 @@ fn counts(alloc: Global, text: &[u8], image: &AnyImage, counted: &[u8]) -> bool 
     }
 }
 
-/// Whether it is counted of the inverter.
+/// Whether these are the counts of the inverter.
 fn is_counted(alloc: Global) -> Result<bool, AllocError> {
     let mut image = image_with(alloc, &INVERTER)?;
     set_bits(&mut image, &[(1, 1, 2, 0)]);

@@ -9,7 +9,7 @@ use plane_map::{DeviceName, Place, RowCol, TileKind};
 use sample_images::CELL;
 use std::alloc::{AllocError, Global};
 
-/// A small database of an 8k.
+/// A small database of an iCE40 HX8K.
 const OTHER: &[u8] = b".device 8k 34 34 4
 .gbufin
 0 16 3
@@ -31,7 +31,7 @@ padin 1 0 0
 11 1
 ";
 
-/// What a text says, where it isn't too long.
+/// What a text says, if it isn't too long.
 fn read_short(alloc: Global, text: &[u8]) -> Result<ChipDb, DbFault> {
     if text.len() <= 268_435_456 {
         read(alloc, text)
@@ -75,7 +75,7 @@ fn has_functions(db: &ChipDb) -> bool {
         && db.function(TileKind::Io, b"LC_0").is_none()
 }
 
-/// Whether the first lines of globals and of extra bits are found.
+/// Whether the first lines of global networks and of extra bits are found.
 fn has_firsts(db: &ChipDb) -> bool {
     db.gbufin(3) == Some(TileXy8 { x: 0, y: 16 })
         && db.gbufin(2).is_none()
@@ -89,7 +89,7 @@ fn has_firsts(db: &ChipDb) -> bool {
             })
 }
 
-/// Whether an equal line of a `.buffer` is passed over, and one of a `.routing` isn't.
+/// Whether a second, equal line of a `.buffer` is skipped, and one of a `.routing` isn't.
 fn has_links(db: &ChipDb) -> bool {
     match (db.buffers(), db.routings()) {
         ([first, second], [link, _]) => first.values == 1 && second.values == 2 && link.values == 3,
@@ -113,12 +113,12 @@ fn other_is_read(alloc: Global) -> Result<bool, DbFault> {
     Ok(has_firsts(&db) && has_links(&db))
 }
 
-/// The small database, given one byte a call; the listed reads fail.
+/// The small database, from a source that gives one byte a call; the listed reads fail.
 fn source_of(alloc: Global, failing: &[u64]) -> Result<MemSource, AllocError> {
     Ok(MemSource::new(CELL.to_vec(alloc)?, 1, failing.to_vec(alloc)?))
 }
 
-/// Whether the look-ups in what a source gives are those of the small database.
+/// Whether the look-ups in the database that a source gives are those of the small database.
 fn is_read_from(alloc: Global, source: &mut MemSource, limit: usize) -> Result<bool, SourceDbFault>
     requires { limit < 2 ^ 32 }
 {
@@ -143,7 +143,7 @@ fn reads_a_source(rt: HostRuntime) {
     assert!(rt; source_is_read(rt.alloc(), 10_000, &[3]) == Err(SourceDbFault::Failed));
 }
 
-/// The small database in a file `db`, of which a call gives seven bytes.
+/// The small database in a file `db`, from which a call reads seven bytes.
 fn files_of(alloc: Global) -> Result<MemFiles, AllocError> {
     let mut files = Vec::new(alloc);
     files.push(NamedFile {
@@ -153,7 +153,7 @@ fn files_of(alloc: Global) -> Result<MemFiles, AllocError> {
     MemFiles::new(alloc, files, "out", 1, 7, Vec::new(alloc))
 }
 
-/// Whether the look-ups in what a file has are those of the small database.
+/// Whether the look-ups in the database that a file has are those of the small database.
 fn is_read_in(alloc: Global, files: &mut MemFiles, name: &str) -> Result<bool, SourceDbFault> {
     match read_file(alloc, files, name, 10_000) {
         Err(fault) => Err(fault),

@@ -41,7 +41,7 @@ IOB_0.PINTYPE_5 B5[0]
 1 1 lutff_global/s_r
 ";
 
-/// The same without a clock, in which the inverter's own value comes to in_2, which it doesn't use.
+/// An inverter between two pins without a clock. Its own value may be fed back to in_2, which its LUT doesn't use.
 const UNUSED: &[u8] = b".device 1k 14 18 5
 .logic_tile_bits 54 16
 LC_0 B0[36] B0[37] B0[38] B0[39] B0[40] B0[41] B0[42] B0[43] B0[44] B0[45] B1[36] B1[37] B1[38] B1[39] B1[40] B1[41] B1[42] B1[43] B1[44] B1[45]
@@ -70,26 +70,26 @@ IOB_0.PINTYPE_5 B5[0]
 1 2
 ";
 
-/// The buffer from the pin to in_0, and the one from out to in_0, or to in_2 in the last database.
+/// The buffer from the pin to in_0, and the buffer from out back to in_0, or to in_2 in the second database.
 const FROM_PIN: SampleBit = (1, 1, 2, 0);
 
 const BACK: SampleBit = (1, 1, 3, 0);
 
-/// The flip-flop, its clock from the pin, and falling edges.
+/// The bits of the flip-flop, of its clock from the pin, and of falling clock edges.
 const FLIP: SampleBit = (1, 1, 0, 45);
 
 const CLOCK_PIN: SampleBit = (1, 1, 5, 0);
 
 const FALLING: SampleBit = (1, 1, 6, 0);
 
-/// The pin of the reset, a reset that sets, and one that acts at once.
+/// The bits of the pin of the set or reset, of a set in place of a reset, and of an asynchronous one.
 const RESET_PIN: SampleBit = (0, 3, 0, 0);
 
 const SETS: SampleBit = (1, 1, 1, 44);
 
 const AT_ONCE: SampleBit = (1, 1, 1, 45);
 
-/// The register of the inverter, which the pin sets at once.
+/// The register of the inverter, which the pin sets asynchronously.
 const REGISTER: Register = Register {
     x: 1,
     y: 1,
@@ -112,7 +112,7 @@ const REGISTER: Register = Register {
     },
 };
 
-/// Whether the clocked inverter with some more bits gives that.
+/// Whether the clocked inverter with some more bits gives what is expected.
 fn is_design(alloc: Global, more: &[SampleBit], gives: Gives) -> bool {
     is_so(
         alloc,
@@ -123,7 +123,7 @@ fn is_design(alloc: Global, more: &[SampleBit], gives: Gives) -> bool {
     )
 }
 
-/// Whether the inverter of a database gives that where LUTs read these inputs.
+/// Whether the inverter of a database gives what is expected if LUTs read these inputs.
 fn is_design_by<'a>(
     alloc: Global,
     lut_inputs: LutInputs,

@@ -5,7 +5,7 @@ use sample_images::{CELL, INVERTER, database, image_with, set_bits};
 use std::alloc::{AllocError, Global};
 use tile_bits::{TileXy, explain};
 
-/// What an inverter between two pins says, and what its cell's tile does.
+/// The explanation of an inverter between two pins, and that of its cell's tile.
 const INVERTED: &[u8] = b".device 1k
 .io_tile 0 1
 IOB_0.PINTYPE_0
@@ -25,7 +25,7 @@ LC_0 1010101010101010 0000
 buffer #0 lutff_0/in_0
 ";
 
-/// Whether an image, or a tile of it, is explained so by the database of a text.
+/// Whether this explains an image, or a tile of it, by the database of a text.
 fn says(alloc: Global, text: &[u8], image: &AnyImage, only: Option<TileXy>, said: &[u8]) -> bool {
     match database(alloc, text) {
         Some(db) => match explain(alloc, &db, image, only) {
@@ -36,7 +36,7 @@ fn says(alloc: Global, text: &[u8], image: &AnyImage, only: Option<TileXy>, said
     }
 }
 
-/// Whether the inverter, or a tile of it, is explained so.
+/// Whether this explains the inverter, or a tile of it.
 fn is_explained(alloc: Global, only: Option<TileXy>, said: &[u8]) -> Result<bool, AllocError> {
     let mut image = image_with(alloc, &INVERTER)?;
     set_bits(&mut image, &[(0, 1, 0, 0), (1, 1, 2, 0)]);

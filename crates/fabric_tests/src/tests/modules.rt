@@ -8,7 +8,7 @@ use vlog_emit::emit;
 use vlog_module::{Module, is_name};
 use vlog_print::print;
 
-/// The module of a cell and of an output pin with registers of one clock.
+/// The module of a cell and an output pin, whose registers have one clock.
 const OUTPUT_TEXT: &str = "module chip (io_0_1_0, io_0_2_0, io_0_3_0);
   input io_0_1_0;
   output io_0_2_0;
@@ -27,7 +27,7 @@ const OUTPUT_TEXT: &str = "module chip (io_0_1_0, io_0_2_0, io_0_3_0);
 endmodule
 ";
 
-/// The module of a design, where the name is one.
+/// The module of a design under a name, if that is a name of the Verilog subset.
 fn named(alloc: Global, design: &Design, name: &[u8]) -> Option<Module> {
     if is_name(name) {
         emit(alloc, design, name).ok()

@@ -1,4 +1,4 @@
-// Links, classes and nets that are read.
+// Links, classes of joined nets, and nets that are read.
 
 use super::{Case, Gives, is_so};
 use sample_images::{CELL, INVERTER, SampleBit};

@@ -3,7 +3,7 @@
 use pin_file::{PackagePins, PinName, PinPlace, PinReader, pin_names};
 use std::alloc::{AllocError, Global};
 
-/// The pins of a package, the database being fed in pieces.
+/// The pins of a package, from a database that is fed in pieces.
 fn pins_of(alloc: Global, name: &str, pieces: &[&[u8]]) -> Result<PackagePins, AllocError> {
     let mut reader = PinReader::new(alloc, name.as_bytes())?;
     for piece in pieces {
@@ -60,13 +60,13 @@ fn lines_are_cut_in_pieces(rt: HostRuntime) {
 /// A package with three pins, `A`, `B` and `C`; `D` is at the place of `A`.
 const PINS: &[u8] = b".pins p\nA 0 2 1\nB 5 17 0\nC 6 0 1\nD 0 2 1\n";
 
-/// The place of `A`, whose pin has a second port.
+/// The place of `A`, whose pin has a second port, its output enable.
 const ENABLED: [PinPlace; 1] = [PinPlace { x: 0, y: 2, pio: 1 }];
 
 const TEXT: &[u8] =
     b"# the board\r\nset_io led[3] B\r\n\r\nset_io --warn-no-port top.clk+ A # 12 MHz\r\nset_frequency clk 12\r\nset_io -pullup yes _a[1][2] C";
 
-/// The ports that it names, in order.
+/// The ports that this text names, in order.
 const PORTS: [(PinPlace, &str); 3] = [
     (
         PinPlace {

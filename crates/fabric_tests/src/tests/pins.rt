@@ -1,4 +1,4 @@
-// Pins and globals.
+// Pins and global networks.
 
 use super::{Case, Gives, is_so};
 use fabric_wiring::{Output, Rule};
@@ -6,7 +6,7 @@ use net_extract::{GlobalFrom, GlobalNet, Pin, PinKind};
 use sample_images::SampleBit;
 use std::alloc::Global;
 
-/// Two pins, a PLL, and a global with a pad and a tile.
+/// Two pins, a PLL, and a global network with a pad and a tile.
 const PINS: &[u8] = b".device 1k 14 18 5
 .io_tile_bits 18 16
 IOB_0.PINTYPE_0 B0[0]
@@ -34,7 +34,7 @@ PLL.PLLTYPE_0 B9[0]
 padin_glb_netwk.2 0 330 143
 ";
 
-/// The bits of an input pin and of an output pin that can be read.
+/// The bits of an input pin, and of an output pin with a readback.
 const TWO_PINS: [SampleBit; 4] = [(0, 1, 0, 0), (0, 2, 0, 0), (0, 2, 3, 0), (0, 2, 4, 0)];
 
 /// What these bits give.
@@ -63,7 +63,7 @@ const FOUND: [Pin; 2] = [
     },
 ];
 
-/// The two nets of global 2.
+/// The two nets of global network 2.
 fn global_nets(from: GlobalFrom) -> [GlobalNet; 2] {
     [
         GlobalNet { g: 2, net: 1, from },
@@ -71,7 +71,7 @@ fn global_nets(from: GlobalFrom) -> [GlobalNet; 2] {
     ]
 }
 
-/// Whether an image with these bits, and with the pad of global 2, gives that.
+/// Whether an image with these bits, in which its pad drives global network 2, gives what is expected.
 fn are_pins(alloc: Global, bits: &[SampleBit], gives: Gives) -> bool {
     is_so(
         alloc,
@@ -88,7 +88,7 @@ fn finds_pins_and_globals(rt: HostRuntime) {
     assert!(rt; are_pins(rt.alloc(), &TWO_PINS, Gives::Pins(&FOUND, &pad)));
 }
 
-/// A plain input pin, and an output pin that can be switched off.
+/// A plain input pin, and a tri-state output pin.
 const SWITCHED_PINS: [SampleBit; 4] = [(0, 1, 0, 0), (0, 2, 0, 0), (0, 2, 3, 0), (0, 2, 5, 0)];
 
 /// The output pin.

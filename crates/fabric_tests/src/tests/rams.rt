@@ -28,7 +28,7 @@ RamConfig.CBIT_0 B1[0]
 1 0
 ";
 
-/// Whether an image with these bits gives that.
+/// Whether an image with these bits gives what is expected.
 fn are_rams(alloc: Global, bits: &[SampleBit], gives: Gives) -> bool {
     is_so(alloc, Case::of(RAM, bits, gives))
 }

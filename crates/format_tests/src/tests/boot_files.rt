@@ -1,4 +1,4 @@
-// A boot file that is joined and split again.
+// Joining a boot file and splitting it again.
 use bin_stream::encode;
 use boot_file::{BootFile, BootImage, MultiFault, Options, check, join, split};
 use ice_image::{AnyImage, Comment};
@@ -35,7 +35,7 @@ fn two_blank(alloc: Global) -> Result<Vec<u8>, MultiFault> {
     joined(alloc, first, second)
 }
 
-/// Where an image stands, and its device.
+/// The address of an image, and its device.
 fn place(images: &[BootImage], index: usize) -> Option<(u32, DeviceName)> {
     match images.get(index) {
         Some(placed) => Some((placed.address, placed.image.device())),

@@ -1,4 +1,4 @@
-// The generated database, image and events, against those of a program that was written apart from this one.
+// The generated database, image and events, against those of a program that was written independently of this one.
 
 use super::is_lower_ram;
 use ice_gen::{PinEvent, chipdb, events, image};
@@ -6,7 +6,7 @@ use ice_image::AnyImage;
 use plane_map::DeviceName;
 use std::alloc::{AllocError, Global};
 
-/// A device's text, and no byte where it has no databases.
+/// A device's database as a text, or an empty text if the device has no databases.
 fn text_of(alloc: Global, device: DeviceName) -> Result<Vec<u8>, AllocError> {
     if device.has_database() {
         chipdb(alloc, device)
@@ -15,7 +15,7 @@ fn text_of(alloc: Global, device: DeviceName) -> Result<Vec<u8>, AllocError> {
     }
 }
 
-/// Whether a device's text has so many bytes, and a piece at a place.
+/// Whether a device's text has `length` bytes, and a given piece at a given offset.
 fn has_piece(
     alloc: Global,
     device: DeviceName,
@@ -39,7 +39,7 @@ fn a_text_has_its_piece_at_its_place(rt: HostRuntime) {
     assert!(rt; has_piece(rt.alloc(), DeviceName::K8, 1_016_817, 41_975, piece) == Ok(true));
 }
 
-/// The image that a device and a seed fix, and one without a bit where the device has no databases.
+/// The image that a device and a seed fix, or a blank one if the device has no databases.
 fn image_of(alloc: Global, device: DeviceName, seed: u64) -> Result<AnyImage, AllocError> {
     if device.has_database() {
         image(alloc, device, seed)
@@ -57,7 +57,7 @@ fn word_in(image: &AnyImage, x: u8, y: u8, word: u8) -> u16 {
     }
 }
 
-/// The first row of the tile at 1 1 and the last word of the RAM at 10 15, where a device and a seed fix them.
+/// The first row of the tile at 1 1 and the last word of the RAM at 10 15, in the image that a device and a seed fix.
 fn row_and_word(alloc: Global, device: DeviceName, seed: u64) -> Result<(u64, u16), AllocError> {
     let made = image_of(alloc, device, seed)?;
     Ok((made.tile_row(1, 1, 0), word_in(&made, 10, 15, 255)))

@@ -1,11 +1,11 @@
-// Texts made into bitstreams and back.
+// Packing texts into bitstreams, and unpacking them again.
 ghost use Rattle.layout_file.specs.Layouts.{AreLayouts};
 
 use ice_pack::{pack, pack_with, unpack, unpack_with};
 use layout_file::Layouts;
 use std::alloc::Global;
 
-/// A text's bytes, and the text that is unpacked from them; nothing where one is refused.
+/// A text's bytes, and the text that is unpacked from them, or `None` if one is refused.
 fn there_and_back(alloc: Global, text: &[u8], no_sleep: bool) -> Option<(Vec<u8>, Vec<u8>)> {
     match pack(alloc, text, no_sleep) {
         Ok(bytes) => match unpack(alloc, &bytes) {
@@ -16,7 +16,7 @@ fn there_and_back(alloc: Global, text: &[u8], no_sleep: bool) -> Option<(Vec<u8>
     }
 }
 
-/// Whether a text has so many bytes, and comes back with that head, where the flash stays awake.
+/// Whether a text gives `length` bytes, and comes back with `head` at its front, if the flash stays awake.
 fn comes_back(alloc: Global, text: &[u8], length: usize, head: &[u8]) -> bool {
     match there_and_back(alloc, text, true) {
         Some((bytes, back)) => bytes.len() == length && back.starts_with(head),
@@ -30,7 +30,7 @@ fn a_text_is_packed_and_comes_back(rt: HostRuntime) {
     assert!(rt; comes_back(rt.alloc(), b".device 384\n", 7_330, head));
 }
 
-/// A text's bytes under layouts, and the text that is unpacked from them; nothing where one is refused.
+/// A text's bytes under layouts, and the text that is unpacked from them, or `None` if one is refused.
 fn there_and_back_with(alloc: Global, text: &[u8], layouts: &Layouts) -> Option<(Vec<u8>, Vec<u8>)>
     requires { AreLayouts layouts.now }
 {
@@ -43,7 +43,7 @@ fn there_and_back_with(alloc: Global, text: &[u8], layouts: &Layouts) -> Option<
     }
 }
 
-/// Whether a bit that is a tile's in the standard layout comes back as an extra bit.
+/// Whether a bit that belongs to a tile in the standard layout comes back as an extra bit.
 fn keeps_an_extra_bit(alloc: Global, layouts: &Layouts) -> bool
     requires { AreLayouts layouts.now }
 {
@@ -55,7 +55,7 @@ fn keeps_an_extra_bit(alloc: Global, layouts: &Layouts) -> bool
     }
 }
 
-/// Whether that is so where the outer columns of tiles have two columns of bits more.
+/// Whether that is so if the outer columns of tiles have two columns of bits more.
 fn keeps_it_with_more_room(alloc: Global) -> bool {
     match Layouts::read(b".layout 1k\nwidths 20 54 54 42 54 54 54\n") {
         Ok(layouts) => keeps_an_extra_bit(alloc, &layouts),

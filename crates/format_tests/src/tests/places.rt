@@ -45,7 +45,7 @@ fn places_bits_of_words(rt: HostRuntime) {
     assert!(rt; place_of_word(&k8, 8, 17, 7, 3) == Some(at(1, 124, 7)));
 }
 
-/// Whether a place is in the planes and has that owner.
+/// Whether a place is in the planes and belongs to `owner`.
 fn has_owner(layout: &Layout, at: Place, owner: Option<TileBit>) -> bool {
     at.bank < 4
         && u32::from(at.px) < layout.device().cram_columns()

@@ -1,4 +1,4 @@
-// Streams written, and read in pieces.
+// Writing bitstreams, and reading them in pieces.
 
 mod pieces;
 
@@ -8,7 +8,7 @@ use plane_map::DeviceName;
 use std::alloc::{AllocError, Global};
 use std::test::Fail;
 
-/// The stream of an image of the HX1K without a bit, with a comment without lines.
+/// The bitstream of a blank image of the HX1K, with a comment without lines.
 fn blank_stream(alloc: Global) -> Result<Vec<u8>, AllocError> {
     let mut image = AnyImage::zeroed(alloc, DeviceName::K1)?;
     image.set_comment(Some(Comment::new(alloc)));

@@ -1,4 +1,4 @@
-// Texts read and written, and a fault as it is shown.
+// Reading and writing texts, and a fault as it is shown.
 
 use super::is_in_cram;
 use asc_text::{AscCause, AscFault, Symbol, TileXy, read, write};
@@ -29,7 +29,7 @@ fn has_bit(image: &AnyImage) -> bool {
     is_in_cram(image.device(), EXTRA) && image.cram_bit(EXTRA)
 }
 
-/// Whether the comment is that of the text.
+/// Whether the comment is the one in the text.
 fn has_comment(image: &AnyImage) -> bool {
     match image.comment() {
         Some(comment) => {
@@ -41,7 +41,7 @@ fn has_comment(image: &AnyImage) -> bool {
     }
 }
 
-/// Whether one net is named, as the text does it.
+/// Whether one net is named, as in the text.
 fn has_name(symbols: &[Symbol]) -> bool {
     match symbols {
         [symbol] => symbol.net == 5 && symbol.name.bytes() == b"clk$SB_IO_IN".as_slice(),
@@ -49,7 +49,7 @@ fn has_name(symbols: &[Symbol]) -> bool {
     }
 }
 
-/// Whether the text gives all that it says.
+/// Whether reading the text gives everything that it says.
 fn is_read(alloc: Global) -> bool {
     let settings = Settings {
         range: Range::Low,

@@ -1,9 +1,9 @@
-// Memory words that are replaced in a text, and how many columns of RAMs were found, which no program tells.
+// Replacing memory words in a text, and how many columns of RAMs were found, which no tool prints.
 
 use bram_replace::{HexFault, HexFile, ReadModes, replace, replace_with};
 use std::alloc::{AllocError, Global};
 
-/// Words of a file: the digits of numbers, which rise from 0 and fall from 15.
+/// Words of a file, one digit each: they rise from 0, or fall from 15.
 const RISING_WORDS: &str = "0 1 2 3 4 5 6 7 8 9 a b c d e f";
 
 const FALLING_WORDS: &str = "f e d c b a 9 8 7 6 5 4 3 2 1 0";
@@ -23,7 +23,7 @@ const ZEROS: &str = "000000000000000000000000000000000000000000";
 
 const ONE: &str = "000000010000000000000000000000000000000000";
 
-/// So many times one line, with one end.
+/// One line with its end, a number of times.
 type Lines<'a> = (usize, &'a str, &'a str);
 
 /// Appends lines to a text.
@@ -59,7 +59,7 @@ fn file(alloc: Global, line: &str) -> Result<HexFile, HexFault> {
     read(alloc, &text_of(alloc, &[(16, line, "\n")])?)
 }
 
-/// Whether rising words are replaced by falling ones so, with so many columns found.
+/// Whether replacing rising words by falling ones gives `expected`, with `found` columns found.
 fn is_replaced(
     alloc: Global,
     asc: &[u8],
@@ -120,7 +120,7 @@ fn narrow_ram(alloc: Global, line: &str) -> Result<Vec<u8>, AllocError> {
     )
 }
 
-/// Whether rising words are replaced by falling ones so, where modes are followed, and the first column is found so often.
+/// Whether replacing rising words by falling ones gives `expected` if modes are followed, and the first column is found `found` times.
 fn is_replaced_by_mode(
     alloc: Global,
     asc: &[u8],

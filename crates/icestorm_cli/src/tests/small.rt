@@ -1,4 +1,4 @@
-// A small database of a 1k, an image for it, and the module of its design.
+// A small database of an iCE40 HX1K, an image for it, and the module of its design.
 
 use std::alloc::{AllocError, Global};
 

@@ -11,13 +11,13 @@ use vlog_cycle::Runner;
 use vlog_emit::emit;
 use vlog_text::{parse, print};
 
-/// The bytes that a chip database has at most.
+/// The most bytes that a chip database has here.
 const MOST_BYTES: usize = 268_435_456;
 
-/// How much there is of what a test counts: bytes of the bitstream, cells and classes of the design, events, and outputs of the module.
+/// What a test counts: bytes of the bitstream, cells and classes of joined nets of the design, events, and outputs of the module.
 type Counts = (usize, usize, usize, usize, usize);
 
-/// What is counted on the way from a seed to a runner, or none where a call fails.
+/// The counts on the way from a seed to a runner, or `None` if a call fails.
 #[tactic(auto, unfolding(vlog_module::specs::Names::is_name, vlog_module::specs::Names::reserved_words))]
 fn counted(alloc: Global) -> Option<Counts> {
     let text = chipdb(alloc, DeviceName::K1).ok()?;

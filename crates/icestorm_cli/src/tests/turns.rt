@@ -21,7 +21,7 @@ const LAYOUT: &[u8] = b".layout 1k\nmirror no\n";
 
 const EVENTS: &[u8] = b"io_0_1_0 1\nio_0_1_0 0\n";
 
-/// The files that the jobs read, as far as they are made.
+/// The files that the jobs read and that are made for them.
 #[derive(Drop)]
 struct Made {
     image: Vec<u8>,
@@ -32,7 +32,7 @@ struct Made {
     packaged: Vec<u8>,
 }
 
-/// So many times these bytes.
+/// These bytes, repeated `times` times.
 fn repeated(alloc: Global, bytes: &[u8], times: usize) -> Result<Vec<u8>, AllocError> {
     let mut repeated = Vec::new(alloc);
     for _ in 0..times {
@@ -93,7 +93,7 @@ impl Made {
     }
 }
 
-/// The bytes of the file of that name, and none where there is no such file.
+/// The bytes of the file of this name, or no bytes if there is no such file.
 fn bytes_of<'a>(files: &[Named<'a>], name: &str) -> &'a [u8] {
     for file in files {
         if file.0 == name {
@@ -110,7 +110,7 @@ enum Way {
     InParts,
 }
 
-/// Words, how files are taken, which ones in which order, the file that is standard input, and how many bytes go at once.
+/// The words, how files are taken, which ones in which order, the file that is standard input, and how many bytes go in one read or write.
 type Job = (
     &'static [&'static str],
     Way,
@@ -299,7 +299,7 @@ fn setup_of<'a>(job: &Job, files: &'a [Named<'a>]) -> Setup<'a> {
     }
 }
 
-/// How many parts some bytes have.
+/// In how many parts these bytes are read.
 fn parts_of(bytes: &[u8], part: Part) -> u64 {
     let most = part.most();
     (bytes.len().saturating_add(most - 1) / most) as u64
@@ -319,7 +319,7 @@ fn line_on(alloc: Global, job: &Job, failure: &str, name: &str) -> Result<String
     format!(in alloc; "{tool}: {failure}: {name}\n")
 }
 
-/// Whether a job ends with that status and that failure of a name, writes nothing, and leaves the file `out` as it was.
+/// Whether a job ends with this status and the line on this failure of a name, writes nothing, and leaves the file `out` as it was.
 fn fails(
     alloc: Global,
     job: &Job,
@@ -333,7 +333,7 @@ fn fails(
     Ok(ended.refuses(status, &line) && ended.stored.as_slice() == BEFORE)
 }
 
-/// Whether a job is done, with what it writes and stores where nothing is chosen to fail.
+/// Whether a job is done, and writes and stores what it does if nothing is set to fail.
 fn is_done(alloc: Global, job: &Job, setup: Setup<'_>, whole: &Ended) -> Result<bool, AllocError> {
     let ended = outcome(alloc, setup, job.0)?;
     Ok(ended.says(0, "") && ended.output == whole.output && ended.stored == whole.stored)
@@ -344,7 +344,7 @@ fn is_storing(job: &Job) -> bool {
     job.0.contains(&"out")
 }
 
-/// The first call of files that reads none of these files, where each call before it fails with the name of its file.
+/// The first call of files that comes after the reads of these files, or `None` if a call before it doesn't fail with the name of its file.
 fn call_behind(
     alloc: Global,
     job: &Job,
@@ -367,7 +367,7 @@ fn call_behind(
     Ok(Some(failing_call))
 }
 
-/// Whether each call that reads a file ends the job, and the call behind them stores the file `out` or isn't made.
+/// Whether each call that reads a file ends the job if it fails, and the call after them stores the file `out` or isn't made.
 fn calls_fail_in_turn(
     alloc: Global,
     job: &Job,
@@ -389,7 +389,7 @@ fn calls_fail_in_turn(
     }
 }
 
-/// Whether each read of standard input ends the job, and no more reads are made.
+/// Whether each read of standard input ends the job if it fails, and no more reads are made.
 fn reads_fail_in_turn(
     alloc: Global,
     job: &Job,
@@ -422,7 +422,7 @@ fn is_made_while_written(job: &Job) -> bool {
     job.0.contains(&"iceunpack") || job.0.contains(&"-u") || job.0.contains(&"--vcd")
 }
 
-/// Whether that many writes may have taken so many bytes.
+/// Whether `writes` writes may have taken `bytes` bytes.
 fn is_taken(job: &Job, writes: u64, bytes: usize) -> bool {
     let most = (writes as usize).saturating_mul(job.4.most());
     if is_made_while_written(job) {
@@ -432,7 +432,7 @@ fn is_taken(job: &Job, writes: u64, bytes: usize) -> bool {
     }
 }
 
-/// Whether a job has ended with status 4, and standard output has what so many writes took.
+/// Whether a job has ended with status 4, and standard output has what `writes` writes took.
 fn is_cut(
     alloc: Global,
     job: &Job,
@@ -452,7 +452,7 @@ fn is_cut(
 /// More writes than any job makes.
 const MOST_WRITES: u64 = 10_000;
 
-/// How many writes of standard output end a job, each where it fails, or none where it doesn't end so.
+/// How many writes of standard output a job makes, if each of them ends the job when it fails, and else `None`.
 fn writes_that_fail(
     alloc: Global,
     job: &Job,
@@ -476,7 +476,7 @@ fn writes_that_fail(
     Ok(None)
 }
 
-/// Whether each write of standard output ends the job, where any is made.
+/// Whether each write of standard output ends the job if it fails.
 fn writes_fail_in_turn(
     alloc: Global,
     job: &Job,
@@ -490,7 +490,7 @@ fn writes_fail_in_turn(
     })
 }
 
-/// Whether the file `out` has the first bytes where it takes so many.
+/// Whether the file `out` has the first `room` bytes if it takes no more.
 fn is_stored_in(
     alloc: Global,
     job: &Job,
@@ -502,7 +502,7 @@ fn is_stored_in(
     Ok(ended.refuses(4, &line) && Some(ended.stored.as_slice()) == whole.stored.get(..setup.room))
 }
 
-/// Whether a file that takes no byte, some, or all but one has these.
+/// Whether the file `out` has the first bytes of what is stored, if it takes no byte, some bytes, or all but one.
 fn stores_fail_in_turn(
     alloc: Global,
     job: &Job,
@@ -553,7 +553,7 @@ fn fail_in_turn(
     }
 }
 
-/// The words of the first job of which these calls don't fail in turn, or none.
+/// The words of the first job whose calls of this kind don't fail in turn, or `None`.
 fn first_that_differs(
     alloc: Global,
     turn: Turn,
@@ -588,7 +588,7 @@ fn leaves_what_a_file_has_room_for(rt: HostRuntime) {
     assert_eq!(rt; first_that_differs(rt.alloc(), Turn::Stores), Ok(None));
 }
 
-/// The first word of each command line that isn't taken.
+/// The first words of command lines that aren't taken.
 static TOOLS: [&str; 11] = [
     "icepack",
     "iceunpack",
@@ -603,7 +603,7 @@ static TOOLS: [&str; 11] = [
     "selfrun",
 ];
 
-/// Whether the status is 2 where that many writes of the line are made and the next one fails.
+/// Whether the status is 2 if `writes` writes of the line are made and the next one fails.
 fn keeps_usage_error(alloc: Global, tool: &str, writes: usize) -> Result<bool, AllocError> {
     let setup = Setup {
         failing_line: (writes as u64).saturating_add(1),

@@ -161,7 +161,7 @@ refusal reader (List_of field numbers) = list_refusal reader field numbers
 refusal reader (Flag_of field value) = flag_refusal_in reader field
 refusal reader Unknown = Some Statement
 
--- the reader behind a line
+-- the reader after a line
 abbrev pub taken : Reader → Line → Reader
 taken reader Passed = reader
 taken reader (Section word) = begun_with reader (device_named word)
@@ -171,7 +171,7 @@ taken reader Unknown = reader
 
 -- ---- what the code sees of a line
 
--- words that aren't numbers, or more of them than any field has
+-- words that aren't all numbers, or more numbers than any field has
 abbrev pub is_long : Option (List ℕ) → Bool
 is_long None = true
 is_long (Some numbers) = nat_lt 18 (length numbers)

@@ -1,4 +1,4 @@
-// Changes of single fields, after which a layout still gives no two bits one place.
+// Changes of single fields, after which a layout still puts no two bits at one place.
 ghost use Rattle.std.specs.Prelude.{◌≡◌, true};
 ghost use Rattle.plane_map.specs.Layout.{are_places, are_widths};
 

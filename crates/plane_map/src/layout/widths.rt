@@ -1,11 +1,11 @@
-// The columns of bits that the columns of tiles take: how many, and from which one on.
+// The columns of bits that the columns of tiles take: how many each, and where each begins.
 ghost use Rattle.std.specs.Prelude.{◌≡◌, ◌≤◌, ◌<◌, ◌-◌, ◌^◌, ◌++◌, length, replicate};
 ghost use Rattle.plane_map.specs.Inside.{starts_below};
 ghost use Rattle.plane_map.specs.Layout.{half_width, standard_widths, start_in};
 
 use crate::device::DeviceName;
 
-/// The standard widths with 0 past the last one.
+/// The standard widths, with 0 after the last one.
 #[tactic(auto, unfolding(crate::specs::Layout::standard_widths))]
 pub(crate) fn standard_widths(device: DeviceName) -> [u16; 17]
     ensures { result ≡ standard_widths device ++ replicate (17 - half_width device) 0 }
@@ -19,7 +19,7 @@ pub(crate) fn standard_widths(device: DeviceName) -> [u16; 17]
     }
 }
 
-/// The widths with 0 past the last one.
+/// The widths, with 0 after the last one.
 pub(crate) fn padded(widths: &[u16]) -> [u16; 17]
     requires { length widths.now ≤ 17 }
     ensures { result ≡ widths.now ++ replicate (17 - length widths.now) 0 }

@@ -1,11 +1,11 @@
-// Lanes of a memory.
+// Lanes of a module with a memory.
 
 use super::MEMORY;
 use std::alloc::Global;
 use vlog_lanes::{Call, Lanes};
 use vlog_text::parse;
 
-/// Takes the edge in lane 0 alone, where there is an input.
+/// Gives lane 0 alone the rising edge, if there is an input.
 fn take_edge(lanes: &mut Lanes) {
     if lanes.inputs() > 0 {
         lanes.run(&[Call {
@@ -16,14 +16,14 @@ fn take_edge(lanes: &mut Lanes) {
     }
 }
 
-/// Takes the end of the edge in all lanes, where there is an input.
+/// Gives all lanes the falling edge, if there is an input.
 fn take_end(lanes: &mut Lanes) {
     if lanes.inputs() > 0 {
         lanes.event(0, u64::MAX, 0);
     }
 }
 
-/// The lanes of the memory after the edge in lane 0.
+/// The lanes of the module after the rising edge in lane 0.
 fn lanes_after(alloc: Global) -> Option<Lanes> {
     let module = parse(alloc, MEMORY).ok()?;
     let mut lanes = Lanes::new(alloc, &module).ok()?;
@@ -32,7 +32,7 @@ fn lanes_after(alloc: Global) -> Option<Lanes> {
     Some(lanes)
 }
 
-/// Whether lane 0 alone has what the edge gives.
+/// Whether lane 0 alone has what the rising edge assigns.
 fn has_edge(lanes: &Lanes) -> bool {
     lanes.outputs() == [1_u64].as_slice()
         && lanes.register(b"r") == Some(1)

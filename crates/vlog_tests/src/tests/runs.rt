@@ -1,4 +1,4 @@
-// Runs of a memory, and of registers that a wire sets and resets at once.
+// Runs of a module with a memory, and of registers with asynchronous set and reset.
 
 ghost use Rattle.std.specs.Prelude.{◌<◌, All, length};
 ghost use Rattle.vlog_plan.specs.Run.{input_names};
@@ -8,21 +8,21 @@ use std::alloc::{AllocError, Global};
 use vlog_cycle::{Event, Runner, read_events, run_text};
 use vlog_text::{Module, parse};
 
-/// Takes the edge, where there is an input.
+/// Gives the runner the rising edge, if there is an input.
 fn take_edge(runner: &mut Runner) {
     if runner.inputs() > 0 {
         runner.run(&[Event { pin: 0, bit: true }]);
     }
 }
 
-/// Takes the end of the edge, where there is an input.
+/// Gives the runner the falling edge, if there is an input.
 fn take_end(runner: &mut Runner) {
     if runner.inputs() > 0 {
         runner.event(0, false);
     }
 }
 
-/// The runner of the memory after the edge.
+/// The runner of the module after the edges.
 fn runner_after(alloc: Global) -> Option<Runner> {
     let module = parse(alloc, MEMORY).ok()?;
     let mut runner = Runner::new(alloc, &module).ok()?;
@@ -31,7 +31,7 @@ fn runner_after(alloc: Global) -> Option<Runner> {
     Some(runner)
 }
 
-/// Whether the names of registers, of a word and of a memory give what they have after the edge.
+/// Whether the values by name are those after the edges: of registers, of a word and of a memory.
 fn has_names(runner: &Runner) -> bool {
     runner.register(b"r") == Some(true)
         && runner.register_word(b"w") == Some(0x1234)
@@ -39,7 +39,7 @@ fn has_names(runner: &Runner) -> bool {
         && runner.register(b"q").is_none()
 }
 
-/// Whether the values in their order are those after the edge.
+/// Whether the lists of values are those after the edges.
 fn has_values(runner: &Runner) -> bool {
     runner.input_bits() == [false].as_slice()
         && runner.outputs() == [true].as_slice()
@@ -47,7 +47,7 @@ fn has_values(runner: &Runner) -> bool {
         && runner.words() == [0x1234_u16].as_slice()
 }
 
-/// The wires.
+/// The values of the wires.
 fn wires_of(runner: &Runner) -> [bool; 2] {
     let mut wires = [false; 2];
     runner.copy_wires(&mut wires);
@@ -68,7 +68,7 @@ fn shows_what_an_edge_gives(rt: HostRuntime) {
     assert!(rt; is_edge_taken(rt.alloc()));
 }
 
-/// One register turns at falling edges of `c`, and `s` sets it at once; another has no clock, and `s` resets it at once.
+/// One register toggles at falling edges of `c`, and `s` sets it asynchronously; another has no clock, and `s` resets it asynchronously.
 const AT_ONCE: &[u8] = b"module m (c, s, q, p);
   input c;
   input s;
@@ -89,7 +89,7 @@ const SETTING: &[u8] = b"s 1\ns 0\nc 1\nc 0\ns 1\nc 1\nc 0\ns 0\n";
 
 const SET: &str = "01 01\n10 10\n10 10\n10 10\n00 00\n10 10\n10 10\n10 10\n10 10\n";
 
-/// Whether these are the lines of a module over events, each of an input of the module.
+/// Whether these are the lines of a module's run over events, each on an input of the module.
 fn are_lines_over(
     alloc: Global,
     module: &Module,
@@ -101,7 +101,7 @@ fn are_lines_over(
     Ok(run_text(alloc, module, events, true)?.as_slice() == lines.as_bytes())
 }
 
-/// Whether these are the lines of a module over the events of a text.
+/// Whether these are the lines of a module's run over the events of a text.
 fn are_lines(alloc: Global, module: &Module, text: &[u8], lines: &str) -> Result<bool, AllocError> {
     match read_events(alloc, module, text) {
         Ok(events) => are_lines_over(alloc, module, events.as_slice(), lines),
@@ -109,7 +109,7 @@ fn are_lines(alloc: Global, module: &Module, text: &[u8], lines: &str) -> Result
     }
 }
 
-/// Whether the registers are set and reset at once.
+/// Whether the registers are set and reset asynchronously.
 fn are_set_at_once(alloc: Global) -> Result<bool, AllocError> {
     match parse(alloc, AT_ONCE) {
         Ok(module) => are_lines(alloc, &module, SETTING, SET),

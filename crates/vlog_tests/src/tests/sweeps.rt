@@ -1,4 +1,4 @@
-// Runs over many lists of events at once.
+// Runs over several lists of events at once.
 ghost use Rattle.std.specs.Prelude.{◌≡◌, ◌<◌, ◌++◌, ◌∷◌, [], All, IfSome, OnSome, length};
 ghost use Rattle.vlog_plan.specs.Run.{input_names};
 
@@ -8,14 +8,14 @@ use vlog_module::Module;
 use vlog_sweep::{EventList, sweep};
 use vlog_text::parse;
 
-/// The text of a list, and what stands before its lines.
+/// The heading and the text of a list of events.
 #[derive(Clone, Copy)]
 struct List {
     heading: &'static [u8],
     events: &'static [u8],
 }
 
-/// The list of a text.
+/// The list of events of a text.
 fn list_of(alloc: Global, module: &Module, list: List) -> Option<EventList>
     ensures { IfSome result (λ list. All (λ event. event.pin < length (input_names «module».now.ports)) list.events.items) }
 {
@@ -28,14 +28,14 @@ fn list_of(alloc: Global, module: &Module, list: List) -> Option<EventList>
     }
 }
 
-/// Adds a list.
+/// Adds a list of events.
 fn push_list(lists: &mut Vec<EventList>, list: EventList) -> Option<()>
     ensures { OnSome result (lists.new.items ≡ lists.old.items ++ list ∷ []) }
 {
     lists.push(list).ok()
 }
 
-/// The lists of texts.
+/// The lists of events of texts.
 fn lists_of(alloc: Global, module: &Module, texts: &[List]) -> Option<Vec<EventList>>
     ensures { IfSome result (λ lists. All (λ list. All (λ event. event.pin < length (input_names «module».now.ports)) list.events.items) lists.items) }
 {
@@ -47,7 +47,7 @@ fn lists_of(alloc: Global, module: &Module, texts: &[List]) -> Option<Vec<EventL
     Some(lists)
 }
 
-/// What a module gives for lists.
+/// The text of a module's runs over lists of events.
 fn swept(alloc: Global, text: &[u8], texts: &[List]) -> Option<Vec<u8>> {
     let module = parse(alloc, text).ok()?;
     let lists = lists_of(alloc, &module, texts)?;
@@ -57,7 +57,7 @@ fn swept(alloc: Global, text: &[u8], texts: &[List]) -> Option<Vec<u8>> {
     sweep(alloc, &module, &lists).ok()
 }
 
-/// A register takes `b` at an edge of `a`.
+/// A register takes `b` at rising edges of `a`.
 const TAKING: &[u8] = b"module m (a, b, x, y);
   input a;
   input b;
@@ -70,7 +70,7 @@ const TAKING: &[u8] = b"module m (a, b, x, y);
 endmodule
 ";
 
-/// Lists of other lengths, over both inputs.
+/// Lists of different lengths, over both inputs.
 const LISTS: [List; 2] = [
     List {
         heading: b"events A\n",
@@ -84,7 +84,7 @@ const LISTS: [List; 2] = [
 
 const LINES: &[u8] = b"events A\n00\n00\nevents B\n00\n01\n11\n10\n10\n00\n";
 
-/// Whether the register gives those lines.
+/// Whether the runs of this module have these lines.
 fn is_swept(alloc: Global) -> bool {
     match swept(alloc, TAKING, &LISTS) {
         Some(text) => text.as_slice() == LINES,

@@ -23,7 +23,7 @@ const ALL: &str = "module all (c, d, q);
 endmodule
 ";
 
-/// Whether a module is printed as this text, and read from it again.
+/// Whether a module is printed as this text, and so is the module that is read from its text again.
 fn is_text_of(alloc: Global, module: &Module, text: &str) -> Result<bool, AllocError> {
     let again = from_own_text(alloc, module)?;
     Ok(print(alloc, &again)?.as_slice() == text.as_bytes())

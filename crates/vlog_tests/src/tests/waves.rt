@@ -1,4 +1,4 @@
-// Waves of a register that keeps a wire at rising edges, beside one that reads word 5 of a memory.
+// The VCD of a register that takes a wire at rising edges, and of another that reads word 5 of a memory.
 
 ghost use Rattle.std.specs.Prelude.{◌<◌, All, length};
 ghost use Rattle.vlog_plan.specs.Run.{input_names};
@@ -51,7 +51,7 @@ b0000000000000000 %
 $end
 ";
 
-/// How many bytes a sink takes in all, what comes of the waves then, and how many bytes are written.
+/// How many bytes a sink takes in all, the result of writing the VCD to it, and the lines after the beginning.
 #[derive(Clone, Copy)]
 struct Case<'a> {
     events: &'a str,
@@ -60,7 +60,7 @@ struct Case<'a> {
     done: Result<(), PutFault>,
 }
 
-/// Whether the waves go to the sink as the case wants: it takes at most eleven bytes in one write.
+/// Whether writing to the sink has the result and the bytes of the case. The sink takes at most eleven bytes in one write.
 fn are_written(alloc: Global, waves: Waves, case: &Case<'_>) -> Result<bool, AllocError> {
     let mut sink = MemSink::new(alloc, case.room, 11, Vec::new(alloc))?;
     let done = waves.write_to(&mut sink);
@@ -70,7 +70,7 @@ fn are_written(alloc: Global, waves: Waves, case: &Case<'_>) -> Result<bool, All
     Ok(done == case.done && sink.bytes() == wanted.as_slice())
 }
 
-/// Whether they do for a module and events, each of an input of the module.
+/// Whether the case holds for the run of a module over events, each on an input of the module.
 fn are_waves_over(
     alloc: Global,
     module: Module,
@@ -83,7 +83,7 @@ fn are_waves_over(
     are_written(alloc, waves, case)
 }
 
-/// Whether they do for the events of a text.
+/// Whether the case holds for the run of a module over the events of its text.
 fn are_waves_of(alloc: Global, module: Module, case: &Case<'_>) -> Result<bool, AllocError> {
     match read_events(alloc, &module, case.events.as_bytes()) {
         Ok(events) => are_waves_over(alloc, module, events, case),
@@ -91,7 +91,7 @@ fn are_waves_of(alloc: Global, module: Module, case: &Case<'_>) -> Result<bool, 
     }
 }
 
-/// Whether they do.
+/// Whether the case holds for the module.
 fn are_waves(alloc: Global, case: &Case<'_>) -> Result<bool, AllocError> {
     match parse(alloc, MODULE) {
         Ok(module) => are_waves_of(alloc, module, case),

@@ -29,7 +29,7 @@ fn tells_words(rt: HostRuntime) {
     }
 }
 
-/// A letter for the sort of a token.
+/// A letter for the kind of a token.
 fn sort_of(token: Token<'_>) -> char {
     match token {
         Token::Fixed(_) => 'f',
@@ -41,7 +41,7 @@ fn sort_of(token: Token<'_>) -> char {
     }
 }
 
-/// The first token of a text: its sort, where it begins and where it ends.
+/// The first token of a text: its kind, where it begins and where it ends.
 fn first_token(text: &str) -> Option<(char, usize, usize)> {
     let spot = next_token(text.as_bytes(), 0)?;
     Some((sort_of(spot.token), spot.at, spot.end))

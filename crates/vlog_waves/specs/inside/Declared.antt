@@ -1,4 +1,4 @@
--- The names of the variables of a kind that items declare.
+-- The names of the variables of one kind that items declare.
 use Rattle.std.specs.Prelude.{ℕ, List}
 use Rattle.vlog_module.specs.declared.item.Item.{Item}
 use Rattle.vlog_plan.specs.ModuleSlots.{register_names, wire_names, wire_start, word_names}
@@ -14,13 +14,13 @@ kind_of Wire = wire_kind
 kind_of Register = register_kind
 kind_of Word = word_kind
 
--- the name that an item declares, if it is one of this kind
+-- the name that an item declares, if it is of this kind
 abbrev pub declared_by : Kind → Item → List (List ℕ)
 declared_by Wire item = names_of (wire_start item)
 declared_by Register item = names_of (register_start item)
 declared_by Word item = names_of (word_start item)
 
--- the names of this kind, in the order of their declaration
+-- the names of this kind, in the order of their declarations
 abbrev pub names_of_kind : Kind → List Item → List (List ℕ)
 names_of_kind Wire items = wire_names items
 names_of_kind Register items = register_names items

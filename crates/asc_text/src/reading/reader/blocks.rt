@@ -64,7 +64,7 @@ impl Reader {
     }
 }
 
-/// Sets the bits of a row of a tile at which a number has a 1, where there is an image.
+/// Sets the bits of a row of a tile at which `ones` has a 1, if there is an image.
 fn set_row(image: &mut Option<AnyImage>, x: u8, y: u8, row: u8, ones: u64)
     requires there { (kind : TileKind) × HasKind image.old x y kind }
     requires row { row < 16 }
@@ -76,7 +76,7 @@ fn set_row(image: &mut Option<AnyImage>, x: u8, y: u8, row: u8, ones: u64)
     }
 }
 
-/// Sets the bits of sixteen words of a RAM, where there is an image.
+/// Sets the bits of sixteen words of a RAM, if there is an image.
 fn set_memory_line(image: &mut Option<AnyImage>, x: u8, y: u8, row: u8, bytes: &[u8; 32])
     requires there { HasKind image.old x y TileKind.RamB }
     requires row { row < 16 }

@@ -8,7 +8,7 @@ use crate::fault::AscFault;
 use crate::reading::reader::Reader;
 
 impl Reader {
-    /// Takes the lines of a text, where so many were taken before them, and returns how many are taken then.
+    /// Takes the lines of a text, before which `before` lines were taken, and returns how many lines have been taken in all.
     #[inline(never)]
     pub(crate) fn take_lines(&mut self, before: u64, text: &[u8]) -> Result<u64, AscFault>
         requires reached { ∥ IsReached (state_of self.old) ∥₁ }

@@ -1,4 +1,4 @@
-// Lines that name nets in their usual form, one after the other, as a routed text has very many of them.
+// Lines that name nets in their usual form, one after the other: the text of a routed design has very many of them.
 ghost use Rattle.std.specs.Prelude.{◌≡◌, false, IfSome};
 ghost use Rattle.asc_text.specs.declared.reading.reader.Expected.TheVariants.{Statement as AnyStatement};
 ghost use Rattle.asc_text.specs.inside.Reading.{ReaderState, TakesFirst, TakesLines};
@@ -10,8 +10,8 @@ use text_lines::first_line;
 /// The most lines that are taken at once.
 const MOST_LINES: u8 = 255;
 
-/// Takes the lines at the front of a text that name nets in their usual form, up to 255 of them. Where a statement is expected
-/// and no comment goes on they change nothing.
+/// Takes the lines at the front of a text that name nets in their usual form, up to 255 of them. If a statement is expected and the text
+/// is not in a comment, they change nothing.
 pub(super) fn take_names(text: &[u8]) -> TakenLines<'_>
     ensures { (s : ReaderState) → s.expected ≡ AnyStatement → s.in_comment ≡ false → TakesLines s text.now result.count result.rest.now s }
 {
@@ -27,7 +27,7 @@ pub(super) fn take_names(text: &[u8]) -> TakenLines<'_>
     TakenLines { count, rest: left }
 }
 
-/// The text behind its first line, where that names a net in its usual form.
+/// The text after its first line, if that line names a net in its usual form.
 #[inline(always)]
 fn behind_name(text: &[u8]) -> Option<&[u8]>
     ensures { IfSome result (λ rest. (s : ReaderState) → s.expected ≡ AnyStatement → s.in_comment ≡ false → TakesFirst s text.now rest.now s) }

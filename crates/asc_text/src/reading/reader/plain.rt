@@ -1,4 +1,4 @@
-// Lines in their usual form: rows of a tile and digits of a RAM's contents with LF right behind, as most lines of a text are, and
+// Lines in their usual form: rows of a tile and digits of a RAM's contents with LF right after them, as most lines of a text are, and
 // names of nets.
 ghost use Rattle.std.specs.Prelude.{◌≡◌, ℕ, ◌+◌, ◌<◌, ◌≤◌, true, Some, take, IfSome};
 ghost use Rattle.std.specs.Bool.{MatchBool};
@@ -22,15 +22,15 @@ use plane_map::{TileKind, TileRuns};
 /// Lines that were taken from the front of a text.
 #[derive(Clone, Copy, Debug, PartialEq, Eq)]
 pub(crate) struct TakenLines<'a> {
-    /// How many they are.
+    /// How many lines these are.
     pub(crate) count: u8,
-    /// The text behind them.
+    /// The text after them.
     pub(crate) rest: &'a [u8],
 }
 
 impl Reader {
-    /// Takes the lines at the front of a text that are the expected rows or digits with LF right behind, or name nets in their usual
-    /// form. There may be none. The line behind them is left to `accept_any`.
+    /// Takes the lines at the front of a text that are the expected rows or digits with LF right after them, or name nets in their usual
+    /// form. There may be none. The line after them is left to `accept_any`.
     #[inline(always)]
     pub(crate) fn accept_plain<'a>(&mut self, text: &'a [u8]) -> TakenLines<'a>
         requires ready { IsReady self.old.image self.old.expected }
@@ -48,7 +48,7 @@ impl Reader {
         }
     }
 
-    /// Takes rows of a tile, from that row on.
+    /// Takes rows of a tile, from row `row` on.
     fn accept_rows<'a>(
         &mut self,
         kind: TileKind,
@@ -66,7 +66,7 @@ impl Reader {
         taken
     }
 
-    /// Takes lines of the contents of a RAM, from that line on.
+    /// Takes lines of the contents of a RAM, from line `row` on.
     fn accept_memory_lines<'a>(&mut self, x: u8, y: u8, row: u8, text: &'a [u8]) -> TakenLines<'a>
         requires there { HasKind self.old.image x y TileKind.RamB }
         requires row { row < 16 }
@@ -79,7 +79,7 @@ impl Reader {
     }
 }
 
-/// Sets the bits of the rows of a tile that stand at the front of a text, from that row on, where there is an image.
+/// Sets the bits of the rows of a tile that are at the front of a text, from row `row` on, if there is an image.
 fn set_rows<'a>(
     image: &mut Option<AnyImage>,
     kind: TileKind,
@@ -101,7 +101,7 @@ fn set_rows<'a>(
     }
 }
 
-/// The same of an image. No row is taken where there is no tile.
+/// Sets the bits of the rows of a tile that are at the front of a text, from row `row` on. No row is taken if there is no tile.
 #[inline(never)]
 fn set_rows_of_tile<'a>(
     image: &mut AnyImage,
@@ -129,7 +129,7 @@ fn set_rows_of_tile<'a>(
     }
 }
 
-/// The same of a tile with that many columns, by where its rows lie.
+/// Sets the bits of the rows of a tile with `width` columns that are at the front of a text, by the runs of its rows.
 #[inline(always)]
 fn set_rows_of_width<'a>(
     image: &mut AnyImage,
@@ -164,7 +164,7 @@ fn set_rows_of_width<'a>(
     }
 }
 
-/// Sets the bits of a row of a tile where it stands at the front of a text with LF right behind, and tells whether it does.
+/// Sets the bits of a row of a tile if the row is at the front of a text with LF right after it, and returns whether it is.
 #[inline(always)]
 fn set_plain_row(image: &mut AnyImage, runs: TileRuns, row: u8, text: &[u8], width: usize) -> bool
     requires row { row < 16 }
@@ -184,7 +184,7 @@ fn set_plain_row(image: &mut AnyImage, runs: TileRuns, row: u8, text: &[u8], wid
     }
 }
 
-/// A row of a tile at the front of a text with LF right behind, as a number, column c being worth 2^c.
+/// A row of a tile at the front of a text with LF right after it, as a number, column c being worth 2^c.
 #[inline(always)]
 fn plain_row(text: &[u8], width: usize) -> Option<u64>
     requires long { 8 ≤ width }
@@ -199,8 +199,7 @@ fn plain_row(text: &[u8], width: usize) -> Option<u64>
     }
 }
 
-/// Sets the bits of the lines of the contents of a RAM that stand at the front of a text, from that line on, where there is an
-/// image.
+/// Sets the bits of the lines of the contents of a RAM that are at the front of a text, from line `row` on, if there is an image.
 fn set_memory_lines<'a>(
     image: &mut Option<AnyImage>,
     x: u8,
@@ -222,7 +221,7 @@ fn set_memory_lines<'a>(
     }
 }
 
-/// The same of an image.
+/// Sets the bits of the lines of the contents of a RAM that are at the front of a text, from line `row` on.
 fn set_lines_of_ram<'a>(
     image: &mut AnyImage,
     x: u8,
@@ -253,8 +252,8 @@ fn set_lines_of_ram<'a>(
     }
 }
 
-/// Sets the bits of a line of the contents of a RAM where it stands at the front of a text with LF right behind, and tells
-/// whether it does.
+/// Sets the bits of a line of the contents of a RAM if the line is at the front of a text with LF right after it, and returns
+/// whether it is.
 fn set_plain_memory_line(image: &mut AnyImage, x: u8, y: u8, row: u8, text: &[u8]) -> bool
     requires there { kind_of (device_of image.old) x y ≡ Some TileKind.RamB }
     requires row { row < 16 }
@@ -271,7 +270,7 @@ fn set_plain_memory_line(image: &mut AnyImage, x: u8, y: u8, row: u8, text: &[u8
     }
 }
 
-/// The bytes of a line of the contents of a RAM at the front of a text with LF right behind.
+/// The bytes of a line of the contents of a RAM at the front of a text with LF right after it.
 fn plain_memory_line(text: &[u8]) -> Option<[u8; 32]>
     ensures { IfSome result (λ bytes. (is_lf_at text.now 64 ≡ true) × (is_memory_line (take 64 text.now) ≡ true)
         × (memory_bytes (take 64 text.now) ≡ bytes)) }
@@ -283,7 +282,7 @@ fn plain_memory_line(text: &[u8]) -> Option<[u8; 32]>
     }
 }
 
-/// Whether LF stands at that offset.
+/// Whether the byte at this offset is LF.
 fn is_lf_at(text: &[u8], offset: usize) -> bool
     ensures { result ≡ is_lf_at text.now offset }
 {

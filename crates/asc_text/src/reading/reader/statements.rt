@@ -45,7 +45,7 @@ impl Reader {
         self.in_comment = true;
     }
 
-    /// Takes the device, where the text has named none before.
+    /// Takes the device, if the text has named none before.
     fn take_device(&mut self, device: Option<DeviceName>) -> Result<(), Refusal>
         ensures taken { IfOk result (λ _. TakesStatement (state_of self.old) (Statement.Device device) (state_of self.new)) }
         ensures accepted { OnOk result (statement_refusal (state_of self.old) (Statement.Device device) ≡ None) }
@@ -61,7 +61,7 @@ impl Reader {
         Ok(())
     }
 
-    /// Begins the rows of a tile, where the text has not given them before.
+    /// Begins the rows of a tile, if the text has not given them before.
     fn begin_tile(&mut self, kind: TileKind, x: u32, y: u32) -> Result<(), AscCause>
         ensures taken { IfOk result (λ _. TakesStatement (state_of self.old) (Statement.Tile kind x y) (state_of self.new)) }
         ensures accepted { OnOk result (statement_refusal (state_of self.old) (Statement.Tile kind x y) ≡ None) }
@@ -83,7 +83,7 @@ impl Reader {
         Ok(())
     }
 
-    /// Begins the contents of a RAM, where the text has not given them before.
+    /// Begins the contents of a RAM, if the text has not given them before.
     fn begin_memory(&mut self, x: u32, y: u32) -> Result<(), AscCause>
         ensures taken { IfOk result (λ _. TakesStatement (state_of self.old) (Statement.RamData x y) (state_of self.new)) }
         ensures accepted { OnOk result (statement_refusal (state_of self.old) (Statement.RamData x y) ≡ None) }
@@ -111,7 +111,7 @@ fn blank_image(alloc: Global, layout: Layout) -> Result<AnyImage, AllocError>
     ensures whole { IfOk result (λ image. IsWhole (configuration_of image)) }
 {
     let image = AnyImage::zeroed_with(alloc, layout)?;
-    // Called for its clause `whole` alone.
+    // Called only for its clause `whole`.
     let _device = image.device();
     Ok(image)
 }

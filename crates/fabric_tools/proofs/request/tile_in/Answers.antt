@@ -12,7 +12,7 @@ without_row : (x : Option ℕ) → tile_of x None ≡ None
 without_row (Some x) = refl
 without_row None = refl
 
--- nothing stands behind a space that isn't there
+-- nothing comes after a space that is missing
 without_space : (text : List ℕ) (x : Option ℕ) → position (λ byte. byte == 32) text ≡ None → tile_of x (number_of (after_first (λ byte. byte == 32) text)) ≡ None
 unfolding number_of
 without_space text x none =

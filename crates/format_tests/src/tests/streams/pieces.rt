@@ -1,4 +1,4 @@
-// Streams that come in pieces.
+// Bitstreams that come in pieces.
 ghost use Rattle.std.specs.Prelude.{◌≡◌, ◌<◌, ◌^◌, IfOk, IfErr, Ok, length};
 ghost use Rattle.layout_file.specs.Layouts.{standard_layouts};
 ghost use Rattle.ice_image.specs.Either.{configuration_of};
@@ -9,10 +9,10 @@ use bin_stream::{BinFault, Decoder, decode, encode};
 use ice_image::AnyImage;
 use std::alloc::Global;
 
-/// More bytes than a stream has here.
+/// More bytes than a bitstream has here.
 const MANY: usize = 1_000_000;
 
-/// The image of a stream that comes in pieces of so many bytes, or its first fault.
+/// The image of a bitstream that comes in pieces of `size` bytes, or its first fault.
 fn in_pieces(alloc: Global, stream: &[u8], size: usize) -> Result<AnyImage, BinFault>
     requires some { 0 < size }
     requires small { size < 2 ^ 32 }
@@ -24,14 +24,14 @@ fn in_pieces(alloc: Global, stream: &[u8], size: usize) -> Result<AnyImage, BinF
     let mut place = 0;
     while place < stream.len() {
         let end = (place + size).min(stream.len());
-        // A refusal is told again at the end.
+        // `finish` returns a refusal again.
         let _ = decoder.feed(&stream[place..end]);
         place = end;
     }
     decoder.finish()
 }
 
-/// Whether a stream gives one image whole and in pieces of so many bytes.
+/// Whether a bitstream gives one image as a whole and in pieces of `size` bytes.
 fn is_one_image(alloc: Global, stream: &[u8], size: usize) -> Result<bool, BinFault> {
     if stream.len() >= MANY || size == 0 || size > MANY {
         return Ok(false);
@@ -41,7 +41,7 @@ fn is_one_image(alloc: Global, stream: &[u8], size: usize) -> Result<bool, BinFa
     Ok(whole.as_slice() == joined.as_slice())
 }
 
-/// Whether the stream of an image without a bit, with a comment, gives one image in such pieces.
+/// Whether the bitstream of a blank image with a comment gives one image in pieces of `size` bytes.
 fn blank_is_one(alloc: Global, size: usize) -> Result<bool, BinFault> {
     is_one_image(alloc, &blank_stream(alloc)?, size)
 }

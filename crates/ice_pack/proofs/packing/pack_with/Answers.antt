@@ -1,4 +1,4 @@
--- The reader stands for the whole text behind the one piece that is fed.
+-- The reader stands for the whole text after the one piece that is fed.
 use Rattle.std.proofs.Common.{[]}
 use Rattle.std.proofs.lemmas.Result.{IfOk-weaker, IfErr-weaker, on_ok_weaker}
 use Rattle.ice_pack.proofs.packing.pack_with.Goals as goal

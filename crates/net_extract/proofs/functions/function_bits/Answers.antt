@@ -12,7 +12,7 @@ use Rattle.chipdb_reader.specs.Kept.{function_lines}
 use Rattle.net_extract.proofs.Listed.{IsFound, is_found, place_inside, not_found}
 use Rattle.net_extract.proofs.functions.function_bits.Goals as goal
 
--- where it was found
+-- if it was found
 placed : (c : goal.After-functions) → function_place c.args.kind c.args.name.now (function_lines c.args.db.now.texts c.args.db.now.bits c.args.db.now.functions) ≡ Some c.in-Some.place
 placed c = sym c.function.ensures ∙ c.in-Some.is
 

@@ -16,7 +16,7 @@ bit_changes number before after = text_of (changed_lines number (map one_bit bef
 abbrev word_changes : ℕ → List ℕ → List ℕ → List ℕ
 word_changes number before after = text_of (changed_lines number (map sixteen_bits before) (map sixteen_bits after))
 
--- the changes of each kind, one behind the other
+-- the changes of each kind, one after another
 parts : (before after : Values) (second third fourth : ℕ) → AreAlike before after → second ≡ length before.ports.items → third ≡ length before.ports.items + length before.registers.items
     → fourth ≡ length before.ports.items + length before.registers.items + length before.words.items
     → text_of (changed_lines 0 (values_held before) (values_held after))

@@ -1,4 +1,4 @@
--- `write` fills the first byte of the room behind the bytes. Assumes `Logic`.
+-- `write` fills the first byte of the room after the bytes. Assumes `Logic`.
 use mathlib.Core.Path.{◌≡◌, refl, sym, subst, ◌∙◌}
 use Prim.Native.Nat.{ℕ, ◌+◌, ◌-◌, ◌<◌, ◌^◌}
 use native.Mathlib.Omega.{arith}
@@ -98,7 +98,7 @@ module _ {M : Type 1} {𝓤 : Ura M} (𝓛 : Logic 𝓤) (at_mem : Memory → SP
         use1 𝓛 (‵ (froom (ty_int w8) b (n + o)) ⊛ ‵ (froom (bytes_type (d.room - (n + 1))) b (o + (n + 1)))) (first_left 𝓛 b o n d.room (omega (arith, asked.1, asked.2))) $ split ! $
         rewrite ! 0 (λ (k : ℕ). ‵ (froom (ty_int w8) b (k + o))) (sym asked.1) refl $
         take_at ! 2 $ rewrite ! 0 (λ (p : Ptr). ‵ (fat full_share (layout Starts) (l 2) 0 (start_val p))) (asked.0 ∙ e) refl $ give_at ! 2 $
-        -- [room for the byte; the room behind it; the bytes; the fields; their cell; the open borrow, in three entries]
+        -- [room for the byte; the room after it; the bytes; the fields; their cell; the open borrow, in three entries]
         first ! $ blocks ! $
         sets ! (bin ! (get_in ! (fld ! refl (stop !)) (sub ! 0 refl (whole !))) (get ! refl) tt) refl (tt, tt) $
         assigns_last ! (of_opd ! (get ! refl)) (through ! refl (stop !)) (init ! 0 refl (tt, record { fits = fits_byte })) $

@@ -4,7 +4,7 @@ use Rattle.plane_map.proofs.Offsets.{entry-below, places-from}
 use Rattle.plane_map.proofs.RunPlaces.{end-columns, end-length, run_length-few, side-columns, side-length}
 use Rattle.plane_map.proofs.layout.Layout.io_columns.Goals as goal
 
--- what isn't at a side is in an end row, where it is an io tile
+-- an io tile that isn't in the left or the right edge is in an end row
 is_end-from : (side end is_io : Bool) → is_io ≡ (side || end) → not is_io ≡ false → side ≡ false → end ≡ true
 is_end-from true end is_io is_is is inner = absurd cc
 is_end-from false true is_io is_is is inner = refl

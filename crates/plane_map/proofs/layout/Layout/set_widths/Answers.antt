@@ -9,7 +9,7 @@ use Rattle.plane_map.proofs.Layouts.{half_width-le, cram_width-below}
 use Rattle.plane_map.proofs.Starts.{start_in-padded, start_in-past}
 use Rattle.plane_map.proofs.layout.Layout.set_widths.Goals as goal
 
--- as many widths as a half of the columns has
+-- there is one width for each column of tiles of a half
 widths-count : (device : DeviceName) (widths : List ℕ) → are_widths device widths ≡ true → length widths ≡ half_width device
 widths-count device widths good =
     let parts = and_parts ((length widths == half_width device) && are_wide device widths (half_width device))

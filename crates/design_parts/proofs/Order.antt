@@ -8,9 +8,9 @@ use Rattle.std.proofs.Math.Seq.{take-suc}
 use Rattle.shared_lemmas.proofs.Tests.{first_true, second_true}
 use Rattle.place_search.specs.Places.{least_below}
 use Rattle.place_search.proofs.Places.{least_below-first, least_below-none}
-use Rattle.net_extract.specs.Wiring.{Wiring, has, IsReady, IsWriteOrder}
-use Rattle.net_extract.proofs.Order.{has-none, has-cases, has-first, has-behind}
-use Rattle.net_extract.proofs.Chains.{order-few}
+use Rattle.graph_order.specs.Wiring.{Wiring, has, IsReady, IsWriteOrder}
+use Rattle.graph_order.proofs.OneOrder.{has-none, has-cases, has-first, has-behind}
+use Rattle.graph_order.proofs.Ordered.{order-few}
 use Rattle.design_parts.specs.Order.{is_ready, first_classes, write_order}
 
 -- ---- the test says what the record says

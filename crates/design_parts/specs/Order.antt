@@ -5,7 +5,7 @@ use Rattle.std.specs.Prelude.{ℕ, zero, suc, Bool, not, ◌&&◌, ◌||◌, Lis
 use Rattle.std.specs.List.{list_all}
 use Rattle.std.specs.Option.{option_to_list}
 use Rattle.place_search.specs.Places.{least_below}
-use Rattle.net_extract.specs.Wiring.{Wiring, has}
+use Rattle.graph_order.specs.Wiring.{Wiring, has}
 
 -- whether a class of joined nets can come next after those that are listed: it has a driver, isn't listed, and all classes that its driver
 -- reads are listed, except those without a driver

@@ -25,7 +25,8 @@ use Rattle.vlog_forms.proofs.PrintedTokens.{printed-spells}
 use Rattle.vlog_forms.proofs.Spelled.{one-module}
 use Rattle.net_extract.specs.declared.lut_inputs.LutInputs.{LutInputs}
 use Rattle.net_extract.specs.Fabric.{fabric_with, fabric_of}
-use Rattle.net_extract.specs.Wiring.{wiring_of, IsWriteOrder}
+use Rattle.graph_order.specs.Wiring.{IsWriteOrder}
+use Rattle.net_extract.specs.Wiring.{wiring_of}
 use Rattle.net_extract.specs.Faults.{Fault, design_fault}
 use Rattle.net_extract.proofs.Within.{fabric-within}
 use Rattle.net_extract.proofs.Taken.{design-taken, taken-order}

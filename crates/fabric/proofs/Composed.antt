@@ -22,7 +22,8 @@ use Rattle.net_extract.specs.Fabric.{fabric_with, buffers_of}
 use Rattle.net_extract.proofs.Within.{fabric-in}
 use Rattle.fabric_wiring.specs.declared.parts.Parts.{Parts}
 use Rattle.fabric_wiring.specs.Parts.{ArePartsOf, buffer_of}
-use Rattle.net_extract.specs.Wiring.{wiring_of, IsWriteOrder}
+use Rattle.graph_order.specs.Wiring.{IsWriteOrder}
+use Rattle.net_extract.specs.Wiring.{wiring_of}
 use Rattle.fabric_wiring.specs.DriverLists.{DriverSet, AreDriversOf}
 use Rattle.fabric_wiring.specs.declared.ends.ClockEnd.{ClockEnd}
 use Rattle.fabric_wiring.specs.Ends.{AreEndsOf}

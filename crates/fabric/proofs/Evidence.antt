@@ -10,12 +10,13 @@ use Rattle.net_extract.specs.Tiles.{first_of, item_if}
 use Rattle.net_extract.specs.Fabric.{Fabric}
 use Rattle.net_extract.specs.Drivers.{Drive, drivers_of}
 use Rattle.std.specs.declared.vec.Vec.{Vec}
-use Rattle.fabric_wiring.proofs.Whole.{marked-within}
+use Rattle.graph_order.proofs.Whole.{marked-within}
 use Rattle.place_search.proofs.Places.{gathered_below-none}
 use Rattle.net_extract.proofs.Firsts.{first_of-alone}
-use Rattle.net_extract.specs.Wiring.{Wiring, wiring_of, is_on_cycle, IsCycle}
-use Rattle.net_extract.proofs.Cycles.{IsBounded, is_on_cycle-whole}
-use Rattle.fabric_wiring.specs.Rows.{ReadsByDriven, wiring_of as rows_wiring}
+use Rattle.graph_order.specs.Wiring.{Wiring, is_on_cycle, IsCycle}
+use Rattle.net_extract.specs.Wiring.{wiring_of}
+use Rattle.graph_order.proofs.Cycles.{IsBounded, is_on_cycle-whole}
+use Rattle.graph_order.specs.Rows.{ReadsByDriven, wiring_of as rows_wiring}
 use Rattle.net_extract.specs.Joins.{class_of}
 use Rattle.net_extract.specs.Clocks.{ClockEnd, LeadsTo, User, users_of, clock_end}
 use Rattle.net_extract.specs.Clocks.ClockEnd.{at_pin, undriven, logic}
@@ -25,8 +26,8 @@ use Rattle.fabric_wiring.specs.declared.fault.DriverFault.TheVariants as drivers
 use Rattle.fabric_wiring.specs.Faults.{IsCause as IsDriverCause}
 use Rattle.fabric.specs.declared.fault.FabricFault.{FabricFault}
 use Rattle.fabric.specs.declared.fault.FabricFault.TheVariants.{Device, Pll, PinMode, Cascade, TwoDrivers, Loop, Clock, Memory}
-use Rattle.fabric_wiring.specs.Wires.{AreAlike}
-use Rattle.fabric_wiring.proofs.Alike.{is_on_cycle-alike, cycle-alike}
+use Rattle.graph_order.specs.Alike.{AreAlike}
+use Rattle.graph_order.proofs.Alike.{is_on_cycle-alike, cycle-alike}
 use Rattle.net_extract.proofs.OneValue.{count-is}
 use Rattle.fabric.specs.Causes.{of_drivers}
 use Rattle.fabric.specs.Faults.{HasDriversApart, IsCause, AreTwoDrivers, IsCycleFrom, IsUnclocked}

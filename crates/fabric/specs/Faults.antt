@@ -6,7 +6,8 @@ use Rattle.net_extract.specs.declared.driver.ClockUser.{ClockUser}
 use Rattle.net_extract.specs.Tiles.{first_of}
 use Rattle.net_extract.specs.Fabric.{Fabric}
 use Rattle.net_extract.specs.Drivers.{Drive, drivers_of}
-use Rattle.net_extract.specs.Wiring.{wiring_of, IsCycle}
+use Rattle.graph_order.specs.Wiring.{IsCycle}
+use Rattle.net_extract.specs.Wiring.{wiring_of}
 use Rattle.net_extract.specs.Joins.{class_of}
 use Rattle.net_extract.specs.Clocks.{LeadsTo, users_of, clock_end}
 use Rattle.net_extract.specs.Clocks.ClockEnd.{logic}

@@ -3,9 +3,10 @@ ghost use Rattle.std.specs.Prelude.{◌≡◌, ◌≤◌, length, IfOk, IfErr, O
 ghost use Rattle.plane_map.specs.declared.device.DeviceName.{DeviceName};
 ghost use Rattle.net_extract.specs.Fabric.{Fabric};
 ghost use Rattle.net_extract.specs.Tiles.{first_of};
-ghost use Rattle.net_extract.specs.Wiring.{wiring_of as wiring_of_fabric, IsWriteOrder};
-ghost use Rattle.fabric_wiring.specs.Rows.{wiring_of, ReadsWithin, ReadsByDriven};
-ghost use Rattle.fabric_wiring.specs.Wires.{AreAlike};
+ghost use Rattle.graph_order.specs.Wiring.{IsWriteOrder};
+ghost use Rattle.net_extract.specs.Wiring.{wiring_of as wiring_of_fabric};
+ghost use Rattle.graph_order.specs.Rows.{wiring_of, ReadsWithin, ReadsByDriven};
+ghost use Rattle.graph_order.specs.Alike.{AreAlike};
 ghost use Rattle.net_extract.specs.Faults.{loop_faults};
 ghost use Rattle.fabric_wiring.specs.Parts.{ArePartsOf};
 ghost use Rattle.fabric_wiring.specs.DriverLists.{AreDriversOf};
@@ -13,7 +14,8 @@ ghost use Rattle.fabric.specs.Faults.{IsCause};
 
 use crate::cycle::Cycle;
 use crate::fault::FabricFault;
-use fabric_wiring::{Drivers, Parts, least_cycle, wires, write_order};
+use fabric_wiring::{Drivers, Parts, wires};
+use graph_order::{least_cycle, write_order};
 use std::alloc::Global;
 
 /// Finds the order in which the classes of joined nets of a fabric are written, from what they read. If there is none, it finds a cycle

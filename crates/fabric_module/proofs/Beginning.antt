@@ -18,7 +18,8 @@ use Rattle.net_extract.specs.Tiles.{each_below}
 use Rattle.net_extract.specs.Fabric.{Fabric, numbered_from, numbered, inputs_of}
 use Rattle.net_extract.proofs.Apart.{apart-numbered}
 use Rattle.net_extract.specs.Steps.{Entry, start_state, IsFirst}
-use Rattle.net_extract.specs.Wiring.{wiring_of, IsWriteOrder}
+use Rattle.graph_order.specs.Wiring.{IsWriteOrder}
+use Rattle.net_extract.specs.Wiring.{wiring_of}
 use Rattle.net_extract.proofs.OneValue.{IsWithin}
 use Rattle.fabric_module.specs.Names.{port_name, register_name, read_name, memory_name}
 use Rattle.fabric_module.specs.Written.{register_item, read_register, ram_memory, start_item, start_items, items_of, module_of}

@@ -16,7 +16,8 @@ use Rattle.net_extract.proofs.Apart.{All-every}
 use Rattle.net_extract.specs.Drivers.{is_driven}
 use Rattle.net_extract.specs.Clocks.{ClockEnd, LeadsTo, clock_end}
 use Rattle.net_extract.specs.Clocks.ClockEnd.{at_pin, undriven, logic}
-use Rattle.net_extract.specs.Wiring.{wiring_of, IsWriteOrder}
+use Rattle.graph_order.specs.Wiring.{IsWriteOrder}
+use Rattle.net_extract.specs.Wiring.{wiring_of}
 use Rattle.net_extract.proofs.Chains.{clock_end-leads}
 use Rattle.net_extract.proofs.OneValue.{IsWithin}
 use Rattle.fabric_module.specs.Names.{output_name, register_name, read_name, memory_name}

@@ -19,7 +19,8 @@ use Rattle.net_extract.specs.Outputs.{outputs_of}
 use Rattle.net_extract.specs.Fabric.{inputs_of, fabric_with, fabric_of}
 use Rattle.net_extract.specs.declared.lut_inputs.LutInputs.{LutInputs}
 use Rattle.net_extract.specs.Steps.{Event, Entry, IsRun}
-use Rattle.net_extract.specs.Wiring.{wiring_of, IsWriteOrder}
+use Rattle.graph_order.specs.Wiring.{IsWriteOrder}
+use Rattle.net_extract.specs.Wiring.{wiring_of}
 use Rattle.net_extract.specs.Faults.{design_fault}
 use Rattle.net_extract.proofs.Within.{fabric-within}
 use Rattle.net_extract.proofs.Taken.{design-taken}

@@ -20,7 +20,8 @@ use Rattle.net_extract.specs.Fabric.{Fabric, numbered, inputs_of}
 use Rattle.net_extract.specs.Drivers.{is_driven}
 use Rattle.net_extract.specs.Values.{State, bit_in, is_connected}
 use Rattle.net_extract.specs.Steps.{has_edge, bit_after, words_after, read_after, state_after, settled_state, Event, Entry, IsEntry, Follows, FollowEach, IsRun}
-use Rattle.net_extract.specs.Wiring.{wiring_of, IsWriteOrder}
+use Rattle.graph_order.specs.Wiring.{IsWriteOrder}
+use Rattle.net_extract.specs.Wiring.{wiring_of}
 use Rattle.net_extract.specs.Faults.{fabric_fault}
 use Rattle.net_extract.proofs.OneValue.{IsWithin}
 use Rattle.net_extract.proofs.Within.{All-numbered}

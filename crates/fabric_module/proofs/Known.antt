@@ -16,8 +16,8 @@ use Rattle.net_extract.specs.declared.ram.RamCell.{RamCell}
 use Rattle.vlog_module.specs.declared.modules.Port.{Port}
 use Rattle.net_extract.specs.Fabric.{Fabric, inputs_of}
 use Rattle.net_extract.specs.Outputs.{outputs_of}
-use Rattle.net_extract.specs.Wiring.{has}
-use Rattle.net_extract.proofs.Order.{has-none, has-cases}
+use Rattle.graph_order.specs.Wiring.{has}
+use Rattle.graph_order.proofs.OneOrder.{has-none, has-cases}
 use Rattle.fabric_module.specs.Names.{port_name, output_name, register_name, read_name, memory_name, wire_name}
 use Rattle.fabric_module.specs.Written.{port_of}
 use Rattle.fabric_module.proofs.Lists.{Apart, value_in-front, value_in-behind, names-absent, map-map, All-pick}

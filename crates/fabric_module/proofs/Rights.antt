@@ -20,7 +20,8 @@ use Rattle.net_extract.specs.Outputs.{Output, enable_outputs, pin_outputs, outpu
 use Rattle.net_extract.specs.Drivers.{Rule, Drive, is_output_register, register_rule, output_rule, drives_of, drivers_of, is_driven, nets_read}
 use Rattle.net_extract.specs.Drivers.Rule.{pin_bit, constant, input, table_entry, majority_of, register_bit, read_bit, copied}
 use Rattle.net_extract.specs.Values.{State, input_value, input_or_0, source_value, table_input, lut_value, settled_bit, value_of, bit_in, is_connected, IsConsistent}
-use Rattle.net_extract.specs.Wiring.{wiring_of, has, depends}
+use Rattle.graph_order.specs.Wiring.{has, depends}
+use Rattle.net_extract.specs.Wiring.{wiring_of}
 use Rattle.net_extract.proofs.Apart.{All-every}
 use Rattle.net_extract.proofs.Within.{HoldsOf, find-holds, All-flat_map, All-if, All-single}
 use Rattle.net_extract.proofs.Joins.{class_of-class}

@@ -25,9 +25,10 @@ use Rattle.net_extract.specs.Drivers.{Rule, Drive, drives_of, is_driven}
 use Rattle.net_extract.specs.Drivers.Rule.{pin_bit, constant, input, table_entry, majority_of, register_bit, read_bit, copied}
 use Rattle.net_extract.specs.Values.{State, settled_bit, value_of, bit_in, is_connected, IsConsistent}
 use Rattle.net_extract.specs.Steps.{Entry, settled_bits, settled_state, output_values, IsEntry}
-use Rattle.net_extract.specs.Wiring.{wiring_of, has, IsWriteOrder}
-use Rattle.net_extract.proofs.Order.{has-none, has-first, has-cases, Continues, order-continues}
-use Rattle.net_extract.proofs.Order.Continues.{whole, next}
+use Rattle.graph_order.specs.Wiring.{has, IsWriteOrder}
+use Rattle.net_extract.specs.Wiring.{wiring_of}
+use Rattle.graph_order.proofs.OneOrder.{has-none, has-first, has-cases, Continues, order-continues}
+use Rattle.graph_order.proofs.OneOrder.Continues.{whole, next}
 use Rattle.net_extract.proofs.Facts.{has-left, has-right}
 use Rattle.net_extract.proofs.Settling.{numbered-read, consistent-unsettled, settled-twice}
 use Rattle.net_extract.proofs.OneValue.{IsWithin, driven-is, count-is, driven-below}
@@ -263,7 +264,7 @@ module _ (fabric : Fabric) (within : IsWithin fabric) (writable : IsWritable fab
       → ((k : ℕ) → has before k ≡ true → (has front k ≡ true) × (k < 2 ^ 64))
       → fold (wire_step (inputs ++ registers) words) (map (wire_of v) front) (map (class_wire fabric) order) ≡ map (wire_of v) (front ++ order)
   wires-from (whole all) front small listed = ap (map (wire_of v)) (sym (append-nil front))
-  wires-from {before} (next {class} {rest} least more) front small listed =
+  wires-from {before} (next {node = class} {rest} least more) front small listed =
       let driven : is_driven fabric class ≡ true = sym (driven-is fabric class) ∙ least.ready.driven in
       let low : class < 2 ^ 64 = class-small class driven in
       let value = class-written fabric within state pins v is (has before) (record { bits = (inputs ++ registers) ++ map (wire_of v) front; words = words })
@@ -287,7 +288,7 @@ module _ (fabric : Fabric) (within : IsWithin fabric) (writable : IsWritable fab
     -- each class in the order has a driver
     order-driven : {before rest : List ℕ} → Continues (wiring_of fabric) before rest → All (λ c. is_driven fabric c ≡ true) rest
     order-driven (whole all) = All-nil (λ c. is_driven fabric c ≡ true)
-    order-driven (next {class} {rest} least more) =
+    order-driven (next {node = class} {rest} least more) =
         All-cons (λ c. is_driven fabric c ≡ true) class rest (sym (driven-is fabric class) ∙ least.ready.driven) (order-driven more)
 
     all-driven : All (λ c. is_driven fabric c ≡ true) order

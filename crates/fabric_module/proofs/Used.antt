@@ -22,7 +22,7 @@ use Rattle.net_extract.specs.Fabric.{Fabric, inputs_of}
 use Rattle.net_extract.specs.Drivers.{Rule, nets_read}
 use Rattle.net_extract.specs.Drivers.Rule.{pin_bit, constant, input, table_entry, majority_of, register_bit, read_bit, copied}
 use Rattle.net_extract.specs.Values.{is_connected}
-use Rattle.net_extract.specs.Wiring.{has}
+use Rattle.graph_order.specs.Wiring.{has}
 use Rattle.net_extract.proofs.Within.{All-single}
 use Rattle.net_extract.proofs.Facts.{has-left, has-right, has-some, has-source}
 use Rattle.fabric_module.specs.Names.{register_name, wire_name}

@@ -14,8 +14,9 @@ use Rattle.net_extract.specs.Fabric.{Fabric, numbered}
 use Rattle.net_extract.specs.Outputs.{outputs_of}
 use Rattle.net_extract.proofs.Apart.{apart-numbered, All-every}
 use Rattle.net_extract.specs.Drivers.{is_driven}
-use Rattle.net_extract.specs.Wiring.{wiring_of, has, IsWriteOrder}
-use Rattle.net_extract.proofs.Order.{order-continues}
+use Rattle.graph_order.specs.Wiring.{has, IsWriteOrder}
+use Rattle.net_extract.specs.Wiring.{wiring_of}
+use Rattle.graph_order.proofs.OneOrder.{order-continues}
 use Rattle.net_extract.proofs.OneValue.{IsWithin, driven-is, count-is, driven-below}
 use Rattle.net_extract.proofs.Within.{All-numbered}
 use Rattle.fabric_module.specs.Names.{output_name, memory_name, wire_name}

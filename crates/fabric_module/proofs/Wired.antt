@@ -20,9 +20,10 @@ use Rattle.vlog_plan.specs.Named.{names_of}
 use Rattle.net_extract.specs.Fabric.{Fabric}
 use Rattle.net_extract.specs.Joins.{class_of}
 use Rattle.net_extract.specs.Drivers.{is_driven}
-use Rattle.net_extract.specs.Wiring.{wiring_of, has, IsReady}
-use Rattle.net_extract.proofs.Order.{has-first, has-cases, has-other, Continues}
-use Rattle.net_extract.proofs.Order.Continues.{whole, next}
+use Rattle.graph_order.specs.Wiring.{has, IsReady}
+use Rattle.net_extract.specs.Wiring.{wiring_of}
+use Rattle.graph_order.proofs.OneOrder.{has-first, has-cases, has-other, Continues}
+use Rattle.graph_order.proofs.OneOrder.Continues.{whole, next}
 use Rattle.net_extract.proofs.OneValue.{IsWithin, first-driver, first-is, first-reads, driven-is, driven-below}
 use Rattle.net_extract.proofs.Within.{All-single}
 use Rattle.fabric_module.specs.Names.{wire_name}
@@ -145,7 +146,7 @@ module _ (fabric : Fabric) (within : IsWithin fabric) (writable : IsWritable fab
       → ((class : ℕ) → is_driven fabric class ≡ true → has before class ≡ false → Absent scope class)
       → Grows scope (map (class_wire fabric) order) × Declared scope (fold grown scope (map (class_wire fabric) order)) 5 (map (λ c. (wire_name c, sort.Wire)) order)
   wires-grow (whole all) scope low knows absent = (tt, record { section = low; declared_is = sym (append-nil scope.declared); assigned_is = refl; started_is = refl })
-  wires-grow {before} (next {class} {rest} least more) scope low knows absent =
+  wires-grow {before} (next {node = class} {rest} least more) scope low knows absent =
       let of_class : is_driven fabric class ≡ true = sym (driven-is fabric class) ∙ least.ready.driven in
       let away = absent class of_class least.ready.unlisted in
       let first = wire-declared before class least.ready scope low knows away in

@@ -4,10 +4,10 @@ use Rattle.std.specs.Prelude.{Contains, map, option_to_list, Option, Some, None,
 use Rattle.std.proofs.lemmas.Bool.{cases_Bool}
 use Rattle.net_extract.specs.Fabric.{Fabric}
 use Rattle.net_extract.specs.Drivers.{Rule, Drive, drivers_of, drives_of, is_driven, nets_read}
-use Rattle.net_extract.specs.Wiring.{has}
+use Rattle.graph_order.specs.Wiring.{has}
 use Rattle.net_extract.specs.Clocks.{turn_by, turn_of, turn_at}
 use Rattle.net_extract.specs.Clocks.Turn.{goes_to}
-use Rattle.net_extract.proofs.Order.{has-first}
+use Rattle.graph_order.proofs.OneOrder.{has-first}
 use Rattle.net_extract.proofs.OneValue.{IsWithin, first-driver, first-is, none-driven}
 use Rattle.net_extract.proofs.Chains.{goes-copied}
 use Rattle.fabric_wiring.specs.declared.drive.Drive.{Drive as KeptDrive}

@@ -5,16 +5,17 @@ use Rattle.std.proofs.lemmas.List.{take_more}
 use Rattle.net_extract.specs.Joins.{class_of}
 use Rattle.net_extract.specs.Fabric.{Fabric}
 use Rattle.net_extract.specs.Drivers.{is_driven}
-use Rattle.net_extract.specs.Wiring.{wiring_of, has, IsReady, IsWriteOrder}
+use Rattle.graph_order.specs.Wiring.{has, IsReady, IsWriteOrder}
+use Rattle.net_extract.specs.Wiring.{wiring_of}
 use Rattle.net_extract.specs.Clocks.{ClockEnd, Turn, LeadsTo, turn_at, end_by}
 use Rattle.net_extract.specs.Clocks.ClockEnd.{undriven}
 use Rattle.net_extract.specs.Clocks.Turn.{ends, goes_to}
 use Rattle.net_extract.specs.Clocks.LeadsTo.{ends_here, goes_on}
 use Rattle.net_extract.proofs.Joins.{class_of-le}
-use Rattle.net_extract.proofs.Order.{has-none}
+use Rattle.graph_order.proofs.OneOrder.{has-none}
 use Rattle.net_extract.proofs.OneValue.{IsWithin, driven-is, count-is}
 use Rattle.net_extract.proofs.Chains.{leads-one, clock_end-leads, goes-reads, turn-still}
-use Rattle.fabric_wiring.proofs.Lists.{has-split}
+use Rattle.graph_order.proofs.Lists.{has-split}
 use Rattle.fabric_wiring.specs.declared.ends.ClockEnd.{ClockEnd as KeptEnd}
 use Rattle.fabric_wiring.specs.declared.ends.ClockEnd.TheVariants.{Undriven}
 use Rattle.fabric_wiring.specs.Ends.{end_of, end_in, AreEndsOf}

@@ -11,13 +11,13 @@ use Rattle.net_extract.specs.Joins.{class_of}
 use Rattle.net_extract.specs.Fabric.{Fabric}
 use Rattle.net_extract.specs.Drivers.{Drive, drivers_of, is_driven, nets_read}
 use Rattle.net_extract.specs.Drivers.Rule.{input, majority_of}
-use Rattle.net_extract.specs.Wiring.{depends, has}
+use Rattle.graph_order.specs.Wiring.{depends, has}
 use Rattle.net_extract.specs.Wiring.{wiring_of as wiring_of_fabric}
 use Rattle.net_extract.proofs.Joins.{class_of-le}
-use Rattle.net_extract.proofs.Order.{has-none, has-first, has-behind, has-cases}
+use Rattle.graph_order.proofs.OneOrder.{has-none, has-first, has-behind, has-cases}
 use Rattle.net_extract.proofs.OneValue.{IsWithin, depends-driven, driven-below, none-driven, driven-is, count-is}
-use Rattle.fabric_wiring.specs.Rows.{lists_of, row_at, is_marked, wiring_of}
-use Rattle.fabric_wiring.proofs.Rows.{lists-length}
+use Rattle.graph_order.specs.Rows.{lists_of, row_at, is_marked, wiring_of}
+use Rattle.graph_order.proofs.Rows.{lists-length}
 use Rattle.net_extract.specs.Links.{LinkSet, class_in}
 use Rattle.fabric_wiring.specs.declared.drive.Drive.{Drive as KeptDrive}
 use Rattle.fabric_wiring.specs.declared.parts.Parts.{Parts}
@@ -26,7 +26,8 @@ use Rattle.fabric_wiring.specs.Parts.{ArePartsOf}
 use Rattle.fabric_wiring.specs.DriverLists.{DriverSet, driver_in, AreDriversOf}
 use Rattle.fabric_wiring.specs.declared.wires_type.Wires.{Wires}
 use Rattle.fabric_wiring.specs.Reading.{row_in}
-use Rattle.fabric_wiring.specs.Wires.{AreAlike, AreWiresOf}
+use Rattle.graph_order.specs.Alike.{AreAlike}
+use Rattle.fabric_wiring.specs.Wires.{AreWiresOf}
 use Rattle.fabric_wiring.proofs.Drives.{driven-some, driven-none, first-within, kept-within}
 
 -- what is known of a list's items, with one more

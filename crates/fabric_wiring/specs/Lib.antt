@@ -9,7 +9,3 @@ pub mod Users
 pub mod Wires
 pub mod Reading
 pub mod First
-pub mod Rows
-pub mod Ready
-pub mod Search
-pub mod Levels

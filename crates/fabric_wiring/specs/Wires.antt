@@ -1,16 +1,10 @@
 -- What the classes of joined nets of a fabric read, as it is kept.
-use Rattle.std.specs.Prelude.{◌≡◌, ℕ, length}
+use Rattle.std.specs.Prelude.{◌≡◌, length}
 use Rattle.net_extract.specs.Fabric.{Fabric}
-use Rattle.net_extract.specs.Wiring.{Wiring, depends}
+use Rattle.graph_order.specs.Alike.{AreAlike}
 use Rattle.net_extract.specs.Wiring.{wiring_of as wiring_of_fabric}
-use Rattle.fabric_wiring.specs.Rows.{wiring_of, ReadsWithin, ReadsByDriven}
+use Rattle.graph_order.specs.Rows.{wiring_of, ReadsWithin, ReadsByDriven}
 use Rattle.fabric_wiring.specs.declared.wires_type.Wires.{Wires}
-
--- two wirings that say the same
-pub record AreAlike (one two : Wiring) : Type 0 where
-  pub count : one.count ≡ two.count
-  pub driven : (class : ℕ) → one.driven class ≡ two.driven class
-  pub reads : (class other : ℕ) → depends one class other ≡ depends two class other
 
 -- wires belong to a fabric if they say which classes of joined nets have a driver, and what these drivers read
 pub record AreWiresOf (fabric : Fabric) (wires : Wires) : Type 0 where

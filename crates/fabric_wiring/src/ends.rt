@@ -1,7 +1,8 @@
 // Where the clocks of classes of joined nets come from.
 ghost use Rattle.std.specs.Prelude.{◌≡◌, ℕ, ◌<◌, length, map, option_to_list, IfOk};
 ghost use Rattle.net_extract.specs.Fabric.{Fabric};
-ghost use Rattle.net_extract.specs.Wiring.{wiring_of, IsWriteOrder};
+ghost use Rattle.graph_order.specs.Wiring.{IsWriteOrder};
+ghost use Rattle.net_extract.specs.Wiring.{wiring_of};
 ghost use Rattle.net_extract.specs.Clocks.{turn_by, turn_of, end_by};
 ghost use Rattle.net_extract.specs.Clocks.Turn.{goes_to};
 ghost use Rattle.net_extract.specs.Clocks.ClockEnd.{undriven};

@@ -2,8 +2,8 @@
 ghost use Rattle.std.specs.Prelude.{◌≡◌, ℕ, ◌<◌, ◌≤◌, true, is_some, length, map, flat_map, option_to_list, [], if◌then◌else◌, IfOk, IfSome};
 ghost use Rattle.net_extract.specs.Fabric.{Fabric};
 ghost use Rattle.net_extract.specs.Drivers.{source_nets, nets_read};
-ghost use Rattle.net_extract.specs.Wiring.{has};
-ghost use Rattle.fabric_wiring.specs.Rows.{is_marked, row_at};
+ghost use Rattle.graph_order.specs.Wiring.{has};
+ghost use Rattle.graph_order.specs.Rows.{is_marked, row_at};
 ghost use Rattle.net_extract.specs.Links.{class_in};
 ghost use Rattle.fabric_wiring.specs.Drives.{rule_of};
 ghost use Rattle.fabric_wiring.specs.Parts.{ArePartsOf};

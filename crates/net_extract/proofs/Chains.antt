@@ -1,20 +1,20 @@
 -- Clock chains: the search finds the end of a chain, and a net has the value of the end of its chain.
 use Rattle.std.proofs.Common.{◌≡◌, ℕ, zero, suc, ◌+◌, ◌<◌, ◌≤◌, Bool, true, false, List, [], ◌∷◌, length, get_or, refl, sym, ap, ◌∙◌, subst, arith, inl, inr}
 use Rattle.std.proofs.lemmas.Bool.{cases_Bool}
-use Rattle.bit_plane.proofs.Words.{bit_value-le}
 use Rattle.net_extract.specs.Joins.{class_of}
 use Rattle.net_extract.specs.Fabric.{Fabric}
 use Rattle.net_extract.specs.Drivers.{Rule, Drive, drivers_of, is_driven, nets_read}
 use Rattle.net_extract.specs.Drivers.Rule.{pin_bit, constant, input, table_entry, majority_of, register_bit, read_bit, copied}
 use Rattle.net_extract.specs.Values.{State, value_of, bit_in, is_connected, IsConsistent}
-use Rattle.net_extract.specs.Wiring.{Wiring, wiring_of, has, depends, IsReady, IsWriteOrder}
+use Rattle.graph_order.specs.Wiring.{has, depends, IsReady, IsWriteOrder}
+use Rattle.net_extract.specs.Wiring.{wiring_of}
 use Rattle.net_extract.specs.Clocks.{ClockEnd, Turn, LeadsTo, turn_by, turn_of, turn_at, end_by, end_within, clock_end}
 use Rattle.net_extract.specs.Clocks.ClockEnd.{at_pin, undriven, logic}
 use Rattle.net_extract.specs.Clocks.Turn.{ends, goes_to}
 use Rattle.net_extract.specs.Clocks.LeadsTo.{ends_here, goes_on}
-use Rattle.net_extract.proofs.Order.{has-none, has-first, has-cases, Continues, order-continues}
-use Rattle.net_extract.proofs.Order.Continues.{whole, next}
-use Rattle.net_extract.proofs.Ordered.{count_below, count_below-lt, is_left, left-from, still-left, gone-left}
+use Rattle.graph_order.proofs.OneOrder.{has-none, has-first, has-cases, Continues, order-continues}
+use Rattle.graph_order.proofs.OneOrder.Continues.{whole, next}
+use Rattle.graph_order.proofs.Ordered.{order-few}
 use Rattle.net_extract.proofs.OneValue.{IsWithin, wiring-bounded, first-driver, first-is, first-class, first-reads, driven-is, count-is, net-bit, none-driven, class_bit, class-still}
 
 -- ---- one end
@@ -26,28 +26,6 @@ leads-one (goes_on net p rest) (ends_here q) = absurd (cc)
 leads-one {fabric} {class} {a} {b} (goes_on net p rest) (goes_on source q more) =
     let same : source ≡ net = cc in
     leads-one rest (subst (λ n. LeadsTo fabric (class_of fabric.joins n) b) same more)
-
--- ---- an order has at most as many classes as there are
-
-count_below-le_all : (n : ℕ) (test : ℕ → Bool) → count_below n test ≤ n
-unfolding count_below
-count_below-le_all zero test = omega arith
-count_below-le_all (suc n) test = omega (arith, count_below-le_all n test, bit_value-le (test n))
-
-module _ (wiring : Wiring) where
-  continues-few : {before order : List ℕ} → Continues wiring before order → length order ≤ count_below wiring.count (is_left wiring (has before))
-  continues-few (whole all) = omega arith
-  continues-few {before} (next {class} {rest} least more) =
-      let ready = least.ready in
-      omega (
-        arith,
-        continues-few more,
-        count_below-lt wiring.count class (is_left wiring (has before)) (is_left wiring (has (class ∷ before)))
-            (still-left wiring class before) ready.within (left-from wiring (has before) class ready.driven ready.unlisted) (gone-left wiring class before),
-      )
-
-  pub order-few : (order : List ℕ) → IsWriteOrder wiring order → length order ≤ wiring.count
-  order-few order is = omega (arith, continues-few (order-continues wiring order is), count_below-le_all wiring.count (is_left wiring (has [])))
 
 -- ---- the search finds the end
 
@@ -142,7 +120,7 @@ module _ (fabric : Fabric) where
   unfolding AreFound
   found-all within (whole all) found class driven steps few =
       found class (all class ((wiring-bounded fabric within).driven class (driven-is fabric class ∙ driven)) (driven-is fabric class ∙ driven)) steps (omega arith)
-  found-all within {before} (next {class = first} least rest) found class driven steps few =
+  found-all within {before} (next {node = first} least rest) found class driven steps few =
       found-all within rest (found-more before first least.ready found) class driven steps (omega arith)
 
   found-none : AreFound []

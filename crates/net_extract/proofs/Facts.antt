@@ -9,8 +9,8 @@ use Rattle.net_extract.specs.declared.register.Register.{Register}
 use Rattle.net_extract.specs.Drivers.{Rule, source_nets, nets_read}
 use Rattle.net_extract.specs.Drivers.Rule.{pin_bit, constant, input, table_entry, majority_of, register_bit, read_bit, copied}
 use Rattle.net_extract.specs.Values.{State, input_value, source_value, table_input, lut_value, settled_bit, value_of}
-use Rattle.net_extract.specs.Wiring.{has}
-use Rattle.net_extract.proofs.Order.{has-first, has-behind, has-cases, has-none}
+use Rattle.graph_order.specs.Wiring.{has}
+use Rattle.graph_order.proofs.OneOrder.{has-first, has-behind, has-cases, has-none}
 
 -- ---- lists of nets
 

@@ -4,14 +4,6 @@ pub mod Firsts
 pub mod Numbered
 -- joined nets and their classes
 pub mod Joins
--- a class passes the test for cycles exactly where it lies on one
-pub mod Cycles
--- a wiring without a cycle has exactly one write order
-pub mod Order
--- a wiring without a cycle has a write order
-pub mod Ordered
--- where a wiring has a write order, its classes have exactly one value each, whatever their rules are
-pub mod Settled
 -- the value of each driver looks at no other nets than those that it reads
 pub mod Facts
 -- a fabric without two drivers of a class and without a cycle has, for each state and all values of its input pins, exactly one

@@ -13,12 +13,13 @@ use Rattle.net_extract.specs.Joins.AreJoined.{itself, further}
 use Rattle.net_extract.specs.Fabric.{Fabric}
 use Rattle.net_extract.specs.Drivers.{Drive, is_driver_of, drives_of, drivers_of, is_driven, nets_read}
 use Rattle.net_extract.specs.Values.{State, value_of, bit_in, is_connected, IsConsistent}
-use Rattle.net_extract.specs.Wiring.{wiring_of, has, depends, IsWriteOrder}
+use Rattle.graph_order.specs.Wiring.{has, depends, IsWriteOrder}
+use Rattle.net_extract.specs.Wiring.{wiring_of}
 use Rattle.net_extract.proofs.Joins.{class_of-is, class_of-joined, class_of-le}
-use Rattle.net_extract.proofs.Cycles.{IsBounded}
-use Rattle.net_extract.proofs.Order.{has-none}
+use Rattle.graph_order.proofs.Cycles.{IsBounded}
+use Rattle.graph_order.proofs.OneOrder.{has-none}
 use Rattle.net_extract.proofs.Facts.{has-left, has-map, value-same}
-use Rattle.net_extract.proofs.Settled.{Rules, ReadsNoOther, IsSettled, settled-one, settled-there}
+use Rattle.graph_order.proofs.Settled.{Rules, ReadsNoOther, IsSettled, settled-one, settled-there}
 
 -- ---- lists
 

@@ -15,10 +15,11 @@ use Rattle.net_extract.specs.Tiles.{item_if, first_of}
 use Rattle.net_extract.specs.Fabric.{Fabric, fabric_with}
 use Rattle.net_extract.specs.Drivers.{Drive, drivers_of}
 use Rattle.net_extract.specs.Values.{State, IsConsistent}
-use Rattle.net_extract.specs.Wiring.{wiring_of, is_on_cycle, IsWriteOrder}
+use Rattle.graph_order.specs.Wiring.{is_on_cycle, IsWriteOrder}
+use Rattle.net_extract.specs.Wiring.{wiring_of}
 use Rattle.net_extract.specs.Faults.{Fault, drivers_fault, device_faults, pll_faults, pin_faults, pins_fault, rams_fault, driver_faults, loop_faults, clock_faults, fabric_fault, design_fault}
-use Rattle.net_extract.proofs.Order.{order-one}
-use Rattle.net_extract.proofs.Ordered.{write_order-there}
+use Rattle.graph_order.proofs.OneOrder.{order-one}
+use Rattle.graph_order.proofs.Ordered.{write_order-there}
 use Rattle.net_extract.proofs.OneValue.{IsWithin, HasSingleDrivers, wiring-bounded, consistent-one, consistent-there}
 
 -- ---- empty lists

@@ -41,11 +41,11 @@ use Rattle.net_extract.specs.Pins.{is_registered, pin_with, port_at, pins_of, gl
 use Rattle.net_extract.specs.Fabric.{Fabric, Buffer, numbered_from, numbered, joins_of, buffer_of, buffers_of, fabric_with, inputs_of}
 use Rattle.net_extract.specs.Drivers.{Rule, Drive, drives_if, drives_by, pin_drives, is_output_register, register_rule, output_rule, back_drives, lut_drives, flip_driver, flip_drives, lout_drives, carry_drives, set_drives, read_data_rule, ram_drive, ram_drives, global_rule, global_drives, buffer_drives, pin_register_driver, pin_register_drives, drives_of, source_nets, nets_read}
 use Rattle.net_extract.specs.Drivers.Rule.{pin_bit, constant, input, table_entry, majority_of, register_bit, read_bit, copied}
-use Rattle.net_extract.specs.Wiring.{has}
+use Rattle.graph_order.specs.Wiring.{has}
 use Rattle.net_extract.specs.Registers.{table_of, register_of, registers_of, pin_source, pin_register, pin_registers_of}
 use Rattle.net_extract.specs.Outputs.{Output, enable_outputs, pin_outputs, outputs_of}
 use Rattle.net_extract.specs.Within.{IsNetIn, IsPinIn, IsCellIn, IsSourceIn, IsRegisterIn, IsSetIn, IsRamIn, IsFromIn, IsGlobalIn, IsBufferIn, IsJoinIn, HasNetsIn}
-use Rattle.net_extract.proofs.Order.{has-none, has-cases}
+use Rattle.graph_order.proofs.OneOrder.{has-none, has-cases}
 use Rattle.net_extract.proofs.OneValue.{IsWithin}
 
 -- ---- lists

@@ -45,7 +45,8 @@ use Rattle.net_extract.specs.Drivers.{Rule}
 use Rattle.net_extract.specs.Drivers.Rule.{table_entry, majority_of, register_bit, read_bit, constant, input}
 use Rattle.net_extract.specs.Values.{State, lut_value, settled_bit, value_of}
 use Rattle.net_extract.specs.Steps.{next_bit, written, shown, next_words, next_register, state_after, settled_state, output_values}
-use Rattle.net_extract.specs.Wiring.{wiring_of, has, leads_below, is_on_cycle}
+use Rattle.graph_order.specs.Wiring.{has, leads_below, is_on_cycle}
+use Rattle.net_extract.specs.Wiring.{wiring_of}
 use Rattle.net_extract.specs.Clocks.{turn_at, end_within, clock_end, users_of}
 use Rattle.net_extract.specs.Faults.{device_faults, pll_faults, pin_faults, cascade_faults, driver_faults, loop_faults, clock_faults, pins_fault, rams_fault, fabric_fault, design_fault}
 

@@ -15,7 +15,8 @@ use Rattle.net_extract.specs.Rams.{over_rams, is_cascaded}
 use Rattle.net_extract.specs.Pins.{over_pins, pintype_of, is_refused_with, has_pll}
 use Rattle.net_extract.specs.Fabric.{Fabric, fabric_with}
 use Rattle.net_extract.specs.Drivers.{Drive, drivers_of}
-use Rattle.net_extract.specs.Wiring.{Wiring, wiring_of, is_on_cycle}
+use Rattle.graph_order.specs.Wiring.{Wiring, is_on_cycle}
+use Rattle.net_extract.specs.Wiring.{wiring_of}
 use Rattle.net_extract.specs.Clocks.{ClockEnd, User, users_of, clock_end}
 use Rattle.net_extract.specs.Clocks.ClockEnd.{at_pin, undriven, logic}
 

@@ -12,7 +12,8 @@ use Rattle.net_extract.specs.declared.lut_inputs.LutInputs.{LutInputs}
 use Rattle.net_extract.specs.declared.pin.Pin.{Pin}
 use Rattle.net_extract.specs.Fabric.{fabric_with, fabric_of}
 use Rattle.net_extract.specs.Steps.{Event}
-use Rattle.net_extract.specs.Wiring.{wiring_of, IsWriteOrder}
+use Rattle.graph_order.specs.Wiring.{IsWriteOrder}
+use Rattle.net_extract.specs.Wiring.{wiring_of}
 use Rattle.net_extract.specs.Faults.{design_fault}
 use Rattle.net_extract.proofs.Apart.{AreApart}
 use Rattle.fabric_module.specs.Written.{pin_ports, module_of}

@@ -12,7 +12,8 @@ use Rattle.net_extract.specs.declared.lut_inputs.LutInputs.{LutInputs}
 use Rattle.net_extract.specs.Fabric.{fabric_with, fabric_of}
 use Rattle.net_extract.specs.Steps.{Event, Entry, IsRun}
 use Rattle.net_extract.specs.Unique.{ExactlyOne}
-use Rattle.net_extract.specs.Wiring.{wiring_of, IsWriteOrder}
+use Rattle.graph_order.specs.Wiring.{IsWriteOrder}
+use Rattle.net_extract.specs.Wiring.{wiring_of}
 use Rattle.net_extract.specs.Faults.{design_fault}
 use Rattle.fabric_module.specs.Matching.{module_event}
 use Rattle.pin_file.specs.declared.pin_name.PinName.{PinName}

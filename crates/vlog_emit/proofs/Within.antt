@@ -15,9 +15,9 @@ use Rattle.net_extract.specs.Drivers.{Rule}
 use Rattle.net_extract.specs.Drivers.Rule.{pin_bit, constant, input, table_entry, majority_of, register_bit, read_bit, copied}
 use Rattle.net_extract.specs.Clocks.{clock_end}
 use Rattle.net_extract.specs.Clocks.ClockEnd.{at_pin}
-use Rattle.net_extract.specs.Wiring.{has}
+use Rattle.graph_order.specs.Wiring.{has}
 use Rattle.net_extract.proofs.Facts.{has-some, has-source, has-left, has-right}
-use Rattle.net_extract.proofs.Order.{has-first}
+use Rattle.graph_order.proofs.OneOrder.{has-first}
 use Rattle.net_extract.proofs.OneValue.{first-driver, first-is, none-driven, count-is}
 use Rattle.net_extract.proofs.Within.{fabric-within, outputs-within as read-by-outputs}
 use Rattle.net_extract.proofs.Chains.{clock_end-leads}

@@ -1,9 +1,9 @@
 // Orders and cycles of small wirings, worked out by hand.
 ghost use Rattle.std.specs.Prelude.{◌≡◌, ℕ, ◌<◌, true, length, IsTrue};
-ghost use Rattle.net_extract.specs.Wiring.{has};
-ghost use Rattle.fabric_wiring.specs.Rows.{wiring_of, ReadsWithin};
+ghost use Rattle.graph_order.specs.Wiring.{has};
+ghost use Rattle.graph_order.specs.Rows.{wiring_of, ReadsWithin};
 
-use fabric_wiring::{least_cycle, write_order};
+use graph_order::{least_cycle, write_order};
 use std::alloc::{AllocError, Global};
 
 /// Whether all classes of a row are below the count.

@@ -1,4 +1,4 @@
-use Rattle.fabric_wiring.specs.Rows.{wiring_of}
+use Rattle.graph_order.specs.Rows.{wiring_of}
 use Rattle.fabric.proofs.Refused.{on-ok}
 use Rattle.fabric.proofs.Evidence.{nets-few}
 use Rattle.fabric.proofs.order.order.Goals as goal

@@ -1,6 +1,6 @@
 use Rattle.std.proofs.Common.{◌≡◌, ℕ, ◌<◌, length}
 use Rattle.std.specs.Prelude.{is_some}
-use Rattle.fabric_wiring.specs.Rows.{is_marked}
+use Rattle.graph_order.specs.Rows.{is_marked}
 use Rattle.fabric_wiring.specs.DriverLists.{driver_in}
 use Rattle.fabric_wiring.proofs.reading.marks_of.Given as goal
 

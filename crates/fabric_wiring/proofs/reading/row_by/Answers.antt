@@ -1,7 +1,7 @@
 use Rattle.std.proofs.Common.{◌≡◌, map, sym, ap, ◌∙◌, subst}
 use Rattle.std.specs.Prelude.{IfOk}
 use Rattle.net_extract.specs.Drivers.{nets_read}
-use Rattle.net_extract.specs.Wiring.{has}
+use Rattle.graph_order.specs.Wiring.{has}
 use Rattle.net_extract.specs.Links.{class_in}
 use Rattle.fabric_wiring.specs.Drives.{rule_of}
 use Rattle.fabric_wiring.proofs.ReadRows.{read-input, read-majority}

@@ -1,5 +1,5 @@
 use Rattle.std.proofs.Common.{◌≡◌, ℕ, ◌<◌, length}
-use Rattle.fabric_wiring.specs.Rows.{row_at}
+use Rattle.graph_order.specs.Rows.{row_at}
 use Rattle.fabric_wiring.specs.DriverLists.{driver_in}
 use Rattle.fabric_wiring.specs.Reading.{row_in}
 use Rattle.fabric_wiring.proofs.reading.rows_of.Given as goal

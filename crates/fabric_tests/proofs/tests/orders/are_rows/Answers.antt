@@ -1,9 +1,9 @@
 use Rattle.std.proofs.Common.{◌≡◌, ◌∙◌, true, inl, inr, ap, sym, subst, arith}
 use Rattle.std.proofs.lemmas.Bool.{cases_lt}
-use Rattle.net_extract.specs.Wiring.{has}
-use Rattle.fabric_wiring.specs.Rows.{row_at}
-use Rattle.fabric_wiring.proofs.Lists.{row-items}
-use Rattle.fabric_wiring.proofs.Whole.{row-within}
+use Rattle.graph_order.specs.Wiring.{has}
+use Rattle.graph_order.specs.Rows.{row_at}
+use Rattle.graph_order.proofs.Lists.{row-items}
+use Rattle.graph_order.proofs.Whole.{row-within}
 use Rattle.fabric_tests.proofs.tests.orders.are_rows.Goals as goal
 
 pub loop-class-preserved : goal.loop-class-preserved

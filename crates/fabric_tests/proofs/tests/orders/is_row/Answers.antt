@@ -1,5 +1,5 @@
 use Rattle.std.proofs.Common.{◌<◌, subst, arith}
-use Rattle.fabric_wiring.proofs.Lists.{has-place}
+use Rattle.graph_order.proofs.Lists.{has-place}
 use Rattle.fabric_tests.proofs.tests.orders.is_row.Goals as goal
 
 pub returns : goal.returns

@@ -3,8 +3,8 @@ use Rattle.std.proofs.Common.{◌≡◌, ℕ, zero, suc, ◌-◌, ◌<◌, Bool,
 use Rattle.std.proofs.lemmas.Bool.{lt-ltb, eqb-true, eq-eqb, and_from, and_parts, or_cases, or_left, both_ways}
 use Rattle.std.specs.Prelude.{nat_lt}
 use Rattle.text_lines.specs.Lines.{line_at, trimmed}
-use Rattle.place_search.specs.Places.{any_below}
-use Rattle.place_search.proofs.Places.{any_below-none, any_below-at, any_below-place}
+use Rattle.index_search.specs.Places.{any_below}
+use Rattle.index_search.proofs.Places.{any_below-none, any_below-at, any_below-place}
 use Rattle.bit_plane.specs.Rows.{row_from}
 use Rattle.bit_plane.proofs.Made.{get_or-row_from}
 use Rattle.plane_map.specs.Layout.{kind_of, columns_in, columns_at, grid_width, grid_height, IsTileBit}

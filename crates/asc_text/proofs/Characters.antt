@@ -5,9 +5,9 @@ use Rattle.std.proofs.lemmas.Bool.{cases_eq, eq-eqb, cases_lt, cases_Bool, and_p
 use Rattle.std.proofs.lemmas.Bool.Decides.{nat_tests}
 use Rattle.std.proofs.lemmas.List.{get_or_past}
 use Rattle.text_lines.specs.Lines.{lines_of, line_at, trimmed}
-use Rattle.place_search.specs.Places.{any_below, first_below, or_else}
-use Rattle.place_search.proofs.Places.{any_below-at, any_below-place, least_below-first, first_below-sum}
-use Rattle.place_search.proofs.Found.{or_else-first, or_else-other, any_below-clear, least_below-place, first_below-clear}
+use Rattle.index_search.specs.Places.{any_below, first_below, or_else}
+use Rattle.index_search.proofs.Places.{any_below-at, any_below-place, least_below-first, first_below-sum}
+use Rattle.index_search.proofs.Found.{or_else-first, or_else-other, any_below-clear, least_below-place, first_below-clear}
 use Rattle.layout_file.specs.declared.layouts.Layouts.{Layouts}
 use Rattle.layout_file.specs.Layouts.{layout_for, AreLayouts}
 use Rattle.asc_text.proofs.Depths.{depth_after, depth-first, depth-step, depth_after-next}

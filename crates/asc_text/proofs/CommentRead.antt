@@ -6,10 +6,10 @@ use Rattle.std.proofs.lemmas.List.Sums.{list_all-from_AllPass}
 use Rattle.std.specs.List.{list_all}
 use Rattle.std.specs.Prelude.{All, IfSome, nat_lt, nat_le}
 use Rattle.text_lines.specs.Lines.{line_at, trimmed}
-use Rattle.place_search.specs.Places.{any_below, first_below, last_below, gathered_below}
+use Rattle.index_search.specs.Places.{any_below, first_below, last_below, gathered_below}
 use Rattle.text_lines.specs.Words.{from_word}
 use Rattle.text_lines.specs.Written.{IsPlain}
-use Rattle.place_search.proofs.Places.{any_below-none, first_below-none, last_below-none, last_below-is, gathered_below-none, gathered_below-same, gathered_below-sum}
+use Rattle.index_search.proofs.Places.{any_below-none, first_below-none, last_below-none, last_below-is, gathered_below-none, gathered_below-same, gathered_below-sum}
 use Rattle.layout_file.specs.declared.layouts.Layouts.{Layouts}
 use Rattle.ice_image.specs.CommentLines.{IsPrintable, IsCommentLine}
 use Rattle.ice_image.specs.Bits.{Bit}

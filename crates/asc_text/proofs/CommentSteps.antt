@@ -4,8 +4,8 @@ use Rattle.std.specs.Prelude.{Option, Some, None, nat_lt}
 use Rattle.std.proofs.lemmas.Bool.{cases_Bool, eq-eqb, ne_eqb}
 use Rattle.std.proofs.Math.Bool.{and-false}
 use Rattle.text_lines.specs.Lines.{line_at}
-use Rattle.place_search.specs.Places.{last_below, gathered_below}
-use Rattle.place_search.proofs.Places.{last_below-more, last_below-place, gathered_below-more, gathered_below-none}
+use Rattle.index_search.specs.Places.{last_below, gathered_below}
+use Rattle.index_search.proofs.Places.{last_below-more, last_below-place, gathered_below-more, gathered_below-none}
 use Rattle.asc_text.specs.declared.statement.Statement.TheVariants.{Comment}
 use Rattle.asc_text.specs.Statements.{statement_in, begins_with_dot}
 use Rattle.asc_text.specs.Blocks.{statement_at, dot_before, is_comment}

@@ -4,7 +4,7 @@ use Rattle.std.specs.Prelude.{Option, Some, None, unwrap_or, Result, Ok, Err, If
 use Rattle.std.proofs.lemmas.Bool.{cases_eq, cases_Bool}
 use Rattle.std.proofs.lemmas.List.{length-drop}
 use Rattle.text_lines.specs.Lines.{lines_of, line_at}
-use Rattle.place_search.proofs.Places.{first_below-none, first_below-first}
+use Rattle.index_search.proofs.Places.{first_below-none, first_below-first}
 use Rattle.layout_file.specs.declared.layouts.Layouts.{Layouts}
 use Rattle.plane_map.specs.Layout.{Layout}
 use Rattle.layout_file.specs.Layouts.{layout_for, AreLayouts}

@@ -3,7 +3,7 @@ use Rattle.std.proofs.Common.{◌≡◌, ℕ, zero, suc, ◌<◌, ◌≤◌, inl
 use Rattle.std.specs.Prelude.{Option, Some, None, Result, Ok, Err, IfOk, IfErr, OnOk}
 use Rattle.std.proofs.lemmas.List.{length-append}
 use Rattle.std.proofs.lemmas.Bool.{cases_lt}
-use Rattle.place_search.specs.Places.{first_below, or_else}
+use Rattle.index_search.specs.Places.{first_below, or_else}
 use Rattle.text_lines.specs.Lines.{lines_of}
 use Rattle.text_lines.specs.Pieces.{ended_lines}
 use Rattle.text_lines.specs.Feeding.{HasFed, HasFront, TakesLines, RefusesLines}

@@ -4,8 +4,8 @@ use Rattle.std.specs.Prelude.{Option, Some, None, is_some}
 use Rattle.std.proofs.lemmas.Bool.{cases_eq, eq-eqb, ne_eqb}
 use Rattle.std.proofs.lemmas.List.{get_or-replicate}
 use Rattle.std.proofs.Math.Bool.{or-false}
-use Rattle.place_search.specs.Places.{any_below, first_below, or_else}
-use Rattle.place_search.proofs.Places.{or_else-none, any_below-more, first_below-more}
+use Rattle.index_search.specs.Places.{any_below, first_below, or_else}
+use Rattle.index_search.proofs.Places.{or_else-none, any_below-more, first_below-more}
 use Rattle.layout_file.specs.declared.layouts.Layouts.{Layouts}
 use Rattle.asc_text.specs.declared.statement.Statement.{Statement}
 use Rattle.asc_text.specs.declared.statement.Statement.TheVariants.{Comment, Device, WarmBoot, FrequencyRange, NoSleep, Tile, RamData, ExtraBit, Symbol}

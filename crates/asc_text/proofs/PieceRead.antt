@@ -4,7 +4,7 @@ use Rattle.std.proofs.lemmas.Bool.{ne_eqb}
 use Rattle.std.specs.Prelude.{All}
 use Rattle.text_lines.specs.Lines.{line_at, trimmed}
 use Rattle.text_lines.specs.Written.{IsPlain}
-use Rattle.place_search.specs.Places.{any_below}
+use Rattle.index_search.specs.Places.{any_below}
 use Rattle.ice_image.specs.Bits.{Bit}
 use Rattle.asc_text.specs.declared.statement.Statement.{Statement}
 use Rattle.asc_text.specs.Statements.{statement_in, begins_with_dot}

@@ -3,8 +3,8 @@ use Rattle.std.proofs.Common.{◌≡◌, ℕ, zero, suc, ◌+◌, ◌-◌, ◌<�
 use Rattle.std.proofs.lemmas.Bool.{cases_lt, lt-ltb, lt-leb}
 use Rattle.std.proofs.lemmas.List.{length-append, get_or_append_left, get_or-append-add}
 use Rattle.text_lines.specs.Lines.{line_at, trimmed}
-use Rattle.place_search.specs.Places.{any_below, first_below, or_else}
-use Rattle.place_search.proofs.Places.{any_below-sum, any_below-same, first_below-sum}
+use Rattle.index_search.specs.Places.{any_below, first_below, or_else}
+use Rattle.index_search.proofs.Places.{any_below-sum, any_below-same, first_below-sum}
 use Rattle.layout_file.specs.declared.layouts.Layouts.{Layouts}
 use Rattle.plane_map.specs.declared.device.DeviceName.{DeviceName}
 use Rattle.ice_image.specs.Bits.{Bit}

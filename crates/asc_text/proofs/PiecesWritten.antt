@@ -7,15 +7,15 @@ use Rattle.std.specs.Prelude.{All}
 use Rattle.layout_file.specs.declared.layouts.Layouts.{Layouts}
 use Rattle.hex.specs.Hex.{IsBytes, encode_lower}
 use Rattle.text_lines.specs.Lines.{line_at, trimmed}
-use Rattle.place_search.specs.Places.{any_below, gathered_below, or_else}
+use Rattle.index_search.specs.Places.{any_below, gathered_below, or_else}
 use Rattle.text_lines.specs.Written.{IsPlain}
-use Rattle.place_search.proofs.Places.{any_below-none, any_below-at, any_below-place, gathered_below-same}
+use Rattle.index_search.proofs.Places.{any_below-none, any_below-at, any_below-place, gathered_below-same}
 use Rattle.bit_plane.specs.Rows.{Rows, row_from}
 use Rattle.bit_plane.proofs.Made.{length-row_from, length-rows_from, row_at-rows_from}
 use Rattle.layout_file.specs.Layouts.{HasLayout}
 use Rattle.plane_map.specs.Layout.{Layout, kind_of, columns_of, columns_in, columns_at, grid_width, grid_height, cram_width, cram_height}
 use Rattle.plane_map.specs.declared.device.DeviceName.{DeviceName}
-use Rattle.plane_map.specs.declared.device.DeviceName.TheVariants.{L384, K1, K8}
+use Rattle.plane_map.specs.declared.device.DeviceName.TheVariants.{Lp384, Hx1k, Hx8k}
 use Rattle.plane_map.specs.declared.tile.TileKind.{TileKind}
 use Rattle.plane_map.specs.declared.tile.TileKind.TheVariants.{Io, Logic, RamB, RamT}
 use Rattle.plane_map.specs.declared.tile.Place.{Place}
@@ -279,9 +279,9 @@ ram-fine layouts image x y past small_x small_y is knows new = record {
 
 -- the grid is small
 grid-small : (device : DeviceName) (x y : ℕ) → x < grid_width device → y < grid_height device → (x < 1000000000) × (y < 1000000000)
-grid-small L384 x y inside within = (omega arith, omega arith)
-grid-small K1 x y inside within = (omega arith, omega arith)
-grid-small K8 x y inside within = (omega arith, omega arith)
+grid-small Lp384 x y inside within = (omega arith, omega arith)
+grid-small Hx1k x y inside within = (omega arith, omega arith)
+grid-small Hx8k x y inside within = (omega arith, omega arith)
 
 -- the pieces of a position of the grid are right if no piece of that position comes before them
 pub kind-fine : (layouts : Layouts) (image : Configuration) (x y : ℕ) (past : List Piece) → x < 1000000000 → y < 1000000000 → Knows image.layout.device past
@@ -412,9 +412,9 @@ extras-at test (first ∷ places) at is passes =
 
 -- the planes are small
 planes-small : (device : DeviceName) (px py : ℕ) → px < cram_width device → py < cram_height device → (px < 1000000000) × (py < 1000000000)
-planes-small L384 px py inside within = (omega arith, omega arith)
-planes-small K1 px py inside within = (omega arith, omega arith)
-planes-small K8 px py inside within = (omega arith, omega arith)
+planes-small Lp384 px py inside within = (omega arith, omega arith)
+planes-small Hx1k px py inside within = (omega arith, omega arith)
+planes-small Hx8k px py inside within = (omega arith, omega arith)
 
 -- a written extra bit is right
 extra-fine : (layouts : Layouts) (layout : Layout) (at : Place) (past : List Piece) → HasLayout layouts layout → is_extra layout at ≡ true → Knows layout.device past → IsFine layouts past (extra_piece at)

@@ -20,7 +20,7 @@ use Rattle.asc_text.specs.Rows.{is_memory_line}
 use Rattle.asc_text.specs.Blocks.{has_rows, depth_at, statement_over, statement_at}
 use Rattle.asc_text.specs.Faults.{asc_fault_of, fault_at, fault_with, cause_at, row_cause, statement_cause, tile_named}
 use Rattle.asc_text.specs.Rams.{is_ram_data, is_in_ram, below_statement, is_ram_line, BeginsWithRam}
-use Rattle.place_search.proofs.Found.{first_below-clear}
+use Rattle.index_search.proofs.Found.{first_below-clear}
 use Rattle.asc_text.proofs.Depths.{depth-first, depth-step, depth_after-next}
 use Rattle.asc_text.proofs.Dotted.{dotless-below, passes}
 

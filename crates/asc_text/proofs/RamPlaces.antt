@@ -8,7 +8,7 @@ use Rattle.std.proofs.Math.Bool.{or-false}
 use Rattle.std.proofs.lemmas.List.Folds.{list_any-append}
 use Rattle.std.proofs.lemmas.Map.Keys.{IsDistinct-push}
 use Rattle.std.proofs.lemmas.Map.Steps.{length-le_from_distinct_below}
-use Rattle.place_search.specs.Places.{gathered_below, or_else}
+use Rattle.index_search.specs.Places.{gathered_below, or_else}
 use Rattle.text_lines.specs.Lines.{lines_of, line_at}
 use Rattle.layout_file.specs.declared.layouts.Layouts.{Layouts}
 use Rattle.plane_map.specs.Layout.{kind_of}
@@ -24,7 +24,7 @@ use Rattle.asc_text.specs.Blocks.{depth_at, statement_at, device_before}
 use Rattle.asc_text.specs.Faults.{asc_fault_of, cause_at, cause_if, kind_cause, is_repeated, names_ram, missing_device, unknown_device, tile_cause, extra_cause, setting_cause, statement_cause}
 use Rattle.asc_text.proofs.Refusals.{in_grid}
 use Rattle.asc_text.specs.Rams.{is_ram_data}
-use Rattle.place_search.proofs.Found.{or_else-first, or_else-other, any_below-clear}
+use Rattle.index_search.proofs.Found.{or_else-first, or_else-other, any_below-clear}
 use Rattle.asc_text.proofs.RamLines.{fine}
 
 -- ---- what stands at the statement of a RAM

@@ -5,12 +5,12 @@ use Rattle.std.proofs.lemmas.Bool.{lt-ltb}
 use Rattle.std.proofs.lemmas.Bool.Decides.{nat_tests}
 use Rattle.std.proofs.lemmas.List.{get_or_past}
 use Rattle.text_lines.specs.Lines.{line_at, trimmed}
-use Rattle.place_search.specs.Places.{or_else}
+use Rattle.index_search.specs.Places.{or_else}
 use Rattle.layout_file.specs.declared.layouts.Layouts.{Layouts}
 use Rattle.layout_file.specs.Layouts.{layout_for}
 use Rattle.plane_map.specs.Layout.{Layout, kind_of, columns_of, columns_at, grid_width, grid_height}
 use Rattle.plane_map.specs.declared.device.DeviceName.{DeviceName}
-use Rattle.plane_map.specs.declared.device.DeviceName.TheVariants.{L384, K1, K8}
+use Rattle.plane_map.specs.declared.device.DeviceName.TheVariants.{Lp384, Hx1k, Hx8k}
 use Rattle.plane_map.specs.declared.tile.TileKind.{TileKind}
 use Rattle.plane_map.specs.declared.tile.TileKind.TheVariants.{Io, Logic, RamB, RamT}
 use Rattle.plane_map.proofs.Layouts.{columns_at-in}
@@ -31,7 +31,7 @@ use Rattle.asc_text.specs.Blocks.{statement_over, device_before}
 use Rattle.asc_text.specs.Faults.{extra_place, cause_at, end_cause, statement_cause, is_repeated, missing_device, unknown_device, tile_cause, kind_cause, extra_cause, setting_cause, cause_if, tile_named, fault_at, fault_with}
 use Rattle.asc_text.specs.inside.Reading.{ReaderState, statement_refusal, dotted_refusal, setting_refusal, tile_refusal, extra_refusal, line_refusal, end_refusal, statement_of}
 use Rattle.asc_text.proofs.HasRead.{HasRead, HasGiven, HasImage, HasComment, IsAt, device_known}
-use Rattle.place_search.proofs.Places.{or_else-none}
+use Rattle.index_search.proofs.Places.{or_else-none}
 
 -- ---- the grid
 
@@ -42,9 +42,9 @@ columns-some RamB = omega arith
 columns-some RamT = omega arith
 
 widest : (device : DeviceName) → (grid_width device ≤ 34) × (grid_height device ≤ 34)
-widest L384 = (omega arith, omega arith)
-widest K1 = (omega arith, omega arith)
-widest K8 = (omega arith, omega arith)
+widest Lp384 = (omega arith, omega arith)
+widest Hx1k = (omega arith, omega arith)
+widest Hx8k = (omega arith, omega arith)
 
 -- a tile is in the largest grid
 pub in_grid : (device : DeviceName) (x y : ℕ) (kind : TileKind) → kind_of device x y ≡ Some kind → (x < 34) × (y < 34)

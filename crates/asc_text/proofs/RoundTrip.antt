@@ -5,9 +5,9 @@ use Rattle.std.proofs.lemmas.List.{length-append, get_or_at}
 use Rattle.std.proofs.lemmas.List.Elements.{All-nil, All-append}
 use Rattle.std.specs.Prelude.{All, unwrap_or}
 use Rattle.text_lines.specs.Lines.{lines_of, line_at}
-use Rattle.place_search.specs.Places.{any_below, first_below}
+use Rattle.index_search.specs.Places.{any_below, first_below}
 use Rattle.text_lines.specs.Written.{text_of, IsPlain}
-use Rattle.place_search.proofs.Places.{any_below-at, first_below-none, gathered_below-none}
+use Rattle.index_search.proofs.Places.{any_below-at, first_below-none, gathered_below-none}
 use Rattle.text_lines.proofs.Written.{lines_of-text_of}
 use Rattle.layout_file.specs.declared.layouts.Layouts.{Layouts}
 use Rattle.plane_map.specs.declared.device.DeviceName.{DeviceName}

@@ -9,7 +9,7 @@ use Rattle.std.specs.Prelude.{All, slice_index}
 use Rattle.hex.specs.Hex.{IsBytes, encode_with, encode_lower, lower_digits, is_hex_digit, hex_digit_value}
 use Rattle.hex.proofs.HexLemmas.{length-encode_with, IsDigits-lower_digits, decode_of-encode_lower}
 use Rattle.text_lines.specs.Lines.{trimmed}
-use Rattle.place_search.specs.Places.{gathered_below}
+use Rattle.index_search.specs.Places.{gathered_below}
 use Rattle.text_lines.specs.Written.{IsPlain}
 use Rattle.bit_plane.specs.BitList.{word_of}
 use Rattle.bit_plane.specs.Rows.{row_from}

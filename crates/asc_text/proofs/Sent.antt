@@ -7,8 +7,8 @@ use Rattle.std.proofs.KnownBytes.{Appends-nil, Appends-trans}
 use Rattle.std.specs.Io.KnownBytes.{Appends}
 use Rattle.ice_io.specs.declared.sink.PutFault.{PutFault}
 use Rattle.ice_io.specs.Put.{written_before}
-use Rattle.place_search.specs.Places.{gathered_below}
-use Rattle.place_search.proofs.Places.{gathered_below-more, gathered_below-none, gathered_below-sum}
+use Rattle.index_search.specs.Places.{gathered_below}
+use Rattle.index_search.proofs.Places.{gathered_below-more, gathered_below-none, gathered_below-sum}
 use Rattle.text_lines.specs.Written.{text_of}
 use Rattle.asc_text.specs.inside.Sent.{Sends}
 use Rattle.asc_text.proofs.Pieces.{text_of-append, text_of-none}

@@ -15,7 +15,7 @@ use Rattle.text_lines.proofs.Spaced.{words_of-separator, words_of-two, words_of-
 use Rattle.text_lines.proofs.Numbers.{numbers_of-two, numbers_of-three}
 use Rattle.text_lines.proofs.Decimals.{decimal-digits, decimal-word, decimal-plain, number_of-decimal}
 use Rattle.plane_map.specs.declared.device.DeviceName.{DeviceName}
-use Rattle.plane_map.specs.declared.device.DeviceName.TheVariants.{L384, K1, K8}
+use Rattle.plane_map.specs.declared.device.DeviceName.TheVariants.{Lp384, Hx1k, Hx8k}
 use Rattle.plane_map.specs.declared.tile.TileKind.{TileKind}
 use Rattle.plane_map.specs.declared.tile.TileKind.TheVariants.{Io, Logic, RamB, RamT}
 use Rattle.plane_map.specs.declared.tile.Place.{Place}
@@ -79,9 +79,9 @@ trimmed-decimal line number small =
 -- the device
 pub device-spelled : (device : DeviceName) → IsSpelled (with_word device_keyword (device_word device)) (Device (Some device))
 unfolding statement_in trimmed from_word words_of pieces_of
-device-spelled L384 = record { spells = refl; dot = refl; plain = plain-literal (with_word device_keyword (device_word L384)) refl }
-device-spelled K1 = record { spells = refl; dot = refl; plain = plain-literal (with_word device_keyword (device_word K1)) refl }
-device-spelled K8 = record { spells = refl; dot = refl; plain = plain-literal (with_word device_keyword (device_word K8)) refl }
+device-spelled Lp384 = record { spells = refl; dot = refl; plain = plain-literal (with_word device_keyword (device_word Lp384)) refl }
+device-spelled Hx1k = record { spells = refl; dot = refl; plain = plain-literal (with_word device_keyword (device_word Hx1k)) refl }
+device-spelled Hx8k = record { spells = refl; dot = refl; plain = plain-literal (with_word device_keyword (device_word Hx8k)) refl }
 
 -- warm boot, if it is disabled
 pub warm_boot-spelled : IsSpelled (with_word warm_boot_keyword (switch_word false)) (WarmBoot (Some false))

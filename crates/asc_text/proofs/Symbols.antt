@@ -3,8 +3,8 @@ use Rattle.std.proofs.Common.{◌≡◌, ℕ, suc, ◌+◌, ◌<◌, List, [], �
 use Rattle.std.specs.Prelude.{None}
 use Rattle.std.proofs.lemmas.Bool.{cases_lt}
 use Rattle.text_lines.specs.Lines.{lines_of, line_at}
-use Rattle.place_search.specs.Places.{gathered_below}
-use Rattle.place_search.proofs.Places.{gathered_below-same, gathered_below-sum}
+use Rattle.index_search.specs.Places.{gathered_below}
+use Rattle.index_search.proofs.Places.{gathered_below-same, gathered_below-sum}
 use Rattle.layout_file.specs.declared.layouts.Layouts.{Layouts}
 use Rattle.asc_text.specs.declared.file.Symbol.{Symbol as NetName}
 use Rattle.asc_text.specs.Blocks.{depth_at, statement_at}

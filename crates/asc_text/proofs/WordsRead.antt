@@ -4,8 +4,8 @@ use Rattle.std.proofs.lemmas.Bool.{lt-ltb, eqb-true, eq-eqb, and_from, and_parts
 use Rattle.std.proofs.lemmas.Bool.Decides.{nat_tests}
 use Rattle.std.specs.Prelude.{nat_lt}
 use Rattle.text_lines.specs.Lines.{line_at, trimmed}
-use Rattle.place_search.specs.Places.{any_below, gathered_below}
-use Rattle.place_search.proofs.Places.{any_below-none, any_below-at, any_below-place}
+use Rattle.index_search.specs.Places.{any_below, gathered_below}
+use Rattle.index_search.proofs.Places.{any_below-none, any_below-at, any_below-place}
 use Rattle.plane_map.specs.Layout.{kind_of, grid_width, grid_height, IsWordBit}
 use Rattle.plane_map.specs.declared.device.DeviceName.{DeviceName}
 use Rattle.plane_map.specs.declared.tile.TileKind.{TileKind}

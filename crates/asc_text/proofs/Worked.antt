@@ -3,7 +3,7 @@ use Rattle.std.proofs.Common.{◌≡◌, [], ℕ, refl}
 use Rattle.std.specs.Prelude.{codes, Some, None, Option, true, false}
 use Rattle.text_lines.specs.Lines.{lines_of, trimmed}
 use Rattle.text_lines.specs.Words.{words_of, pieces_of, from_word, number_of, numbers_of}
-use Rattle.place_search.specs.Places.{any_below, least_below, last_below, first_below}
+use Rattle.index_search.specs.Places.{any_below, least_below, last_below, first_below}
 use Rattle.hex.specs.Hex.{decode_pairs}
 use Rattle.layout_file.specs.Layouts.{standard_layouts}
 use Rattle.plane_map.specs.Layout.{kind_of}

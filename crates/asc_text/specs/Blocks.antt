@@ -2,7 +2,7 @@
 -- contents). Indexes count from 0.
 use Rattle.std.specs.Prelude.{ℕ, zero, suc, ◌+◌, ◌-◌, Bool, true, false, not, ◌&&◌, List, nat_le, ◌==◌, if◌then◌else◌, Option, Some, None}
 use Rattle.text_lines.specs.Lines.{line_at}
-use Rattle.place_search.specs.Places.{last_below, first_below}
+use Rattle.index_search.specs.Places.{last_below, first_below}
 use Rattle.plane_map.specs.declared.device.DeviceName.{DeviceName}
 use Rattle.asc_text.specs.declared.statement.Statement.{Statement}
 use Rattle.asc_text.specs.declared.statement.Statement.TheVariants.{Comment, Device, Tile, RamData}

@@ -1,7 +1,7 @@
 -- The one text that is written for a configuration: a concatenation of lines in the form of Project IceStorm, 'iCE40 ASCII format'. The
 -- choice of one text among all that say the same is this project's.
 use Rattle.std.specs.Prelude.{ℕ, ◌+◌, ◌-◌, ◌*◌, ◌/◌, ◌%◌, Bool, true, false, List, [], ◌∷◌, ◌++◌, map, decimal, Option, Some, None}
-use Rattle.place_search.specs.Places.{gathered_below}
+use Rattle.index_search.specs.Places.{gathered_below}
 use Rattle.text_lines.specs.Written.{text_of}
 use Rattle.hex.specs.Hex.{encode_lower}
 use Rattle.plane_map.specs.Layout.{kind_of, grid_width, grid_height}

@@ -2,7 +2,7 @@
 -- below the statement that names its tile or its RAM, or the statement of the extra bit.
 use Rattle.std.specs.Prelude.{◌≡◌, ℕ, ◌+◌, ◌/◌, ◌%◌, Bool, false, List, length, Option, Some, None}
 use Rattle.text_lines.specs.Lines.{lines_of, line_at, trimmed}
-use Rattle.place_search.specs.Places.{any_below, least_below}
+use Rattle.index_search.specs.Places.{any_below, least_below}
 use Rattle.plane_map.specs.declared.tile.Place.{Place}
 use Rattle.plane_map.specs.declared.tile.TileBit.{TileBit}
 use Rattle.plane_map.specs.declared.tile.WordBit.{WordBit}

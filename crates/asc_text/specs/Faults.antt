@@ -2,7 +2,7 @@
 use Rattle.std.specs.Prelude.{◌≡◌, ℕ, ◌+◌, Bool, true, false, not, ◌&&◌, List, length, nat_lt, nat_le, ◌==◌, if◌then◌else◌, Option, Some, None}
 use Rattle.std.specs.List.{list_all}
 use Rattle.text_lines.specs.Lines.{lines_of, line_at, trimmed}
-use Rattle.place_search.specs.Places.{any_below, first_below, or_else}
+use Rattle.index_search.specs.Places.{any_below, first_below, or_else}
 use Rattle.plane_map.specs.Layout.{kind_of, columns_of}
 use Rattle.plane_map.specs.declared.device.DeviceName.{DeviceName}
 use Rattle.plane_map.specs.declared.tile.TileKind.{TileKind}

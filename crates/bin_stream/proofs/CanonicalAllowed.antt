@@ -2,10 +2,10 @@
 use Rattle.std.proofs.Common.{◌≡◌, ℕ, zero, suc, ◌*◌, ◌/◌, ◌<◌, ◌≤◌, Bool, true, false, not, List, [], ◌∷◌, ◌++◌, ◌==◌, length, take, drop, refl, sym, ap, ◌∙◌, subst, arith, append_assoc, append-nil}
 use Rattle.std.specs.Prelude.{Some, None, slice_get}
 use Rattle.std.proofs.lemmas.Bool.{le-ltb}
-use Rattle.place_search.specs.Places.{any_below, last_below, first_below}
+use Rattle.index_search.specs.Places.{any_below, last_below, first_below}
 use Rattle.plane_map.specs.Layout.{cram_width, cram_height, bram_width}
 use Rattle.plane_map.specs.declared.device.DeviceName.{DeviceName}
-use Rattle.plane_map.specs.declared.device.DeviceName.TheVariants.{L384, K1, K8}
+use Rattle.plane_map.specs.declared.device.DeviceName.TheVariants.{Lp384, Hx1k, Hx8k}
 use Rattle.ice_image.specs.declared.planes.PlaneKind.TheVariants.{Cram, Bram}
 use Rattle.bin_stream.specs.Commands.{Command, Short, number_of, range_opcode, mode_opcode, check_opcode}
 use Rattle.bin_stream.specs.State.{has_rows, last_of, width_after, device_after, size_after}
@@ -43,9 +43,9 @@ cram_causes : (device : DeviceName) (range_value mode_value : ℕ) (cram : ℕ �
     × (data_cause (take 11 (before_ram device range_value mode_value cram)) Cram ≡ None)
     × (data_cause (take 13 (before_ram device range_value mode_value cram)) Cram ≡ None)
 unfolding last_below first_below last_of width_after device_after
-cram_causes L384 range_value mode_value cram = (refl, refl, refl, refl)
-cram_causes K1 range_value mode_value cram = (refl, refl, refl, refl)
-cram_causes K8 range_value mode_value cram = (refl, refl, refl, refl)
+cram_causes Lp384 range_value mode_value cram = (refl, refl, refl, refl)
+cram_causes Hx1k range_value mode_value cram = (refl, refl, refl, refl)
+cram_causes Hx8k range_value mode_value cram = (refl, refl, refl, refl)
 
 -- their sizes
 cram_sizes : (device : DeviceName) (range_value mode_value : ℕ) (cram : ℕ → List ℕ) →
@@ -54,9 +54,9 @@ cram_sizes : (device : DeviceName) (range_value mode_value : ℕ) (cram : ℕ �
     × (size_after (take 11 (before_ram device range_value mode_value cram)) ≡ cram_width device * cram_height device / 8)
     × (size_after (take 13 (before_ram device range_value mode_value cram)) ≡ cram_width device * cram_height device / 8)
 unfolding last_below last_of width_after
-cram_sizes L384 range_value mode_value cram = (refl, refl, refl, refl)
-cram_sizes K1 range_value mode_value cram = (refl, refl, refl, refl)
-cram_sizes K8 range_value mode_value cram = (refl, refl, refl, refl)
+cram_sizes Lp384 range_value mode_value cram = (refl, refl, refl, refl)
+cram_sizes Hx1k range_value mode_value cram = (refl, refl, refl, refl)
+cram_sizes Hx8k range_value mode_value cram = (refl, refl, refl, refl)
 
 -- the RAM planes
 bram_causes : (device : DeviceName) (range_value mode_value : ℕ) (cram : ℕ → List ℕ) (bram : ℕ → ℕ → List ℕ) → has_rows Bram device ≡ true →
@@ -69,9 +69,9 @@ bram_causes : (device : DeviceName) (range_value mode_value : ℕ) (cram : ℕ �
     × (data_cause (before_ram device range_value mode_value cram ++ take 19 (ram_commands true device bram)) Bram ≡ None)
     × (data_cause (before_ram device range_value mode_value cram ++ take 21 (ram_commands true device bram)) Bram ≡ None)
 unfolding last_below first_below last_of width_after device_after
-bram_causes L384 range_value mode_value cram bram has = absurd cc
-bram_causes K1 range_value mode_value cram bram has = (refl, refl, refl, refl, refl, refl, refl, refl)
-bram_causes K8 range_value mode_value cram bram has = (refl, refl, refl, refl, refl, refl, refl, refl)
+bram_causes Lp384 range_value mode_value cram bram has = absurd cc
+bram_causes Hx1k range_value mode_value cram bram has = (refl, refl, refl, refl, refl, refl, refl, refl)
+bram_causes Hx8k range_value mode_value cram bram has = (refl, refl, refl, refl, refl, refl, refl, refl)
 
 -- their sizes
 bram_sizes : (device : DeviceName) (range_value mode_value : ℕ) (cram : ℕ → List ℕ) (bram : ℕ → ℕ → List ℕ) → has_rows Bram device ≡ true →
@@ -84,16 +84,16 @@ bram_sizes : (device : DeviceName) (range_value mode_value : ℕ) (cram : ℕ �
     × (size_after (before_ram device range_value mode_value cram ++ take 19 (ram_commands true device bram)) ≡ bram_width device * 128 / 8)
     × (size_after (before_ram device range_value mode_value cram ++ take 21 (ram_commands true device bram)) ≡ bram_width device * 128 / 8)
 unfolding last_below last_of width_after
-bram_sizes L384 range_value mode_value cram bram has = absurd cc
-bram_sizes K1 range_value mode_value cram bram has = (refl, refl, refl, refl, refl, refl, refl, refl)
-bram_sizes K8 range_value mode_value cram bram has = (refl, refl, refl, refl, refl, refl, refl, refl)
+bram_sizes Lp384 range_value mode_value cram bram has = absurd cc
+bram_sizes Hx1k range_value mode_value cram bram has = (refl, refl, refl, refl, refl, refl, refl, refl)
+bram_sizes Hx8k range_value mode_value cram bram has = (refl, refl, refl, refl, refl, refl, refl, refl)
 
 -- the wake-up
 wakes : (device : DeviceName) (range_value mode_value : ℕ) (cram : ℕ → List ℕ) (bram : ℕ → ℕ → List ℕ) (check_payload : List ℕ) → wake_up_cause (before_wake_up device range_value mode_value cram bram check_payload) ≡ None
 unfolding any_below last_below first_below last_of width_after device_after
-wakes L384 range_value mode_value cram bram check_payload = refl
-wakes K1 range_value mode_value cram bram check_payload = refl
-wakes K8 range_value mode_value cram bram check_payload = refl
+wakes Lp384 range_value mode_value cram bram check_payload = refl
+wakes Hx1k range_value mode_value cram bram check_payload = refl
+wakes Hx8k range_value mode_value cram bram check_payload = refl
 
 -- what the payloads and the bodies of the canonical commands are
 pub record AreFit (device : DeviceName) (range_value mode_value : ℕ) (cram : ℕ → List ℕ) (bram : ℕ → ℕ → List ℕ) (check_payload : List ℕ) : Type 0 where

@@ -3,8 +3,8 @@ use Rattle.std.proofs.Common.{◌≡◌, ℕ, zero, suc, ◌<◌, Bool, true, fa
 use Rattle.std.proofs.lemmas.Bool.{cases_eq, and_parts, eqb-true, ne_eqb}
 use Rattle.std.proofs.lemmas.List.{take-append-le, length_push}
 use Rattle.shared_lemmas.proofs.Pushes.{slice_get-append, slice_get-behind}
-use Rattle.place_search.specs.Places.{first_below, any_below, or_else}
-use Rattle.place_search.proofs.Places.{first_below-more, first_below-same, any_below-place, or_else-none}
+use Rattle.index_search.specs.Places.{first_below, any_below, or_else}
+use Rattle.index_search.proofs.Places.{first_below-more, first_below-same, any_below-place, or_else-none}
 use Rattle.plane_map.specs.declared.device.DeviceName.{DeviceName}
 use Rattle.ice_image.specs.declared.planes.PlaneKind.TheVariants.{Cram, Bram}
 use Rattle.bin_stream.specs.Commands.{Command, Short, Data, number_of, is_wake_up}

@@ -3,7 +3,7 @@ use Rattle.std.proofs.Common.{◌≡◌, ℕ, zero, suc, ◌+◌, ◌-◌, ◌*�
 use Rattle.std.specs.Prelude.{Option, Some, None, nat_lt, nat_le, ◌==◌}
 use Rattle.std.proofs.lemmas.Bool.{cases_eq, cases_lt, lt-ltb, le-ltb, le-leb, lt-leb, eq-eqb, ne_eqb, and_from, and_left, and_right}
 use Rattle.std.proofs.Math.Bool.{or-false}
-use Rattle.place_search.specs.Places.{or_else}
+use Rattle.index_search.specs.Places.{or_else}
 use Rattle.bit_plane.specs.BitList.{bits_of, placed}
 use Rattle.bit_plane.specs.Rows.{Rows, IsGrid, bit_at, blank, flat, rows_of}
 use Rattle.bit_plane.proofs.Grids.{length-rows_of, bit_at-rows_of, same_grids, length-flat, rows_of-flat, rows_of-placed, IsGrid-rows_of}
@@ -30,7 +30,7 @@ use Rattle.bin_stream.specs.inside.Registers.{Fits, held_after}
 use Rattle.ice_image.specs.Planes.{with_rows}
 use Rattle.bin_stream.specs.inside.Step.{device_if, image_or_blank, IsDrawnOn, IsDrawn, Holds}
 use Rattle.bin_stream.proofs.OneMore.{device_after-more, reached_in-more, plane_bit-more}
-use Rattle.place_search.proofs.Places.{or_else-none}
+use Rattle.index_search.proofs.Places.{or_else-none}
 
 -- ---- planes by their bits
 

@@ -4,9 +4,9 @@ use Rattle.std.specs.Prelude.{bytes_eq, ◌==◌, IfSome}
 use Rattle.std.proofs.lemmas.Bool.{cases_lt, cases_eq, and_right}
 use Rattle.std.proofs.lemmas.List.{take-append-le, drop-append-le, length-take, length-take-le, drop_at}
 use Rattle.std.proofs.lemmas.Slice.Eq.{bytes_eq-Decides}
-use Rattle.place_search.proofs.Found.{least_below-place}
-use Rattle.place_search.specs.Places.{least_below, or_here}
-use Rattle.place_search.proofs.Places.{least_below-first, least_below-none}
+use Rattle.index_search.proofs.Found.{least_below-place}
+use Rattle.index_search.specs.Places.{least_below, or_here}
+use Rattle.index_search.proofs.Places.{least_below-first, least_below-none}
 use Rattle.bin_stream.specs.Front.{preamble, preamble_offset, is_preamble_at, comment_of}
 use Rattle.bin_stream.specs.inside.Stages.{begins_comment, IsPlain, KeepsFront, KeepsPlain}
 

@@ -3,7 +3,7 @@ use Rattle.std.proofs.Common.{◌≡◌, ◌≢◌, ℕ, suc, ◌+◌, ◌<◌, 
 use Rattle.std.specs.Prelude.{bytes_eq}
 use Rattle.std.proofs.lemmas.Bool.{cases_eq, eqb-true, and_parts, false_from_ne_true}
 use Rattle.std.proofs.lemmas.List.{get_or-drop, get_or_append_left}
-use Rattle.place_search.proofs.Places.{least_below-first}
+use Rattle.index_search.proofs.Places.{least_below-first}
 use Rattle.bin_stream.specs.Front.{preamble, preamble_offset, is_preamble_at}
 use Rattle.bin_stream.specs.Spelling.{IsFront}
 

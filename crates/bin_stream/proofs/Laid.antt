@@ -1,6 +1,6 @@
 -- The layout of a device is one for it.
 use Rattle.std.proofs.Common.{◌≡◌, Option, Some, None}
-use Rattle.place_search.specs.Places.{or_else}
+use Rattle.index_search.specs.Places.{or_else}
 use Rattle.plane_map.specs.declared.device.DeviceName.{DeviceName}
 use Rattle.layout_file.specs.declared.layouts.Layouts.{Layouts}
 use Rattle.layout_file.specs.Layouts.{AreLayouts, layout_for}

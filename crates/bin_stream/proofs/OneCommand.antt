@@ -2,8 +2,8 @@
 use Rattle.std.proofs.Common.{◌≡◌, ℕ, ◌+◌, ◌*◌, ◌/◌, ◌%◌, ◌<◌, ◌≤◌, List, [], ◌∷◌, ◌++◌, length, take, drop, Option, Some, None, length-append, append_assoc, take-append-drop, refl, sym, ap, ap₂, ◌∙◌, subst, inl, inr, arith}
 use Rattle.std.proofs.lemmas.Bool.{cases_lt, cases_eq, lt-ltb, le-ltb, ne_eqb}
 use Rattle.std.proofs.lemmas.List.{take_at, drop_at, length-take-le}
-use Rattle.place_search.proofs.Found.{or_else-neither}
-use Rattle.place_search.specs.Places.{or_else}
+use Rattle.index_search.proofs.Found.{or_else-neither}
+use Rattle.index_search.specs.Places.{or_else}
 use Rattle.ice_image.specs.declared.planes.PlaneKind.{PlaneKind}
 use Rattle.ice_image.specs.declared.planes.PlaneKind.TheVariants.{Cram, Bram}
 use Rattle.bin_stream.specs.Commands.{Command, Short, Data, number_of, kind_number, spelling}

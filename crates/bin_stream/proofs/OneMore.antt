@@ -5,8 +5,8 @@ use Rattle.std.proofs.lemmas.List.{take-append-le, drop-append-le, drop_all, len
 use Rattle.std.proofs.Math.Seq.{take-append_seam}
 use Rattle.bin_stream.proofs.ManyCommands.{spelled-push}
 use Rattle.shared_lemmas.proofs.Pushes.{slice_get-append, slice_get-behind}
-use Rattle.place_search.specs.Places.{any_below, last_below, first_below, or_else}
-use Rattle.place_search.proofs.Places.{any_below-more, any_below-same, last_below-more, last_below-same, last_below-place, first_below-more, first_below-same}
+use Rattle.index_search.specs.Places.{any_below, last_below, first_below, or_else}
+use Rattle.index_search.proofs.Places.{any_below-more, any_below-same, last_below-more, last_below-same, last_below-place, first_below-more, first_below-same}
 use Rattle.plane_map.specs.declared.device.DeviceName.{DeviceName}
 use Rattle.plane_map.specs.declared.tile.Place.{Place}
 use Rattle.ice_image.specs.declared.planes.PlaneKind.{PlaneKind}

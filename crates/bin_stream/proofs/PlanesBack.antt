@@ -2,7 +2,7 @@
 use Rattle.std.proofs.Common.{◌≡◌, ℕ, zero, suc, ◌+◌, ◌-◌, ◌*◌, ◌/◌, ◌%◌, ◌<◌, ◌≤◌, Bool, true, false, List, [], ◌∷◌, length, take, drop, get_or, refl, sym, ap, ◌∙◌, subst, arith, inl, inr}
 use Rattle.std.proofs.lemmas.List.{get_or-take, get_or-drop}
 use Rattle.std.proofs.lemmas.Bool.{cases_lt, lt-ltb, le-leb, lt-leb}
-use Rattle.place_search.specs.Places.{last_below}
+use Rattle.index_search.specs.Places.{last_below}
 use Rattle.bit_plane.specs.BitList.{bits_of}
 use Rattle.bit_plane.specs.Rows.{Rows, IsGrid, flat, bit_at, rows_from}
 use Rattle.bit_plane.proofs.Bytes.{bits_of-bytes_of, length-bytes_of}
@@ -10,7 +10,7 @@ use Rattle.bit_plane.proofs.Grids.{length-flat, get_or-flat}
 use Rattle.bit_plane.proofs.Made.{IsGrid-rows_from, bit_at-rows_from}
 use Rattle.plane_map.specs.Layout.{cram_width, cram_height, bram_width, bram_height}
 use Rattle.plane_map.specs.declared.device.DeviceName.{DeviceName}
-use Rattle.plane_map.specs.declared.device.DeviceName.TheVariants.{L384, K1, K8}
+use Rattle.plane_map.specs.declared.device.DeviceName.TheVariants.{Lp384, Hx1k, Hx8k}
 use Rattle.ice_image.specs.Configuration.{Configuration, bank_rows, AreBanks, IsWhole}
 use Rattle.ice_image.proofs.BankBits.{same_banks}
 use Rattle.ice_image.specs.declared.planes.PlaneKind.{PlaneKind}
@@ -41,72 +41,72 @@ row_bytes-at width height rows x y grid even column row =
 -- a bit of a configuration plane is that of its bytes
 pub cram_bit : (device : DeviceName) (range_value mode_value : ℕ) (cram : ℕ → List ℕ) (bram : ℕ → ℕ → List ℕ) (check_payload : List ℕ) (bank x y : ℕ) → bank < 4 → y < cram_height device → plane_bit Cram (all_commands device range_value mode_value cram bram check_payload) (record { bank = bank; px = x; py = y }) ≡ get_or (bits_of (cram bank)) (y * cram_width device + x) false
 unfolding last_below last_of width_after plane_bit
-cram_bit L384 range_value mode_value cram bram check_payload zero x y in_bank in_row = let e : y - 0 ≡ y = omega arith in rw (le-leb 0 y (omega arith), lt-ltb y 80 in_row, e) refl
-cram_bit L384 range_value mode_value cram bram check_payload (suc zero) x y in_bank in_row = let e : y - 0 ≡ y = omega arith in rw (le-leb 0 y (omega arith), lt-ltb y 80 in_row, e) refl
-cram_bit L384 range_value mode_value cram bram check_payload (suc (suc zero)) x y in_bank in_row = let e : y - 0 ≡ y = omega arith in rw (le-leb 0 y (omega arith), lt-ltb y 80 in_row, e) refl
-cram_bit L384 range_value mode_value cram bram check_payload (suc (suc (suc zero))) x y in_bank in_row = let e : y - 0 ≡ y = omega arith in rw (le-leb 0 y (omega arith), lt-ltb y 80 in_row, e) refl
-cram_bit K1 range_value mode_value cram bram check_payload zero x y in_bank in_row = let e : y - 0 ≡ y = omega arith in rw (le-leb 0 y (omega arith), lt-ltb y 144 in_row, e) refl
-cram_bit K1 range_value mode_value cram bram check_payload (suc zero) x y in_bank in_row = let e : y - 0 ≡ y = omega arith in rw (le-leb 0 y (omega arith), lt-ltb y 144 in_row, e) refl
-cram_bit K1 range_value mode_value cram bram check_payload (suc (suc zero)) x y in_bank in_row = let e : y - 0 ≡ y = omega arith in rw (le-leb 0 y (omega arith), lt-ltb y 144 in_row, e) refl
-cram_bit K1 range_value mode_value cram bram check_payload (suc (suc (suc zero))) x y in_bank in_row = let e : y - 0 ≡ y = omega arith in rw (le-leb 0 y (omega arith), lt-ltb y 144 in_row, e) refl
-cram_bit K8 range_value mode_value cram bram check_payload zero x y in_bank in_row = let e : y - 0 ≡ y = omega arith in rw (le-leb 0 y (omega arith), lt-ltb y 272 in_row, e) refl
-cram_bit K8 range_value mode_value cram bram check_payload (suc zero) x y in_bank in_row = let e : y - 0 ≡ y = omega arith in rw (le-leb 0 y (omega arith), lt-ltb y 272 in_row, e) refl
-cram_bit K8 range_value mode_value cram bram check_payload (suc (suc zero)) x y in_bank in_row = let e : y - 0 ≡ y = omega arith in rw (le-leb 0 y (omega arith), lt-ltb y 272 in_row, e) refl
-cram_bit K8 range_value mode_value cram bram check_payload (suc (suc (suc zero))) x y in_bank in_row = let e : y - 0 ≡ y = omega arith in rw (le-leb 0 y (omega arith), lt-ltb y 272 in_row, e) refl
+cram_bit Lp384 range_value mode_value cram bram check_payload zero x y in_bank in_row = let e : y - 0 ≡ y = omega arith in rw (le-leb 0 y (omega arith), lt-ltb y 80 in_row, e) refl
+cram_bit Lp384 range_value mode_value cram bram check_payload (suc zero) x y in_bank in_row = let e : y - 0 ≡ y = omega arith in rw (le-leb 0 y (omega arith), lt-ltb y 80 in_row, e) refl
+cram_bit Lp384 range_value mode_value cram bram check_payload (suc (suc zero)) x y in_bank in_row = let e : y - 0 ≡ y = omega arith in rw (le-leb 0 y (omega arith), lt-ltb y 80 in_row, e) refl
+cram_bit Lp384 range_value mode_value cram bram check_payload (suc (suc (suc zero))) x y in_bank in_row = let e : y - 0 ≡ y = omega arith in rw (le-leb 0 y (omega arith), lt-ltb y 80 in_row, e) refl
+cram_bit Hx1k range_value mode_value cram bram check_payload zero x y in_bank in_row = let e : y - 0 ≡ y = omega arith in rw (le-leb 0 y (omega arith), lt-ltb y 144 in_row, e) refl
+cram_bit Hx1k range_value mode_value cram bram check_payload (suc zero) x y in_bank in_row = let e : y - 0 ≡ y = omega arith in rw (le-leb 0 y (omega arith), lt-ltb y 144 in_row, e) refl
+cram_bit Hx1k range_value mode_value cram bram check_payload (suc (suc zero)) x y in_bank in_row = let e : y - 0 ≡ y = omega arith in rw (le-leb 0 y (omega arith), lt-ltb y 144 in_row, e) refl
+cram_bit Hx1k range_value mode_value cram bram check_payload (suc (suc (suc zero))) x y in_bank in_row = let e : y - 0 ≡ y = omega arith in rw (le-leb 0 y (omega arith), lt-ltb y 144 in_row, e) refl
+cram_bit Hx8k range_value mode_value cram bram check_payload zero x y in_bank in_row = let e : y - 0 ≡ y = omega arith in rw (le-leb 0 y (omega arith), lt-ltb y 272 in_row, e) refl
+cram_bit Hx8k range_value mode_value cram bram check_payload (suc zero) x y in_bank in_row = let e : y - 0 ≡ y = omega arith in rw (le-leb 0 y (omega arith), lt-ltb y 272 in_row, e) refl
+cram_bit Hx8k range_value mode_value cram bram check_payload (suc (suc zero)) x y in_bank in_row = let e : y - 0 ≡ y = omega arith in rw (le-leb 0 y (omega arith), lt-ltb y 272 in_row, e) refl
+cram_bit Hx8k range_value mode_value cram bram check_payload (suc (suc (suc zero))) x y in_bank in_row = let e : y - 0 ≡ y = omega arith in rw (le-leb 0 y (omega arith), lt-ltb y 272 in_row, e) refl
 cram_bit device range_value mode_value cram bram check_payload (suc (suc (suc (suc bank)))) x y in_bank in_row = absurd (omega arith)
 
 -- a bit of the lower half of a RAM plane
 pub bram_bit_low : (device : DeviceName) (range_value mode_value : ℕ) (cram : ℕ → List ℕ) (bram : ℕ → ℕ → List ℕ) (check_payload : List ℕ) (bank x y : ℕ) → has_rows Bram device ≡ true → bank < 4 → y < 128 → plane_bit Bram (all_commands device range_value mode_value cram bram check_payload) (record { bank = bank; px = x; py = y }) ≡ get_or (bits_of (bram bank 0)) (y * bram_width device + x) false
 unfolding last_below last_of width_after plane_bit
-bram_bit_low L384 range_value mode_value cram bram check_payload bank x y has in_bank in_row = absurd cc
-bram_bit_low K1 range_value mode_value cram bram check_payload zero x y has in_bank in_row = let e : y - 0 ≡ y = omega arith in rw (lt-leb 128 y in_row, le-leb 0 y (omega arith), lt-ltb y 128 in_row, e) refl
-bram_bit_low K1 range_value mode_value cram bram check_payload (suc zero) x y has in_bank in_row = let e : y - 0 ≡ y = omega arith in rw (lt-leb 128 y in_row, le-leb 0 y (omega arith), lt-ltb y 128 in_row, e) refl
-bram_bit_low K1 range_value mode_value cram bram check_payload (suc (suc zero)) x y has in_bank in_row = let e : y - 0 ≡ y = omega arith in rw (lt-leb 128 y in_row, le-leb 0 y (omega arith), lt-ltb y 128 in_row, e) refl
-bram_bit_low K1 range_value mode_value cram bram check_payload (suc (suc (suc zero))) x y has in_bank in_row = let e : y - 0 ≡ y = omega arith in rw (lt-leb 128 y in_row, le-leb 0 y (omega arith), lt-ltb y 128 in_row, e) refl
-bram_bit_low K8 range_value mode_value cram bram check_payload zero x y has in_bank in_row = let e : y - 0 ≡ y = omega arith in rw (lt-leb 128 y in_row, le-leb 0 y (omega arith), lt-ltb y 128 in_row, e) refl
-bram_bit_low K8 range_value mode_value cram bram check_payload (suc zero) x y has in_bank in_row = let e : y - 0 ≡ y = omega arith in rw (lt-leb 128 y in_row, le-leb 0 y (omega arith), lt-ltb y 128 in_row, e) refl
-bram_bit_low K8 range_value mode_value cram bram check_payload (suc (suc zero)) x y has in_bank in_row = let e : y - 0 ≡ y = omega arith in rw (lt-leb 128 y in_row, le-leb 0 y (omega arith), lt-ltb y 128 in_row, e) refl
-bram_bit_low K8 range_value mode_value cram bram check_payload (suc (suc (suc zero))) x y has in_bank in_row = let e : y - 0 ≡ y = omega arith in rw (lt-leb 128 y in_row, le-leb 0 y (omega arith), lt-ltb y 128 in_row, e) refl
+bram_bit_low Lp384 range_value mode_value cram bram check_payload bank x y has in_bank in_row = absurd cc
+bram_bit_low Hx1k range_value mode_value cram bram check_payload zero x y has in_bank in_row = let e : y - 0 ≡ y = omega arith in rw (lt-leb 128 y in_row, le-leb 0 y (omega arith), lt-ltb y 128 in_row, e) refl
+bram_bit_low Hx1k range_value mode_value cram bram check_payload (suc zero) x y has in_bank in_row = let e : y - 0 ≡ y = omega arith in rw (lt-leb 128 y in_row, le-leb 0 y (omega arith), lt-ltb y 128 in_row, e) refl
+bram_bit_low Hx1k range_value mode_value cram bram check_payload (suc (suc zero)) x y has in_bank in_row = let e : y - 0 ≡ y = omega arith in rw (lt-leb 128 y in_row, le-leb 0 y (omega arith), lt-ltb y 128 in_row, e) refl
+bram_bit_low Hx1k range_value mode_value cram bram check_payload (suc (suc (suc zero))) x y has in_bank in_row = let e : y - 0 ≡ y = omega arith in rw (lt-leb 128 y in_row, le-leb 0 y (omega arith), lt-ltb y 128 in_row, e) refl
+bram_bit_low Hx8k range_value mode_value cram bram check_payload zero x y has in_bank in_row = let e : y - 0 ≡ y = omega arith in rw (lt-leb 128 y in_row, le-leb 0 y (omega arith), lt-ltb y 128 in_row, e) refl
+bram_bit_low Hx8k range_value mode_value cram bram check_payload (suc zero) x y has in_bank in_row = let e : y - 0 ≡ y = omega arith in rw (lt-leb 128 y in_row, le-leb 0 y (omega arith), lt-ltb y 128 in_row, e) refl
+bram_bit_low Hx8k range_value mode_value cram bram check_payload (suc (suc zero)) x y has in_bank in_row = let e : y - 0 ≡ y = omega arith in rw (lt-leb 128 y in_row, le-leb 0 y (omega arith), lt-ltb y 128 in_row, e) refl
+bram_bit_low Hx8k range_value mode_value cram bram check_payload (suc (suc (suc zero))) x y has in_bank in_row = let e : y - 0 ≡ y = omega arith in rw (lt-leb 128 y in_row, le-leb 0 y (omega arith), lt-ltb y 128 in_row, e) refl
 bram_bit_low device range_value mode_value cram bram check_payload (suc (suc (suc (suc bank)))) x y has in_bank in_row = absurd (omega arith)
 
 -- a bit of the upper half of a RAM plane
 pub bram_bit_high : (device : DeviceName) (range_value mode_value : ℕ) (cram : ℕ → List ℕ) (bram : ℕ → ℕ → List ℕ) (check_payload : List ℕ) (bank x y : ℕ) → has_rows Bram device ≡ true → bank < 4 → 128 ≤ y → y < 256 → plane_bit Bram (all_commands device range_value mode_value cram bram check_payload) (record { bank = bank; px = x; py = y }) ≡ get_or (bits_of (bram bank 128)) ((y - 128) * bram_width device + x) false
 unfolding last_below last_of width_after plane_bit
-bram_bit_high L384 range_value mode_value cram bram check_payload bank x y has in_bank above in_row = absurd cc
-bram_bit_high K1 range_value mode_value cram bram check_payload zero x y has in_bank above in_row = rw (le-leb 128 y above, lt-ltb y 256 in_row) refl
-bram_bit_high K1 range_value mode_value cram bram check_payload (suc zero) x y has in_bank above in_row = rw (le-leb 128 y above, lt-ltb y 256 in_row) refl
-bram_bit_high K1 range_value mode_value cram bram check_payload (suc (suc zero)) x y has in_bank above in_row = rw (le-leb 128 y above, lt-ltb y 256 in_row) refl
-bram_bit_high K1 range_value mode_value cram bram check_payload (suc (suc (suc zero))) x y has in_bank above in_row = rw (le-leb 128 y above, lt-ltb y 256 in_row) refl
-bram_bit_high K8 range_value mode_value cram bram check_payload zero x y has in_bank above in_row = rw (le-leb 128 y above, lt-ltb y 256 in_row) refl
-bram_bit_high K8 range_value mode_value cram bram check_payload (suc zero) x y has in_bank above in_row = rw (le-leb 128 y above, lt-ltb y 256 in_row) refl
-bram_bit_high K8 range_value mode_value cram bram check_payload (suc (suc zero)) x y has in_bank above in_row = rw (le-leb 128 y above, lt-ltb y 256 in_row) refl
-bram_bit_high K8 range_value mode_value cram bram check_payload (suc (suc (suc zero))) x y has in_bank above in_row = rw (le-leb 128 y above, lt-ltb y 256 in_row) refl
+bram_bit_high Lp384 range_value mode_value cram bram check_payload bank x y has in_bank above in_row = absurd cc
+bram_bit_high Hx1k range_value mode_value cram bram check_payload zero x y has in_bank above in_row = rw (le-leb 128 y above, lt-ltb y 256 in_row) refl
+bram_bit_high Hx1k range_value mode_value cram bram check_payload (suc zero) x y has in_bank above in_row = rw (le-leb 128 y above, lt-ltb y 256 in_row) refl
+bram_bit_high Hx1k range_value mode_value cram bram check_payload (suc (suc zero)) x y has in_bank above in_row = rw (le-leb 128 y above, lt-ltb y 256 in_row) refl
+bram_bit_high Hx1k range_value mode_value cram bram check_payload (suc (suc (suc zero))) x y has in_bank above in_row = rw (le-leb 128 y above, lt-ltb y 256 in_row) refl
+bram_bit_high Hx8k range_value mode_value cram bram check_payload zero x y has in_bank above in_row = rw (le-leb 128 y above, lt-ltb y 256 in_row) refl
+bram_bit_high Hx8k range_value mode_value cram bram check_payload (suc zero) x y has in_bank above in_row = rw (le-leb 128 y above, lt-ltb y 256 in_row) refl
+bram_bit_high Hx8k range_value mode_value cram bram check_payload (suc (suc zero)) x y has in_bank above in_row = rw (le-leb 128 y above, lt-ltb y 256 in_row) refl
+bram_bit_high Hx8k range_value mode_value cram bram check_payload (suc (suc (suc zero))) x y has in_bank above in_row = rw (le-leb 128 y above, lt-ltb y 256 in_row) refl
 bram_bit_high device range_value mode_value cram bram check_payload (suc (suc (suc (suc bank)))) x y has in_bank above in_row = absurd (omega arith)
 
 -- ---- whole planes
 
 -- a device's planes are whole bytes
 pub cram-even : (device : DeviceName) → cram_width device * cram_height device % 8 ≡ 0
-cram-even L384 = refl
-cram-even K1 = refl
-cram-even K8 = refl
+cram-even Lp384 = refl
+cram-even Hx1k = refl
+cram-even Hx8k = refl
 
 pub bram-even : (device : DeviceName) → bram_width device * 128 % 8 ≡ 0
-bram-even L384 = refl
-bram-even K1 = refl
-bram-even K8 = refl
+bram-even Lp384 = refl
+bram-even Hx1k = refl
+bram-even Hx8k = refl
 
 -- RAM planes with rows have the rows of their two halves
 pub bram-tall : (device : DeviceName) → has_rows Bram device ≡ true → bram_height device ≡ 256
-bram-tall L384 has = absurd cc
-bram-tall K1 has = refl
-bram-tall K8 has = refl
+bram-tall Lp384 has = absurd cc
+bram-tall Hx1k has = refl
+bram-tall Hx8k has = refl
 
 -- if there is a row, they have rows
 has_rows-in : (device : DeviceName) (y : ℕ) → y < bram_height device → has_rows Bram device ≡ true
-has_rows-in L384 y row = absurd (omega arith)
-has_rows-in K1 y row = refl
-has_rows-in K8 y row = refl
+has_rows-in Lp384 y row = absurd (omega arith)
+has_rows-in Hx1k y row = refl
+has_rows-in Hx8k y row = refl
 
 -- one of four planes
 bank_rows-of : (plane : ℕ → Rows) (bank : ℕ) → bank < 4 → bank_rows (plane 0 ∷ plane 1 ∷ plane 2 ∷ plane 3 ∷ []) bank ≡ plane bank

@@ -1,7 +1,7 @@
 -- What stands before the preamble, the preamble, and what stands after it.
 use Rattle.std.proofs.Common.{◌≡◌, ℕ, ◌+◌, ◌<◌, List, ◌++◌, length, take, drop, Some, append_assoc, take-append-drop, drop-drop, sym, ap, ap₂, ◌∙◌}
 use Rattle.std.proofs.lemmas.Slice.Eq.{bytes_eq-Decides}
-use Rattle.place_search.proofs.Found.{least_below-place}
+use Rattle.index_search.proofs.Found.{least_below-place}
 use Rattle.bin_stream.specs.Front.{preamble, preamble_offset, is_preamble_at}
 
 -- if the preamble is at an offset, the bytes are those before it, the preamble and those after it

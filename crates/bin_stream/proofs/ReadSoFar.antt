@@ -1,7 +1,7 @@
 -- Commands that are read one after the other.
 use Rattle.std.proofs.Common.{◌≡◌, ℕ, suc, ◌+◌, ◌-◌, ◌≤◌, Bool, true, false, List, [], ◌∷◌, ◌++◌, length, take, drop, refl, sym, ap, subst, ◌∙◌, arith}
 use Rattle.std.specs.Prelude.{Option, Some, None, Result, Ok, Err}
-use Rattle.place_search.specs.Places.{any_below, last_below, first_below}
+use Rattle.index_search.specs.Places.{any_below, last_below, first_below}
 use Rattle.bit_plane.specs.Rows.{Rows}
 use Rattle.plane_map.specs.Layout.{Layout}
 use Rattle.layout_file.specs.declared.layouts.Layouts.{Layouts}

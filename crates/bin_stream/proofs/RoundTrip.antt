@@ -6,11 +6,11 @@ use Rattle.std.proofs.lemmas.Bool.{not-true}
 use Rattle.std.proofs.lemmas.List.Concat.{flat_map-append}
 use Rattle.std.proofs.lemmas.List.Elements.{All-weaker}
 use Rattle.std.proofs.lemmas.List.Sums.{AllPass-from_list_all}
-use Rattle.place_search.specs.Places.{last_below, first_below}
+use Rattle.index_search.specs.Places.{last_below, first_below}
 use Rattle.bit_plane.specs.BitList.{bit_value, bits_of, byte_bits}
 use Rattle.bit_plane.specs.Rows.{IsGrid}
 use Rattle.plane_map.specs.declared.device.DeviceName.{DeviceName}
-use Rattle.plane_map.specs.declared.device.DeviceName.TheVariants.{L384, K1, K8}
+use Rattle.plane_map.specs.declared.device.DeviceName.TheVariants.{Lp384, Hx1k, Hx8k}
 use Rattle.layout_file.specs.declared.layouts.Layouts.{Layouts}
 use Rattle.layout_file.specs.Layouts.{HasLayout}
 use Rattle.ice_image.specs.Configuration.{Configuration, IsWhole, bank_rows}
@@ -68,30 +68,30 @@ no_sleep-back true true = refl
 -- what the canonical commands leave
 range-after : (device : DeviceName) (range_value mode_value : ℕ) (cram : ℕ → List ℕ) (bram : ℕ → ℕ → List ℕ) (check_payload : List ℕ) → range_after (all_commands device range_value mode_value cram bram check_payload) ≡ number_of (range_value ∷ [])
 unfolding last_below last_of
-range-after L384 range_value mode_value cram bram check_payload = refl
-range-after K1 range_value mode_value cram bram check_payload = refl
-range-after K8 range_value mode_value cram bram check_payload = refl
+range-after Lp384 range_value mode_value cram bram check_payload = refl
+range-after Hx1k range_value mode_value cram bram check_payload = refl
+range-after Hx8k range_value mode_value cram bram check_payload = refl
 
 mode-after : (device : DeviceName) (range_value mode_value : ℕ) (cram : ℕ → List ℕ) (bram : ℕ → ℕ → List ℕ) (check_payload : List ℕ) → mode_after (all_commands device range_value mode_value cram bram check_payload) ≡ mode_value
 unfolding last_below last_of
-mode-after L384 range_value mode_value cram bram check_payload = let e : number_of (0 ∷ mode_value ∷ []) ≡ mode_value = omega arith in e
-mode-after K1 range_value mode_value cram bram check_payload = let e : number_of (0 ∷ mode_value ∷ []) ≡ mode_value = omega arith in e
-mode-after K8 range_value mode_value cram bram check_payload = let e : number_of (0 ∷ mode_value ∷ []) ≡ mode_value = omega arith in e
+mode-after Lp384 range_value mode_value cram bram check_payload = let e : number_of (0 ∷ mode_value ∷ []) ≡ mode_value = omega arith in e
+mode-after Hx1k range_value mode_value cram bram check_payload = let e : number_of (0 ∷ mode_value ∷ []) ≡ mode_value = omega arith in e
+mode-after Hx8k range_value mode_value cram bram check_payload = let e : number_of (0 ∷ mode_value ∷ []) ≡ mode_value = omega arith in e
 
 -- the device is that of the first data
 device-after : (device : DeviceName) (range_value mode_value : ℕ) (cram : ℕ → List ℕ) (bram : ℕ → ℕ → List ℕ) (check_payload : List ℕ) → device_after (before_wake_up device range_value mode_value cram bram check_payload) ≡ Some device
 unfolding last_below first_below last_of width_after device_after
-device-after L384 range_value mode_value cram bram check_payload = refl
-device-after K1 range_value mode_value cram bram check_payload = refl
-device-after K8 range_value mode_value cram bram check_payload = refl
+device-after Lp384 range_value mode_value cram bram check_payload = refl
+device-after Hx1k range_value mode_value cram bram check_payload = refl
+device-after Hx8k range_value mode_value cram bram check_payload = refl
 
 -- ---- the wake-up
 
 -- no command before it is one
 none_wakes : (device : DeviceName) (range_value mode_value : ℕ) (cram : ℕ → List ℕ) (bram : ℕ → ℕ → List ℕ) (check_payload : List ℕ) → list_all (λ command. not (is_wake_up command)) (before_wake_up device range_value mode_value cram bram check_payload) ≡ true
-none_wakes L384 range_value mode_value cram bram check_payload = refl
-none_wakes K1 range_value mode_value cram bram check_payload = refl
-none_wakes K8 range_value mode_value cram bram check_payload = refl
+none_wakes Lp384 range_value mode_value cram bram check_payload = refl
+none_wakes Hx1k range_value mode_value cram bram check_payload = refl
+none_wakes Hx8k range_value mode_value cram bram check_payload = refl
 
 no_wake_up-before : (device : DeviceName) (range_value mode_value : ℕ) (cram : ℕ → List ℕ) (bram : ℕ → ℕ → List ℕ) (check_payload : List ℕ) → NoWakeUp (before_wake_up device range_value mode_value cram bram check_payload)
 no_wake_up-before device range_value mode_value cram bram check_payload =
@@ -104,9 +104,9 @@ no_wake_up-before device range_value mode_value cram bram check_payload =
 -- the check covers what stands after the reset
 covered-is : (device : DeviceName) (range_value mode_value : ℕ) (cram : ℕ → List ℕ) (bram : ℕ → ℕ → List ℕ) → covered (before_check device range_value mode_value cram bram) ≡ spelled (checked_commands device mode_value cram bram)
 unfolding last_below covered
-covered-is L384 range_value mode_value cram bram = refl
-covered-is K1 range_value mode_value cram bram = refl
-covered-is K8 range_value mode_value cram bram = refl
+covered-is Lp384 range_value mode_value cram bram = refl
+covered-is Hx1k range_value mode_value cram bram = refl
+covered-is Hx8k range_value mode_value cram bram = refl
 
 -- the two bytes of an image's check
 abbrev pub value_bytes : Configuration → List ℕ

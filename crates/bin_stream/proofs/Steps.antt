@@ -4,7 +4,7 @@ use Rattle.std.specs.Prelude.{Some, None, nat_lt, ◌==◌}
 use Rattle.std.proofs.lemmas.Bool.{cases_Bool, ltb-false, eqb-true}
 use Rattle.std.proofs.lemmas.List.Concat.{flat_map-append}
 use Rattle.std.proofs.Math.Bool.{or-false}
-use Rattle.place_search.specs.Places.{any_below, last_below}
+use Rattle.index_search.specs.Places.{any_below, last_below}
 use Rattle.bit_plane.specs.BitList.{byte_bits, bits_of}
 use Rattle.ice_image.specs.declared.planes.PlaneKind.{PlaneKind}
 use Rattle.bin_stream.specs.CheckValue.{check_value, powers_from, power, doubled, sum_of}

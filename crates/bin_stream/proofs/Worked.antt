@@ -1,7 +1,7 @@
 -- The definitions at small streams, worked out by hand. Layouts don't matter if a stream is refused.
 use Rattle.std.proofs.Common.{◌≡◌, [], ◌∷◌, refl}
 use Rattle.std.specs.Prelude.{Err}
-use Rattle.place_search.specs.Places.{any_below, last_below, first_below, least_below}
+use Rattle.index_search.specs.Places.{any_below, last_below, first_below, least_below}
 use Rattle.layout_file.specs.declared.layouts.Layouts.{Layouts}
 use Rattle.bin_stream.specs.CheckValue.{doubled, power, powers_from, sum_of, check_value}
 use Rattle.bin_stream.specs.Commands.{spelled}

@@ -3,7 +3,7 @@
 use Rattle.std.specs.Prelude.{ℕ, Bool, not, ◌&&◌, ◌||◌, List, [], ◌∷◌, length, take, drop, get_or, filter, bytes_eq, nat_lt, nat_le, ◌==◌, if◌then◌else◌, Option, Some, None}
 use Rattle.std.specs.List.{list_all}
 use Rattle.text_lines.specs.Lines.{with_byte}
-use Rattle.place_search.specs.Places.{least_below}
+use Rattle.index_search.specs.Places.{least_below}
 
 abbrev pub preamble : List ℕ
 preamble = 0x7E ∷ 0xAA ∷ 0x99 ∷ 0x7E ∷ []

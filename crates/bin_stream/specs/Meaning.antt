@@ -1,6 +1,6 @@
 -- What commands configure (Project IceStorm, 'Bitstream File Format Documentation').
 use Rattle.std.specs.Prelude.{ℕ, ◌+◌, ◌-◌, ◌*◌, ◌/◌, ◌%◌, Bool, true, false, ◌&&◌, List, [], ◌∷◌, length, take, get_or, slice_get, nat_lt, nat_le, ◌==◌, if◌then◌else◌, Option, Some, None}
-use Rattle.place_search.specs.Places.{last_below}
+use Rattle.index_search.specs.Places.{last_below}
 use Rattle.bit_plane.specs.BitList.{bits_of}
 use Rattle.bit_plane.specs.Rows.{Rows, rows_from}
 use Rattle.plane_map.specs.declared.device.DeviceName.{DeviceName}

@@ -1,6 +1,6 @@
 -- What is wrong with a command, by the commands before it: the first cause that applies, in the order of the bytes.
 use Rattle.std.specs.Prelude.{◌≡◌, ℕ, ◌+◌, ◌*◌, ◌/◌, ◌%◌, ◌<◌, Bool, true, false, not, ◌||◌, List, [], ◌∷◌, ◌++◌, length, take, drop, slice_get, nat_lt, ◌==◌, if◌then◌else◌, Option, Some, None}
-use Rattle.place_search.specs.Places.{any_below, or_else}
+use Rattle.index_search.specs.Places.{any_below, or_else}
 use Rattle.bit_plane.specs.BitList.{bits_of}
 use Rattle.plane_map.specs.Layout.{cram_height}
 use Rattle.plane_map.specs.declared.device.DeviceName.{DeviceName}

@@ -1,7 +1,7 @@
 -- Which bytes spell which image, and what is wrong with all others.
 use Rattle.std.specs.Prelude.{◌≡◌, ℕ, zero, suc, ◌+◌, ◌/◌, ◌%◌, Bool, false, true, List, [], ◌∷◌, ◌++◌, length, take, drop, slice_get, Option, Some, None, Result, Ok, Err, All, ◌↔◌}
 use Rattle.plane_map.specs.declared.device.DeviceName.{DeviceName}
-use Rattle.plane_map.specs.declared.device.DeviceName.TheVariants.{K1}
+use Rattle.plane_map.specs.declared.device.DeviceName.TheVariants.{Hx1k}
 use Rattle.layout_file.specs.declared.layouts.Layouts.{Layouts}
 use Rattle.layout_file.specs.Layouts.{layout_for, HasLayout}
 use Rattle.ice_image.specs.Configuration.{Configuration}
@@ -96,7 +96,7 @@ commands_from (suc most) before offset bytes =
 
 -- the device; there is one if a wake-up is allowed
 abbrev pub device_or : Option DeviceName → DeviceName
-device_or None = K1
+device_or None = Hx1k
 device_or (Some device) = device
 
 abbrev pub image_of : Layouts → List ℕ → Result (List Command) Fault → Result Configuration Fault

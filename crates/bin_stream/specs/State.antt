@@ -1,9 +1,9 @@
 -- What holds after a list of commands, by looking back in it (Project IceStorm, 'Bitstream File Format Documentation'; the start values and
 -- how the device is found are this project's choice).
 use Rattle.std.specs.Prelude.{ℕ, ◌+◌, ◌*◌, ◌/◌, Bool, false, not, ◌&&◌, List, length, take, drop, slice_get, ◌==◌, if◌then◌else◌, Option, Some, None}
-use Rattle.place_search.specs.Places.{last_below, first_below}
+use Rattle.index_search.specs.Places.{last_below, first_below}
 use Rattle.plane_map.specs.declared.device.DeviceName.{DeviceName}
-use Rattle.plane_map.specs.declared.device.DeviceName.TheVariants.{L384, K1, K8}
+use Rattle.plane_map.specs.declared.device.DeviceName.TheVariants.{Lp384, Hx1k, Hx8k}
 use Rattle.ice_image.specs.declared.planes.PlaneKind.{PlaneKind}
 use Rattle.ice_image.specs.Planes.{plane_width, plane_height}
 use Rattle.bin_stream.specs.Commands.{Command, Short, Data, number_of, spelled, is_reset, bank_opcode, range_opcode, width_opcode, height_opcode, offset_opcode, mode_opcode}
@@ -78,9 +78,9 @@ has_width kind device columns = has_rows kind device && (columns == plane_width 
 -- the device whose planes have rows of a width
 abbrev pub device_with : PlaneKind → ℕ → Option DeviceName
 device_with kind columns =
-    if has_width kind L384 columns then Some L384
-    else if has_width kind K1 columns then Some K1
-    else if has_width kind K8 columns then Some K8
+    if has_width kind Lp384 columns then Some Lp384
+    else if has_width kind Hx1k columns then Some Hx1k
+    else if has_width kind Hx8k columns then Some Hx8k
     else None
 
 -- the device that a command fixes, if the commands before it are these

@@ -5,8 +5,8 @@ use Rattle.layout_file.specs.declared.layouts.Layouts.{Layouts}
 use Rattle.tool_run.specs.Stops.{StopsWith}
 use Rattle.tool_run.specs.Tasks.{Answer}
 use Rattle.tool_run.specs.declared.tool.Stop.{Stop}
-use Rattle.tool_parts.specs.Layouts.{answer_under, behind_layout, layouts_for}
-use Rattle.tool_parts.specs.Taking.{texts_behind}
+use Rattle.tool_inputs.specs.Layouts.{answer_under, behind_layout, layouts_for}
+use Rattle.tool_inputs.specs.Taking.{texts_behind}
 use Rattle.bitstream_tools.specs.Reading.{ReadsFirst}
 
 -- the first text after the layout file, by its index among all texts

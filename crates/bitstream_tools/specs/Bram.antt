@@ -2,7 +2,7 @@
 -- `--by-mode` is this project's own.
 use Rattle.std.specs.Prelude.{◌≡◌, ℕ, Bool, true, false, List, [], ◌∷◌, codes, get_or, Option, None, Some, option_map}
 use Rattle.clap.specs.Words.{App, Row, Text, first_of}
-use Rattle.place_search.specs.Places.{or_else}
+use Rattle.index_search.specs.Places.{or_else}
 use Rattle.text_lines.specs.Lines.{lines_of}
 use Rattle.bram_replace.specs.declared.modes.ReadModes.{ReadModes}
 use Rattle.bram_replace.specs.declared.modes.ReadModes.TheVariants.{Ignored, Followed}
@@ -14,8 +14,8 @@ use Rattle.tool_run.specs.Needs.{Need}
 use Rattle.tool_run.specs.Tasks.{Answer, Done, Refused, Task, usage_error}
 use Rattle.tool_run.specs.declared.tool.Stop.{Stop}
 use Rattle.tool_run.specs.declared.tool.Stop.TheVariants.{Refused as StopsRefused, UsageError as StopsUntaken, Memory}
-use Rattle.tool_parts.specs.Outcomes.{Manual, outcome}
-use Rattle.tool_parts.specs.Commands.{command, has_flag, long_flag, required}
+use Rattle.tool_inputs.specs.Outcomes.{Manual, outcome}
+use Rattle.tool_inputs.specs.Commands.{command, has_flag, long_flag, required}
 use Rattle.bitstream_tools.specs.declared.bram.Request.{Request}
 use Rattle.bitstream_tools.specs.declared.bram.TheConstants.{ICEBRAM_HELP}
 use Rattle.bitstream_tools.specs.Faults.{bram_fault_text, hex_fault_text}

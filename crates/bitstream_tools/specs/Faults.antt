@@ -7,7 +7,7 @@ use Rattle.bram_replace.specs.declared.fault.BramFault.{BramFault}
 use Rattle.bram_replace.specs.declared.fault.BramFault.TheVariants.{Shape, SameColumns, Asc, Memory as BramMemory}
 use Rattle.boot_file.specs.declared.multi_fault.MultiFault.{MultiFault}
 use Rattle.boot_file.specs.declared.multi_fault.MultiFault.TheVariants.{NoImage, TooMany, Align, PowerOn, Address, Memory as OutOfMemory}
-use Rattle.tool_parts.specs.Faults.{asc_fault_text}
+use Rattle.tool_inputs.specs.Faults.{asc_fault_text}
 
 -- ---- a fault of images that are joined
 

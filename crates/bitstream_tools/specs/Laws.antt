@@ -6,7 +6,7 @@ use Rattle.boot_file.specs.declared.options.Options.{Options}
 use Rattle.boot_file.specs.declared.multi_fault.MultiFault.{MultiFault}
 use Rattle.boot_file.specs.Refusals.{check_fault}
 use Rattle.tool_run.specs.Needs.{Need}
-use Rattle.tool_parts.specs.Commands.{has_flag, values_of}
+use Rattle.tool_inputs.specs.Commands.{has_flag, values_of}
 use Rattle.bitstream_tools.specs.Bram.{icebram_command, icebram_name, icebram_task_by, icebram_task_of}
 use Rattle.bitstream_tools.specs.Multi.{icemulti_command, icemulti_name, icemulti_task_by, icemulti_task_of, image_need, join_task, options_in}
 use Rattle.bitstream_tools.specs.Pack.{icepack_command, icepack_name, icepack_task_by, icepack_task_of}

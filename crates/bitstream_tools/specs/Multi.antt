@@ -8,8 +8,8 @@ use Rattle.boot_file.specs.BootFile.{boot_file}
 use Rattle.boot_file.specs.Refusals.{check_fault, join_fault}
 use Rattle.tool_run.specs.Needs.{IsSound, Need, need_of, text_of}
 use Rattle.tool_run.specs.Tasks.{Answer, Done, Refused, Task, at_once, usage_error}
-use Rattle.tool_parts.specs.Outcomes.{Manual, outcome}
-use Rattle.tool_parts.specs.Commands.{command, flag, has_flag, several, short_option, values_of}
+use Rattle.tool_inputs.specs.Outcomes.{Manual, outcome}
+use Rattle.tool_inputs.specs.Commands.{command, flag, has_flag, several, short_option, values_of}
 use Rattle.bitstream_tools.specs.declared.multi.MultiRequest.{MultiRequest}
 use Rattle.bitstream_tools.specs.declared.multi.TheConstants.{ICEMULTI_HELP}
 use Rattle.bitstream_tools.specs.Faults.{multi_fault_text}

@@ -9,14 +9,14 @@ use Rattle.asc_text.specs.Meaning.{asc_image_of}
 use Rattle.bin_stream.specs.CanonicalBytes.{canonical_bytes}
 use Rattle.ice_pack.specs.Packed.{awake_where}
 use Rattle.tool_run.specs.Tasks.{Answer, Done, Refused, Task, usage_error}
-use Rattle.tool_parts.specs.Outcomes.{Manual, outcome}
-use Rattle.tool_parts.specs.Commands.{command, flag, has_flag, long_option, positional}
+use Rattle.tool_inputs.specs.Outcomes.{Manual, outcome}
+use Rattle.tool_inputs.specs.Commands.{command, flag, has_flag, long_option, positional}
 use Rattle.tool_run.specs.Needs.{text_of}
 use Rattle.bitstream_tools.specs.declared.pack.Request.{Request}
 use Rattle.bitstream_tools.specs.declared.pack.Request.TheVariants.{Pack, Unpack}
 use Rattle.bitstream_tools.specs.declared.pack.TheConstants.{ICEPACK_HELP}
-use Rattle.tool_parts.specs.Faults.{asc_fault_text}
-use Rattle.tool_parts.specs.Layouts.{answer_under, behind_layout, layouts_for, with_layout}
+use Rattle.tool_inputs.specs.Faults.{asc_fault_text}
+use Rattle.tool_inputs.specs.Layouts.{answer_under, behind_layout, layouts_for, with_layout}
 use Rattle.bitstream_tools.specs.Unpack.{unpack_task}
 
 -- the most bytes that a text may have

@@ -1,7 +1,7 @@
 -- `icesplit`: tells the images of a boot file, or takes one out.
 use Rattle.std.specs.Prelude.{ℕ, Bool, true, false, List, [], ◌∷◌, ◌++◌, codes, decimal, get_or, length, slice_get, Option, None, Some, Result, Ok, Err}
 use Rattle.clap.specs.Words.{App, Row, Text, first_of}
-use Rattle.place_search.specs.Places.{gathered_below}
+use Rattle.index_search.specs.Places.{gathered_below}
 use Rattle.plane_map.specs.DeviceWords.{device_word}
 use Rattle.bin_stream.specs.CanonicalBytes.{canonical_bytes}
 use Rattle.boot_file.specs.declared.split_fault.SplitFault.{SplitFault}
@@ -9,8 +9,8 @@ use Rattle.boot_file.specs.Meaning.{Boot, PlacedImage}
 use Rattle.boot_file.specs.Reading.{boot_read_of}
 use Rattle.tool_run.specs.Needs.{Need, text_of}
 use Rattle.tool_run.specs.Tasks.{Answer, Done, Refused, Task, usage_error}
-use Rattle.tool_parts.specs.Outcomes.{Manual, outcome}
-use Rattle.tool_parts.specs.Commands.{command, positional, required, short_option}
+use Rattle.tool_inputs.specs.Outcomes.{Manual, outcome}
+use Rattle.tool_inputs.specs.Commands.{command, positional, required, short_option}
 use Rattle.bitstream_tools.specs.declared.split.SplitRequest.{SplitRequest}
 use Rattle.bitstream_tools.specs.declared.split.TheConstants.{ICESPLIT_HELP}
 use Rattle.bitstream_tools.specs.Multi.{number_given}

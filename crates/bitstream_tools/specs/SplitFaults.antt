@@ -6,7 +6,7 @@ use Rattle.boot_file.specs.declared.split_fault.SplitFault.TheVariants.{Short, H
 use Rattle.tool_run.specs.Lines.{refusal_text}
 use Rattle.tool_run.specs.declared.tool.Stop.{Stop}
 use Rattle.tool_run.specs.declared.tool.Stop.TheVariants.{Refused, UsageError, Memory as StopsMemory}
-use Rattle.tool_parts.specs.Faults.{bin_fault_text}
+use Rattle.tool_inputs.specs.Faults.{bin_fault_text}
 
 abbrev pub split_fault_text : SplitFault → List ℕ
 split_fault_text (Short length) = codes "Short " ++ decimal length

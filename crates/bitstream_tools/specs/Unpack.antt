@@ -7,11 +7,11 @@ use Rattle.asc_text.specs.Canonical.{asc_text_of}
 use Rattle.bin_stream.specs.Refusals.{Fault}
 use Rattle.bin_stream.specs.Spelling.{bin_read_of}
 use Rattle.tool_run.specs.Tasks.{Answer, Done, Refused, Task}
-use Rattle.tool_parts.specs.Outcomes.{Manual, outcome}
-use Rattle.tool_parts.specs.Commands.{command, long_option, positional}
+use Rattle.tool_inputs.specs.Outcomes.{Manual, outcome}
+use Rattle.tool_inputs.specs.Commands.{command, long_option, positional}
 use Rattle.bitstream_tools.specs.declared.unpack.TheConstants.{ICEUNPACK_HELP}
-use Rattle.tool_parts.specs.Faults.{bin_fault_text}
-use Rattle.tool_parts.specs.Layouts.{answer_under, behind_layout, layouts_for, with_layout}
+use Rattle.tool_inputs.specs.Faults.{bin_fault_text}
+use Rattle.tool_inputs.specs.Layouts.{answer_under, behind_layout, layouts_for, with_layout}
 
 -- the most bytes that a bitstream may have
 abbrev pub stream_limit : ℕ

@@ -17,7 +17,7 @@ use crate::pack::TEXT_LIMIT;
 use bram_replace::{BramFault, HexFault, HexFile, ReadModes, replace_with};
 use clap::{ArgMatches, Command};
 use std::alloc::{AllocError, Global};
-use tool_parts::{CommandLine, Words, has_flag, long_flag, required, run_tool, value, with};
+use tool_inputs::{CommandLine, Words, has_flag, long_flag, required, run_tool, value, with};
 use tool_run::{Host, Job, Load, Stop, Tool, loaded_at};
 
 /// The command line of `icebram`.

@@ -6,7 +6,7 @@ ghost use Rattle.bitstream_tools.specs.Faults.{bram_fault_text, hex_fault_text, 
 use asc_text::AscFault;
 use boot_file::MultiFault;
 use bram_replace::{BramFault, HexFault};
-use tool_parts::{asc_refusal, refusal, whole};
+use tool_inputs::{asc_refusal, refusal, whole};
 use tool_run::{Phrase, Refusal, decimal, text};
 
 /// The refusal to join images with this fault.

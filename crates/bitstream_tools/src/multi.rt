@@ -11,7 +11,7 @@ use boot_file::{MultiFault, Options, check, join};
 use clap::{ArgMatches, Command};
 use std::alloc::{AllocError, Global};
 use text_lines::number;
-use tool_parts::{
+use tool_inputs::{
     CommandLine, Words, flag, has_flag, run_tool, several, short_option, value, values, with,
 };
 use tool_run::{AtOnce, Host, Job, Load, Stop, Tool};

@@ -7,11 +7,11 @@ ghost use Rattle.bitstream_tools.specs.Pack.{icepack_command, icepack_outcome, i
 
 use crate::packing::packed_after;
 use crate::reading::First;
-use crate::unpack::{Names, names_in, unpack_between};
+use crate::unpack::{FileNames, names_in, unpack_between};
 use asc_text::AscReader;
 use clap::{ArgMatches, Command};
 use std::alloc::{AllocError, Global};
-use tool_parts::{
+use tool_inputs::{
     CommandLine, LAYOUT_LIMIT, Taking, Words, flag, has_flag, long_option, positional, run_tool,
     with, with_layout,
 };
@@ -62,7 +62,7 @@ pub(crate) struct Pack {
 
 impl PieceTool for Pack {
     ghost use Rattle.asc_text.specs.Feeding.{StandsFor, fed_to};
-    ghost use Rattle.tool_parts.specs.Taking.{IsTaking, fed_of};
+    ghost use Rattle.tool_inputs.specs.Taking.{IsTaking, fed_of};
     ghost use Rattle.bitstream_tools.specs.Pack.{pack_answer};
     ghost use Rattle.bitstream_tools.specs.Reading.{TakesFirst, fed_first};
 
@@ -100,8 +100,11 @@ impl PieceTool for Pack {
 // What the arguments ask for, if they are taken: to pack, or to unpack.
 #[derive(Clone, Copy)]
 pub(crate) enum Request<'a> {
-    Pack { no_sleep: bool, names: Names<'a> },
-    Unpack(Names<'a>),
+    Pack {
+        no_sleep: bool,
+        names: FileNames<'a>,
+    },
+    Unpack(FileNames<'a>),
 }
 
 // The command line as `clap` reads it.
@@ -117,7 +120,7 @@ fn command<'a>(alloc: Global) -> Result<Command<'a>, AllocError>
 }
 
 // The request, from what was found in the arguments. With `-u` it is to unpack, and then `-s` may not be there.
-fn wanted<'a>(unpacks: bool, no_sleep: bool, names: Names<'a>) -> Option<Request<'a>>
+fn wanted<'a>(unpacks: bool, no_sleep: bool, names: FileNames<'a>) -> Option<Request<'a>>
     ensures { icepack_task_for result ≡ icepack_task_of unpacks no_sleep (text_of names.entry.layout) (text_of names.entry.input) (text_of names.entry.output) }
 {
     match (unpacks, no_sleep) {
@@ -138,7 +141,7 @@ fn request_in<'a>(matches: &ArgMatches<'a>) -> Option<Request<'a>>
 }
 
 // Packs from a file or standard input to a file or standard output.
-fn pack_between<H: Host>(alloc: Global, no_sleep: bool, names: Names<'_>, host: &mut H) -> u8
+fn pack_between<H: Host>(alloc: Global, no_sleep: bool, names: FileNames<'_>, host: &mut H) -> u8
     ensures { Does H.outside (pack_task no_sleep (text_of names.entry.layout) (text_of names.entry.input) (text_of names.entry.output)) result (H.scene host.old) (H.scene host.new) }
 {
     let loads = [

@@ -5,14 +5,14 @@ ghost use Rattle.tool_run.specs.Tasks.{Done};
 ghost use Rattle.layout_file.specs.declared.layouts.Layouts.{Layouts};
 ghost use Rattle.asc_text.specs.Feeding.{StandsFor};
 ghost use Rattle.bitstream_tools.specs.Pack.{pack_answer, packed_under};
-ghost use Rattle.tool_parts.specs.Taking.{IsTaking};
+ghost use Rattle.tool_inputs.specs.Taking.{IsTaking};
 ghost use Rattle.bitstream_tools.specs.Reading.{TakesFirst};
 
 use crate::reading::{First, reader_of};
 use asc_text::{AscFault, AscReader};
 use ice_pack::pack_fed;
 use std::alloc::Global;
-use tool_parts::{Taking, asc_refusal};
+use tool_inputs::{Taking, asc_refusal};
 use tool_run::Stop;
 
 /// The bitstream of the text that comes after the layout file, or why there is none. Called after the last piece. If `no_sleep` is

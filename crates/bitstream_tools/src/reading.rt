@@ -4,15 +4,15 @@ ghost use Rattle.layout_file.specs.declared.layouts.Layouts.{Layouts};
 ghost use Rattle.layout_file.specs.Layouts.{AreLayouts};
 ghost use Rattle.tool_run.specs.Stops.{StopsWith};
 ghost use Rattle.tool_run.specs.Tasks.{Answer};
-ghost use Rattle.tool_parts.specs.Layouts.{answer_under, behind_layout, layouts_for};
-ghost use Rattle.tool_parts.specs.Taking.{IsTaking};
+ghost use Rattle.tool_inputs.specs.Layouts.{answer_under, behind_layout, layouts_for};
+ghost use Rattle.tool_inputs.specs.Taking.{IsTaking};
 ghost use Rattle.bitstream_tools.specs.Reading.{TakesFirst};
 
 use asc_text::AscReader;
 use bin_stream::Decoder;
 use layout_file::Layouts;
 use std::alloc::Global;
-use tool_parts::{Taking, TextTaker};
+use tool_inputs::{Taking, TextTaker};
 use tool_run::Stop;
 
 /// A reader of one text that comes in pieces. It keeps its refusal until the end.

@@ -16,7 +16,7 @@ use bin_stream::encode;
 use boot_file::{BootImage, split};
 use clap::{ArgMatches, Command};
 use std::alloc::{AllocError, Global};
-use tool_parts::{
+use tool_inputs::{
     CommandLine, Words, positional, refusal, required, run_tool, short_option, value, with,
 };
 use tool_run::{Host, Job, Load, Stop, Tool, decimal, loaded_at, text};

@@ -6,7 +6,7 @@ ghost use Rattle.tool_run.specs.Lines.{refusal_text};
 ghost use Rattle.bitstream_tools.specs.SplitFaults.{StopsSplit, split_fault_text};
 
 use boot_file::{BinFault, SplitFault};
-use tool_parts::{bin_cause, refusal, whole};
+use tool_inputs::{bin_cause, refusal, whole};
 use tool_run::{Refusal, Stop, decimal, text};
 
 /// The stop for a boot file with this fault.

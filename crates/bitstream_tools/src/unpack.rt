@@ -11,7 +11,7 @@ use asc_text::CanonicalText;
 use bin_stream::Decoder;
 use clap::{ArgMatches, Command};
 use std::alloc::{AllocError, Global};
-use tool_parts::{
+use tool_inputs::{
     CommandLine, LAYOUT_LIMIT, Taking, Words, long_option, positional, run_tool, value, with,
     with_layout,
 };
@@ -59,7 +59,7 @@ pub(crate) struct Unpack {
 
 impl PieceTool for Unpack {
     ghost use Rattle.bin_stream.specs.Decoding.{StandsFor, fed_to};
-    ghost use Rattle.tool_parts.specs.Taking.{IsTaking, fed_of};
+    ghost use Rattle.tool_inputs.specs.Taking.{IsTaking, fed_of};
     ghost use Rattle.bitstream_tools.specs.Reading.{TakesFirst, fed_first};
     ghost use Rattle.bitstream_tools.specs.Unpack.{unpack_answer};
 
@@ -96,19 +96,19 @@ impl PieceTool for Unpack {
 
 // The file names that the arguments give.
 #[derive(Clone, Copy)]
-pub(crate) struct Names<'a> {
+pub(crate) struct FileNames<'a> {
     pub(crate) layout: Option<&'a str>,
     pub(crate) input: Option<&'a str>,
     pub(crate) output: Option<&'a str>,
 }
 
 /// The file names that were found in the arguments.
-pub(crate) fn names_in<'a>(matches: &ArgMatches<'a>) -> Names<'a>
+pub(crate) fn names_in<'a>(matches: &ArgMatches<'a>) -> FileNames<'a>
     ensures layout { text_of result.layout ≡ first_of (codes "layout") (rows_of (found_of matches.now)) }
     ensures input { text_of result.input ≡ first_of (codes "input") (rows_of (found_of matches.now)) }
     ensures output { text_of result.output ≡ first_of (codes "output") (rows_of (found_of matches.now)) }
 {
-    Names {
+    FileNames {
         layout: value(matches, "layout"),
         input: value(matches, "input"),
         output: value(matches, "output"),
@@ -129,7 +129,7 @@ fn command<'a>(alloc: Global) -> Result<Command<'a>, AllocError>
 pub(crate) fn unpack_between<H: Host>(
     alloc: Global,
     tool_name: &'static str,
-    names: Names<'_>,
+    names: FileNames<'_>,
     host: &mut H,
 ) -> u8
     ensures { Does H.outside (unpack_task tool_name.now (text_of names.entry.layout) (text_of names.entry.input) (text_of names.entry.output)) result (H.scene host.old) (H.scene host.new) }

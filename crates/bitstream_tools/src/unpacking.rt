@@ -9,7 +9,7 @@ ghost use Rattle.ice_image.specs.Configuration.{Configuration};
 ghost use Rattle.bin_stream.specs.Refusals.{Fault};
 ghost use Rattle.bin_stream.specs.Spelling.{Tells};
 ghost use Rattle.bitstream_tools.specs.Unpack.{unpack_answer, unpacked, unpacked_under};
-ghost use Rattle.tool_parts.specs.Taking.{IsTaking};
+ghost use Rattle.tool_inputs.specs.Taking.{IsTaking};
 ghost use Rattle.bitstream_tools.specs.Reading.{TakesFirst};
 
 use crate::reading::{First, reader_of};
@@ -17,7 +17,7 @@ use asc_text::CanonicalText;
 use bin_stream::{BinFault, Decoder};
 use ice_pack::unpack_fed;
 use std::alloc::Global;
-use tool_parts::{Taking, bin_refusal};
+use tool_inputs::{Taking, bin_refusal};
 use tool_run::Stop;
 
 /// The text of the bitstream that comes after the layout file, or why there is none. Called after the last piece.

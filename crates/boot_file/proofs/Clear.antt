@@ -6,9 +6,9 @@ use Rattle.std.specs.List.{cons_option}
 use Rattle.std.proofs.lemmas.List.{map-append, take_more}
 use Rattle.std.proofs.lemmas.List.Elements.{filter_map-append}
 use Rattle.std.proofs.lemmas.Grind.{get_or_default_zero}
-use Rattle.place_search.specs.Places.{first_below}
-use Rattle.place_search.proofs.Found.{first_below-clear, least_below-clear, or_else-first, or_else-other}
-use Rattle.place_search.proofs.Places.{first_below-first, first_below-more, first_below-none, least_below-none}
+use Rattle.index_search.specs.Places.{first_below}
+use Rattle.index_search.proofs.Found.{first_below-clear, least_below-clear, or_else-first, or_else-other}
+use Rattle.index_search.proofs.Places.{first_below-first, first_below-more, first_below-none, least_below-none}
 use Rattle.shared_lemmas.proofs.Tests.{second_true}
 use Rattle.ice_image.specs.Configuration.{Configuration}
 use Rattle.layout_file.specs.Layouts.{standard_layouts}

@@ -8,7 +8,7 @@ use Rattle.std.proofs.lemmas.List.Elements.{All-cons, All-nil}
 use Rattle.std.proofs.lemmas.List.FromFn.{get_or-range_with_len}
 use Rattle.std.proofs.lemmas.List.Folds.{list_any-from_Any}
 use Rattle.std.proofs.lemmas.List.Quantifiers.{position-Some}
-use Rattle.place_search.proofs.Places.{any_below-at}
+use Rattle.index_search.proofs.Places.{any_below-at}
 use Rattle.ice_image.specs.Configuration.{Configuration}
 use Rattle.layout_file.specs.Layouts.{standard_layouts}
 use Rattle.layout_file.proofs.ByDevice.{standard-are}

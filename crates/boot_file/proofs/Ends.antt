@@ -2,9 +2,9 @@
 use Rattle.std.proofs.Common.{◌≡◌, ℕ, ◌+◌, ◌<◌, ◌≤◌, Bool, true, false, ◌&&◌, ◌==◌, List, length, refl, sym, ap, ◌∙◌, inl, inr, arith}
 use Rattle.std.specs.Prelude.{nat_lt, Option, Some, None, unwrap_or}
 use Rattle.std.proofs.lemmas.Bool.{cases_lt, cases_Bool, lt-ltb, ltb-true, eqb-true, eq-eqb}
-use Rattle.place_search.specs.Places.{least_below}
-use Rattle.place_search.proofs.Found.{least_below-place}
-use Rattle.place_search.proofs.Places.{any_below-at, any_below-place, least_below-first, least_below-none}
+use Rattle.index_search.specs.Places.{least_below}
+use Rattle.index_search.proofs.Found.{least_below-place}
+use Rattle.index_search.proofs.Places.{any_below-at, any_below-place, least_below-first, least_below-none}
 use Rattle.shared_lemmas.proofs.Tests.{first_true, second_true}
 use Rattle.boot_file.specs.Headers.{entry_address}
 use Rattle.boot_file.specs.Parts.{is_named, part_end}

@@ -5,9 +5,9 @@ use Rattle.std.specs.List.{list_any}
 use Rattle.std.proofs.Math.Bool.{or-false}
 use Rattle.std.proofs.lemmas.Bool.{eqb-true}
 use Rattle.std.proofs.lemmas.List.Folds.{list_any-append}
-use Rattle.place_search.specs.Places.{any_below, gathered_below}
-use Rattle.place_search.proofs.Places.{gathered_below-more}
-use Rattle.place_search.proofs.Gathered.{All-gathered_below, length-gathered_below}
+use Rattle.index_search.specs.Places.{any_below, gathered_below}
+use Rattle.index_search.proofs.Places.{gathered_below-more}
+use Rattle.index_search.proofs.Gathered.{All-gathered_below, length-gathered_below}
 use Rattle.boot_file.specs.Headers.{entry_address}
 use Rattle.boot_file.specs.Parts.{first_named, image_addresses, is_named, is_named_before}
 

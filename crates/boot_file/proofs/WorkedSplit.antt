@@ -1,7 +1,7 @@
 -- The definitions at the file of two images of 3 bytes and of 1 byte, which are no bitstreams, worked out by hand.
 use Rattle.std.proofs.Common.{◌≡◌, ℕ, List, [], ◌∷◌, take, refl}
 use Rattle.std.specs.Prelude.{false, Some, set}
-use Rattle.place_search.specs.Places.{any_below, first_below, gathered_below, least_below}
+use Rattle.index_search.specs.Places.{any_below, first_below, gathered_below, least_below}
 use Rattle.boot_file.specs.declared.options.Options.{Options}
 use Rattle.boot_file.specs.BootFile.{boot_byte, boot_file, place_of}
 use Rattle.bin_stream.specs.Front.{preamble_offset}

@@ -1,6 +1,6 @@
 -- Why a boot file isn't split: the first cause that applies.
 use Rattle.std.specs.Prelude.{ℕ, ◌+◌, ◌/◌, not, List, length, get_or, nat_lt, if◌then◌else◌, Option, Some, None, option_map, Result, Ok, Err}
-use Rattle.place_search.specs.Places.{first_below, least_below, or_else}
+use Rattle.index_search.specs.Places.{first_below, least_below, or_else}
 use Rattle.ice_image.specs.Configuration.{Configuration}
 use Rattle.layout_file.specs.Layouts.{standard_layouts}
 use Rattle.bin_stream.specs.Refusals.{Fault}

@@ -1,6 +1,6 @@
 -- The addresses of the images of a boot file, and which part of the file each image has.
 use Rattle.std.specs.Prelude.{ℕ, Bool, ◌&&◌, List, [], ◌∷◌, length, position, slice_range, unwrap_or, nat_lt, ◌==◌, if◌then◌else◌, Option}
-use Rattle.place_search.specs.Places.{any_below, gathered_below, least_below}
+use Rattle.index_search.specs.Places.{any_below, gathered_below, least_below}
 use Rattle.boot_file.specs.Headers.{entry_address}
 
 -- whether an entry names an address

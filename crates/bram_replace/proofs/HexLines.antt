@@ -3,8 +3,8 @@ use Rattle.std.proofs.Common.{◌≡◌, ℕ, suc, ◌+◌, ◌*◌, ◌<◌, �
 use Rattle.std.specs.Prelude.{Option, Some, None, map}
 use Rattle.std.proofs.lemmas.Bool.{cases_lt, cases_Bool}
 use Rattle.shared_lemmas.proofs.Cuts.{drop_end}
-use Rattle.place_search.specs.Places.{or_else}
-use Rattle.place_search.proofs.Places.{first_below-none, first_below-first, gathered_below-more, gathered_below-none}
+use Rattle.index_search.specs.Places.{or_else}
+use Rattle.index_search.proofs.Places.{first_below-none, first_below-first, gathered_below-more, gathered_below-none}
 use Rattle.text_lines.specs.Lines.{lines_of, whole_lines_of, line_at, with_byte, is_at_lf}
 use Rattle.bram_replace.specs.declared.fault.HexFault.{HexFault}
 use Rattle.bram_replace.specs.declared.fault.HexFault.TheVariants.{Digit, Width, Depth, Memory}

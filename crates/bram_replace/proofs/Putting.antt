@@ -5,8 +5,8 @@ use Rattle.std.proofs.Math.Nat.{div-div-eq-div-mul, two-pow-succ}
 use Rattle.std.proofs.lemmas.Bool.{cases_lt, cases_eq, false≢true, eq-eqb, ne_eqb, lt-ltb, le-ltb, and_parts, eqb-true}
 use Rattle.std.proofs.lemmas.List.{get_or_past, get_or-set_same, get_or-set_other}
 use Rattle.shared_lemmas.proofs.Cuts.{drop_cons, drop_none}
-use Rattle.place_search.specs.Places.{gathered_below}
-use Rattle.place_search.proofs.Places.{gathered_below-more}
+use Rattle.index_search.specs.Places.{gathered_below}
+use Rattle.index_search.proofs.Places.{gathered_below-more}
 use Rattle.text_lines.specs.Lines.{lines_of, whole_lines_of, line_at, trimmed, before_rest, is_blank}
 use Rattle.asc_text.specs.Rows.{is_memory_line, memory_bit, memory_bytes, memory_word}
 use Rattle.bram_replace.specs.HexText.{Contents}

@@ -2,8 +2,8 @@
 use Rattle.std.proofs.Common.{◌≡◌, ℕ, zero, suc, ◌+◌, ◌*◌, ◌≤◌, true, false, List, [], ◌∷◌, length, drop, arith, inl, inr, length-append}
 use Rattle.std.specs.Prelude.{None, if◌then◌else◌}
 use Rattle.std.proofs.lemmas.Bool.{cases_Bool}
-use Rattle.place_search.specs.Places.{gathered_below}
-use Rattle.place_search.proofs.Gathered.{length-gathered_below}
+use Rattle.index_search.specs.Places.{gathered_below}
+use Rattle.index_search.proofs.Gathered.{length-gathered_below}
 use Rattle.text_lines.specs.Lines.{lines_of}
 use Rattle.layout_file.specs.Layouts.{standard_layouts}
 use Rattle.asc_text.specs.Blocks.{statement_at}

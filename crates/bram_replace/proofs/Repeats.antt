@@ -8,15 +8,15 @@ use Rattle.std.specs.BTreeMap.{is_at}
 use Rattle.std.proofs.lemmas.Map.Text.{is_eq-slice_cmp}
 use Rattle.std.proofs.lemmas.Bool.{cases_lt, cases_Bool, lt-ltb, le-ltb, le-leb, lt-leb}
 use Rattle.std.proofs.Math.Bool.{and-false}
-use Rattle.place_search.specs.Places.{least_below, first_below, or_else, or_here}
-use Rattle.place_search.proofs.Places.{least_below-more, least_below-none, first_below-more, first_below-same, first_below-first, or_else-none}
+use Rattle.index_search.specs.Places.{least_below, first_below, or_else, or_here}
+use Rattle.index_search.proofs.Places.{least_below-more, least_below-none, first_below-more, first_below-same, first_below-first, or_else-none}
 use Rattle.bram_replace.specs.declared.columns.Repeat.{Repeat}
 use Rattle.bram_replace.specs.declared.fault.BramFault.{BramFault}
 use Rattle.bram_replace.specs.declared.fault.BramFault.TheVariants.{SameColumns}
 use Rattle.bram_replace.specs.HexText.{Contents}
 use Rattle.bram_replace.specs.Columns.{column_at, column_bit, column_count, column_from, is_same, is_repeat, same_fault, match_of}
 use Rattle.bram_replace.specs.Packed.{packed, Finds, earlier, repeat_told, repeat_among, first_repeat}
-use Rattle.place_search.proofs.Found.{IsLeast, first_below-clear, least_below-clear, least_below-place}
+use Rattle.index_search.proofs.Found.{IsLeast, first_below-clear, least_below-clear, least_below-place}
 use Rattle.bram_replace.proofs.Same.{is_same-equal, map-none}
 use Rattle.bram_replace.proofs.Packing.{packed-decides}
 

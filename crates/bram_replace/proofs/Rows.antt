@@ -4,8 +4,8 @@ use Rattle.std.specs.Prelude.{if◌then◌else◌}
 use mathlib.Core.Bool.{beq}
 use Rattle.std.proofs.lemmas.Bool.{cases_eq, false≢true, eq-eqb, ne_eqb}
 use Rattle.std.proofs.lemmas.List.{get_or-set_same, get_or-set_other}
-use Rattle.place_search.specs.Places.{any_below, gathered_below}
-use Rattle.place_search.proofs.Places.{any_below-same, any_below-none, any_below-at, gathered_below-same}
+use Rattle.index_search.specs.Places.{any_below, gathered_below}
+use Rattle.index_search.proofs.Places.{any_below-same, any_below-none, any_below-at, gathered_below-same}
 use Rattle.hex.specs.Hex.{encode_lower}
 use Rattle.bit_plane.specs.BitList.{word_of}
 use Rattle.asc_text.specs.Canonical.{two_bytes}

@@ -4,10 +4,10 @@ use Rattle.std.specs.Prelude.{Option, Some, None}
 use Rattle.std.specs.Option.{option_map}
 use Rattle.std.proofs.lemmas.Bool.{cases_lt, cases_eq, cases_Bool, and_parts, false≢true, lt-ltb, eq-eqb, ne_eqb}
 use Rattle.bram_replace.specs.declared.fault.BramFault.TheVariants.{SameColumns}
-use Rattle.place_search.specs.Places.{least_below}
+use Rattle.index_search.specs.Places.{least_below}
 use Rattle.bram_replace.specs.HexText.{Contents}
 use Rattle.bram_replace.specs.Columns.{column_at, column_count, is_same, is_same_bit, is_repeat, repeat_fault, same_fault, match_of}
-use Rattle.place_search.proofs.Found.{first_below-clear, least_below-clear, least_below-place}
+use Rattle.index_search.proofs.Found.{first_below-clear, least_below-clear, least_below-place}
 
 -- ---- equal bits and columns
 

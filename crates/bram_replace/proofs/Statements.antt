@@ -3,9 +3,9 @@ use Rattle.std.proofs.Common.{◌≡◌, ◌≢◌, ℕ, ◌+◌, ◌-◌, ◌<�
 use Rattle.std.specs.Prelude.{Option, Some, None, bytes_eq}
 use Rattle.std.proofs.lemmas.Bool.{and_parts, false≢true, lt-leb}
 use Rattle.std.proofs.lemmas.Slice.Eq.{bytes_eq-Decides}
-use Rattle.place_search.specs.Places.{first_below, or_else}
-use Rattle.place_search.proofs.Places.{first_below-sum}
-use Rattle.place_search.proofs.Found.{or_else-first}
+use Rattle.index_search.specs.Places.{first_below, or_else}
+use Rattle.index_search.proofs.Places.{first_below-sum}
+use Rattle.index_search.proofs.Found.{or_else-first}
 use Rattle.text_lines.specs.Lines.{lines_of, line_at, trimmed}
 use Rattle.text_lines.specs.Words.{behind_word, first_word, numbers_of, words_of}
 use Rattle.text_lines.specs.declared.words.Separators.TheVariants.{Spaces}

@@ -5,8 +5,8 @@ use Rattle.std.proofs.lemmas.Bool.{cases_lt}
 use Rattle.std.proofs.lemmas.List.{get_or-drop, get_or_past, get_or-replicate, length-replicate}
 use Rattle.std.proofs.lemmas.List.FromFn.{fill_by_all}
 use Rattle.shared_lemmas.proofs.Cuts.{drop_cons}
-use Rattle.place_search.specs.Places.{gathered_below}
-use Rattle.place_search.proofs.Places.{gathered_below-more, gathered_below-none, gathered_below-same, gathered_below-sum}
+use Rattle.index_search.specs.Places.{gathered_below}
+use Rattle.index_search.proofs.Places.{gathered_below-more, gathered_below-none, gathered_below-same, gathered_below-sum}
 use Rattle.text_lines.specs.Lines.{lines_of, whole_lines_of, line_at}
 use Rattle.layout_file.specs.Layouts.{standard_layouts}
 use Rattle.plane_map.specs.Layout.{kind_of}

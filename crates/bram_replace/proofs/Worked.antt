@@ -1,7 +1,7 @@
 -- The definitions at small files of words and at lines of a RAM, worked out by hand.
 use Rattle.std.proofs.Common.{◌≡◌, ◌++◌, ◌∷◌, [], ℕ, List, refl}
 use Rattle.std.specs.Prelude.{codes, Bool, true, false, ◌&&◌, ◌||◌, ◌==◌, Some, None, replicate}
-use Rattle.place_search.specs.Places.{any_below, least_below, first_below, gathered_below}
+use Rattle.index_search.specs.Places.{any_below, least_below, first_below, gathered_below}
 use Rattle.text_lines.specs.Lines.{lines_of, whole_lines_of, trimmed}
 use Rattle.text_lines.specs.Words.{words_of, pieces_of, from_word, number_of, numbers_of}
 use Rattle.hex.specs.Hex.{encode_with, decode_pairs}

@@ -3,7 +3,7 @@
 use Rattle.std.specs.Prelude.{ℕ, ◌+◌, ◌*◌, ◌/◌, ◌%◌, Bool, true, false, not, ◌&&◌, List, [], ◌∷◌, length, get_or, map, nat_lt, Option}
 use Rattle.std.specs.List.{range_with_len}
 use Rattle.std.specs.Option.{option_map}
-use Rattle.place_search.specs.Places.{least_below, first_below}
+use Rattle.index_search.specs.Places.{least_below, first_below}
 use Rattle.bram_replace.specs.declared.fault.BramFault.{BramFault}
 use Rattle.bram_replace.specs.declared.fault.BramFault.TheVariants.{SameColumns}
 use Rattle.bram_replace.specs.HexText.{Contents}

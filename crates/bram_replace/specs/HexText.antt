@@ -4,7 +4,7 @@ use Rattle.std.specs.Prelude.{◌≡◌, ℕ, ◌+◌, ◌/◌, ◌%◌, Bool, f
 use Rattle.std.specs.List.{list_all, list_any}
 use Rattle.std.specs.Option.{option_map_or}
 use Rattle.hex.specs.Hex.{is_hex_digit, hex_digit_value}
-use Rattle.place_search.specs.Places.{first_below, gathered_below, or_else}
+use Rattle.index_search.specs.Places.{first_below, gathered_below, or_else}
 use Rattle.text_lines.specs.Lines.{lines_of, line_at}
 use Rattle.text_lines.specs.Words.{words_of}
 use Rattle.text_lines.specs.declared.words.Separators.TheVariants.{Whitespace}

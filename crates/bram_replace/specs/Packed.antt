@@ -6,7 +6,7 @@ use Rattle.std.specs.Option.{option_map}
 use Rattle.bram_replace.specs.declared.columns.Repeat.{Repeat}
 use Rattle.bram_replace.specs.declared.fault.BramFault.{BramFault}
 use Rattle.bram_replace.specs.declared.fault.BramFault.TheVariants.{SameColumns}
-use Rattle.place_search.specs.Places.{least_below, first_below}
+use Rattle.index_search.specs.Places.{least_below, first_below}
 use Rattle.bit_plane.specs.BitList.{word_of}
 use Rattle.bram_replace.specs.HexText.{Contents}
 use Rattle.bram_replace.specs.Columns.{column_at, column_from, is_repeat, is_same}

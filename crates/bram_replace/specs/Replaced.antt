@@ -3,7 +3,7 @@
 -- says. In mode 0, the mode of every RAM if modes aren't followed, a column of a RAM is one bit of its 256 words.
 use Rattle.std.specs.Prelude.{◌≡◌, ℕ, ◌+◌, ◌-◌, ◌*◌, ◌/◌, ◌%◌, Bool, not, ◌&&◌, List, [], ◌∷◌, ◌++◌, length, drop, map, ◌==◌, if◌then◌else◌, Option, Some, None}
 use Rattle.std.specs.List.{range_with_len}
-use Rattle.place_search.specs.Places.{any_below, gathered_below, or_else}
+use Rattle.index_search.specs.Places.{any_below, gathered_below, or_else}
 use Rattle.text_lines.specs.Lines.{lines_of, whole_lines_of, line_at, trimmed}
 use Rattle.hex.specs.Hex.{encode_lower}
 use Rattle.bit_plane.specs.BitList.{word_of}

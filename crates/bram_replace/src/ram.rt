@@ -2,7 +2,7 @@
 ghost use Rattle.std.specs.Prelude.{◌≡◌, ◌≢◌, ◌≤◌, ◌<◌, [], ◌∷◌, ◌+◌, ◌*◌, ◌^◌, ◌++◌, ◌/◌, ◌%◌, ◌==◌, ℕ, true, length, get_or, drop, IfOk, OnOk, if◌then◌else◌};
 ghost use Rattle.hex.specs.Hex.{encode_lower};
 ghost use Rattle.text_lines.specs.Lines.{line_at, lines_of, whole_lines_of};
-ghost use Rattle.place_search.specs.Places.{gathered_below};
+ghost use Rattle.index_search.specs.Places.{gathered_below};
 ghost use Rattle.asc_text.specs.Canonical.{two_bytes};
 ghost use Rattle.asc_text.specs.Rows.{is_memory_line, memory_bit, memory_bytes};
 ghost use Rattle.bram_replace.specs.Columns.{column_bit, column_count};

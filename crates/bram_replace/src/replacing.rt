@@ -1,6 +1,6 @@
 // Replacing the RAMs in a whole text.
 ghost use Rattle.std.specs.Prelude.{◌≡◌, ◌<◌, ◌+◌, ◌^◌, ◌++◌, ◌==◌, ◌&&◌, ℕ, List, None, length, get_or, drop, bytes_eq, IfOk, OnOk, IfErr};
-ghost use Rattle.place_search.specs.Places.{gathered_below};
+ghost use Rattle.index_search.specs.Places.{gathered_below};
 ghost use Rattle.text_lines.specs.Lines.{line_at, lines_of, whole_lines_of};
 ghost use Rattle.text_lines.specs.Words.{first_word};
 ghost use Rattle.layout_file.specs.Layouts.{standard_layouts};

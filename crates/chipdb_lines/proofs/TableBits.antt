@@ -6,8 +6,8 @@ use Rattle.std.proofs.lemmas.Bool.{le-ltb, lt-ltb}
 use Rattle.std.proofs.lemmas.List.{take_all}
 use Rattle.std.proofs.lemmas.List.Folds.{list_all-append}
 use Rattle.std.proofs.Math.Seq.{drop-append_seam}
-use Rattle.chipdb_lines.specs.declared.cause.Refusal.{Refusal}
-use Rattle.chipdb_lines.specs.declared.cause.Refusal.TheVariants.{Cause, Memory}
+use Rattle.chipdb_lines.specs.declared.cause.DbLineRefusal.{DbLineRefusal}
+use Rattle.chipdb_lines.specs.declared.cause.DbLineRefusal.TheVariants.{Cause, Memory}
 use Rattle.chipdb_lines.specs.Kept.{Reports}
 use Rattle.chipdb_lines.specs.Spans.{bits_in, AddsSpan}
 use Rattle.std.specs.List.{list_all}
@@ -126,7 +126,7 @@ told_by columns old bits words left rest word (Some bit) told added split is tel
 told_by columns old bits words left rest word None told added split is tells = ap result_err (Added-unnamed columns old bits words left rest word added split is) ∙ tells
 
 -- what is reported of a word that names no bit
-pub told-unnamed : (columns : ℕ) (old bits : List RowCol) (words left rest : List (List ℕ)) (word : List ℕ) (refusal : Refusal)
+pub told-unnamed : (columns : ℕ) (old bits : List RowCol) (words left rest : List (List ℕ)) (word : List ℕ) (refusal : DbLineRefusal)
     → Added columns old bits words left → left ≡ word ∷ rest → Reports (cond (is_some (bit_of word)) None (Some BitName)) refusal
     → Reports (result_err (tile_bits_of columns words)) refusal
 told-unnamed columns old bits words left rest word (Cause told) added split tells = told_by columns old bits words left rest word (bit_of word) told added split refl tells

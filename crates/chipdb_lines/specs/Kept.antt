@@ -4,8 +4,8 @@ use Rattle.std.specs.Result.{result_err, MatchResult}
 use Rattle.bit_plane.specs.BitList.{word_bits}
 use Rattle.plane_map.specs.declared.tile.RowCol.{RowCol}
 use Rattle.chipdb_lines.specs.declared.cause.DbCause.{DbCause}
-use Rattle.chipdb_lines.specs.declared.cause.Refusal.{Refusal}
-use Rattle.chipdb_lines.specs.declared.cause.Refusal.TheVariants.{Cause, Memory}
+use Rattle.chipdb_lines.specs.declared.cause.DbLineRefusal.{DbLineRefusal}
+use Rattle.chipdb_lines.specs.declared.cause.DbLineRefusal.TheVariants.{Cause, Memory}
 use Rattle.chipdb_lines.specs.declared.bits.BitList.{BitList}
 use Rattle.chipdb_lines.specs.declared.links.LinkHead.{LinkHead as KeptHead}
 use Rattle.chipdb_lines.specs.declared.links.Choice.{Choice}
@@ -87,12 +87,12 @@ AddsBelow old new (Routings head) = AddsHead old new head
 AddsBelow old new below = new ≡ old
 
 -- the reported cause is that one; out of memory may come in place of any answer
-abbrev pub Reports : Option DbCause → Refusal → Type 0
+abbrev pub Reports : Option DbCause → DbLineRefusal → Type 0
 Reports cause (Cause told) = cause ≡ Some told
 Reports cause (Memory e) = Unit {0}
 
 -- the result is what the line says, or what is wrong with it, or out of memory
-abbrev pub Tells : {A B : Type 0} → Result A DbCause → (B → A) → Result B Refusal → Type 0
+abbrev pub Tells : {A B : Type 0} → Result A DbCause → (B → A) → Result B DbLineRefusal → Type 0
 Tells said meaning told = MatchResult told (λ item. said ≡ Ok (meaning item)) (Reports (result_err said))
 
 -- the result is what the line says, or what is wrong with it; no memory is taken

@@ -11,7 +11,7 @@ ghost use Rattle.chipdb_lines.specs.Kept.{bits_named, AddsList, NamesBit, Report
 ghost use Rattle.text_lines.specs.Words.{number_of};
 ghost use Rattle.chipdb_lines.specs.declared.cause.DbCause.TheVariants.{BitName, BitRange};
 
-use crate::cause::{DbCause, Refusal};
+use crate::cause::{DbCause, DbLineRefusal};
 use plane_map::RowCol;
 use std::alloc::{AllocError, Global};
 use std::marker::Model;
@@ -74,7 +74,7 @@ impl BitTable {
 
     /// Adds the list of the bits that the words name. These are at most 64 bits of a tile with `columns` columns of bits. After an error
     /// the table is as it was.
-    pub(crate) fn add(&mut self, columns: usize, words: &[u8]) -> Result<BitList, Refusal>
+    pub(crate) fn add(&mut self, columns: usize, words: &[u8]) -> Result<BitList, DbLineRefusal>
         requires columns { columns ≤ 256 }
         requires room { length self.old < 2 ^ 32 - 1 }
         ensures added { IfOk result (AddsList self.old self.new) }
@@ -114,7 +114,7 @@ fn bits_of(bits: &[RowCol], span: Span) -> &[RowCol]
 
 /// Adds the bits that the words name to a table. These are at most 64 bits of a tile with `columns` columns of bits. After an error the
 /// table is as it was.
-fn push_bits(bits: &mut Vec<RowCol>, columns: usize, words: &[u8]) -> Result<Span, Refusal>
+fn push_bits(bits: &mut Vec<RowCol>, columns: usize, words: &[u8]) -> Result<Span, DbLineRefusal>
     requires { columns ≤ 256 }
     ensures added { IfOk result (AddsSpan bits.old.items bits.new.items) }
     ensures named { Tells (tile_bits_of columns (words_in words.now)) (bits_in bits.new.items) result }
@@ -130,7 +130,7 @@ fn push_bits(bits: &mut Vec<RowCol>, columns: usize, words: &[u8]) -> Result<Spa
 
 /// Adds the bits that the words name, one by one, to a table. After an error some of the bits may have been added.
 #[tactic(auto, unfolding(crate::specs::Statements::tile_bits_of))]
-fn push_each(bits: &mut Vec<RowCol>, columns: usize, words: &[u8]) -> Result<Span, Refusal>
+fn push_each(bits: &mut Vec<RowCol>, columns: usize, words: &[u8]) -> Result<Span, DbLineRefusal>
     requires { columns ≤ 256 }
     ensures grown { Extends bits.old.items bits.new.items }
     ensures added { IfOk result (AddsSpan bits.old.items bits.new.items) }
@@ -140,7 +140,7 @@ fn push_each(bits: &mut Vec<RowCol>, columns: usize, words: &[u8]) -> Result<Spa
     let mut left = words;
     while let Some(next) = next_bit(left) {
         if !push_bit(bits, columns, next.bit)? {
-            return Err(Refusal::Cause(cause_before(next.rest)));
+            return Err(DbLineRefusal::Cause(cause_before(next.rest)));
         }
         left = next.rest;
     }
@@ -151,7 +151,7 @@ fn push_each(bits: &mut Vec<RowCol>, columns: usize, words: &[u8]) -> Result<Spa
             count: count as u8,
         })
     } else {
-        Err(Refusal::Cause(DbCause::CellBits))
+        Err(DbLineRefusal::Cause(DbCause::CellBits))
     }
 }
 
@@ -160,7 +160,7 @@ fn push_bit(
     bits: &mut Vec<RowCol>,
     columns: usize,
     bit: Option<(u32, u32)>,
-) -> Result<bool, Refusal>
+) -> Result<bool, DbLineRefusal>
     requires { columns ≤ 256 }
     ensures named { (word : List ℕ) → NamesBit word bit → MatchResult result
         (λ is_there. MatchBool is_there
@@ -170,7 +170,7 @@ fn push_bit(
     ensures unchanged { OnErr result (bits.new.items ≡ bits.old.items) }
 {
     match bit {
-        None => Err(Refusal::Cause(DbCause::BitName)),
+        None => Err(DbLineRefusal::Cause(DbCause::BitName)),
         Some((row, col)) if row < 16 && (col as usize) < columns => {
             bits.push(RowCol {
                 row: row as u8,

@@ -47,17 +47,17 @@ pub enum DbCause {
 
 /// Why a line is refused: what is wrong with it, or out of memory.
 #[derive(Clone, Copy, Debug, PartialEq, Eq)]
-pub enum Refusal {
+pub enum DbLineRefusal {
     Cause(DbCause),
     Memory(AllocError),
 }
 
-impl From<AllocError> for Refusal {
-    ghost use Rattle.chipdb_lines.specs.declared.cause.Refusal.TheVariants.{Memory};
+impl From<AllocError> for DbLineRefusal {
+    ghost use Rattle.chipdb_lines.specs.declared.cause.DbLineRefusal.TheVariants.{Memory};
 
     ghost from_gives = { λ e refusal. refusal ≡ Memory e };
 
-    fn from(e: AllocError) -> Refusal {
-        Refusal::Memory(e)
+    fn from(e: AllocError) -> DbLineRefusal {
+        DbLineRefusal::Memory(e)
     }
 }

@@ -7,7 +7,7 @@ ghost use Rattle.chipdb_lines.specs.Items.{cell_names, extra_of, function_of, fu
 ghost use Rattle.chipdb_lines.specs.Kept.{extra_named, function_named, AddsList, Reads, Tells};
 
 use crate::bits::{BitList, BitTable};
-use crate::cause::{DbCause, Refusal};
+use crate::cause::{DbCause, DbLineRefusal};
 use crate::words::has_no_word;
 use plane_map::{DeviceName, Place, TileKind, tile_width};
 use text_lines::{Separators, split_word, three_numbers};
@@ -36,14 +36,14 @@ pub fn function_item<'a>(
     kind: TileKind,
     words: &'a [u8],
     bits: &mut BitTable,
-) -> Result<FunctionItem<'a>, Refusal>
+) -> Result<FunctionItem<'a>, DbLineRefusal>
     requires { length bits.old < 2 ^ 32 - 1 }
     ensures unchanged { OnErr result (bits.new ≡ bits.old) }
     ensures added { IfOk result (λ item. AddsList bits.old bits.new item.bits) }
     ensures says { Tells (function_of kind (words_in words.now)) (function_named kind bits.new) result }
 {
     match split_word(Separators::SpacesAndTabs, words) {
-        None => Err(Refusal::Cause(DbCause::Number)),
+        None => Err(DbLineRefusal::Cause(DbCause::Number)),
         Some((name, behind)) => named_function(kind, name, behind, bits),
     }
 }
@@ -55,19 +55,19 @@ fn named_function<'a>(
     name: &'a [u8],
     words: &[u8],
     bits: &mut BitTable,
-) -> Result<FunctionItem<'a>, Refusal>
+) -> Result<FunctionItem<'a>, DbLineRefusal>
     requires { length bits.old < 2 ^ 32 - 1 }
     ensures unchanged { OnErr result (bits.new ≡ bits.old) }
     ensures added { IfOk result (λ item. AddsList bits.old bits.new item.bits) }
     ensures says { Tells (function_of_bits kind name.now (words_in words.now)) (function_named kind bits.new) result }
 {
     if has_no_word(words) {
-        return Err(Refusal::Cause(DbCause::Number));
+        return Err(DbLineRefusal::Cause(DbCause::Number));
     }
     let list = bits.add(tile_width(kind), words)?;
     if is_cell(kind, name) && bits.get(list).len() != 20 {
         bits.remove_last();
-        Err(Refusal::Cause(DbCause::CellBits))
+        Err(DbLineRefusal::Cause(DbCause::CellBits))
     } else {
         Ok(FunctionItem { name, bits: list })
     }

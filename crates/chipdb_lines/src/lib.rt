@@ -17,7 +17,7 @@ mod statements;
 mod words;
 
 pub use bits::{BitList, BitTable};
-pub use cause::{DbCause, Refusal};
+pub use cause::{DbCause, DbLineRefusal};
 pub use chip::Chip;
 pub use functions::{ExtraItem, FunctionItem, extra_item, function_item};
 pub use globals::{GlobalInput, GlobalPin, global_input, global_pin};

@@ -9,7 +9,7 @@ ghost use Rattle.chipdb_lines.specs.Items.{choice_by, choice_of};
 ghost use Rattle.chipdb_lines.specs.Kept.{choice_named, head_named, AddsHead, HasChoice, IsChoiceLine, Reads, Tells, WritesValues};
 
 use crate::bits::{BitList, BitTable};
-use crate::cause::{DbCause, Refusal};
+use crate::cause::{DbCause, DbLineRefusal};
 use crate::chip::Chip;
 use crate::words::has_no_word;
 use plane_map::{TileKind, kind_on, tile_width};
@@ -35,7 +35,11 @@ pub struct Choice {
 }
 
 /// Reads the words `X Y DST BIT ...`, and adds the list of the bits to the table.
-pub(crate) fn link_head(chip: Chip, words: &[u8], bits: &mut BitTable) -> Result<LinkHead, Refusal>
+pub(crate) fn link_head(
+    chip: Chip,
+    words: &[u8],
+    bits: &mut BitTable,
+) -> Result<LinkHead, DbLineRefusal>
     requires { length bits.old < 2 ^ 32 - 1 }
     ensures unchanged { OnErr result (bits.new ≡ bits.old) }
     ensures added { IfOk result (AddsHead bits.old bits.new) }
@@ -85,17 +89,17 @@ fn head_behind_space(words: &[u8]) -> Option<UsualHead<'_>>
 
 /// Reads the words `X Y DST BIT ...`, with any separators.
 #[tactic(auto, unfolding(crate::specs::Statements::link_of_words, text_lines::specs::Words::numbers_of))]
-fn spaced_head(chip: Chip, words: &[u8], bits: &mut BitTable) -> Result<LinkHead, Refusal>
+fn spaced_head(chip: Chip, words: &[u8], bits: &mut BitTable) -> Result<LinkHead, DbLineRefusal>
     requires { length bits.old < 2 ^ 32 - 1 }
     ensures unchanged { OnErr result (bits.new ≡ bits.old) }
     ensures added { IfOk result (AddsHead bits.old bits.new) }
     ensures says { Tells (link_of_words chip (words_in words.now)) (head_named bits.new) result }
 {
     match head_words(words) {
-        None => Err(Refusal::Cause(DbCause::Number)),
+        None => Err(DbLineRefusal::Cause(DbCause::Number)),
         Some(head) => match (number(head.x), number(head.y), number(head.dst)) {
             (Some(x), Some(y), Some(dst)) => link_into(chip, x, y, dst, head.bits, bits),
-            _ => Err(Refusal::Cause(DbCause::Number)),
+            _ => Err(DbLineRefusal::Cause(DbCause::Number)),
         },
     }
 }
@@ -136,14 +140,14 @@ fn link_into(
     dst: u32,
     words: &[u8],
     bits: &mut BitTable,
-) -> Result<LinkHead, Refusal>
+) -> Result<LinkHead, DbLineRefusal>
     requires { length bits.old < 2 ^ 32 - 1 }
     ensures unchanged { OnErr result (bits.new ≡ bits.old) }
     ensures added { IfOk result (AddsHead bits.old bits.new) }
     ensures says { Tells (link_at chip.nets x y dst (kind_of chip.device x y) (words_in words.now)) (head_named bits.new) result }
 {
     match kind_on(chip.device, x, y) {
-        None => Err(Refusal::Cause(DbCause::TileKind)),
+        None => Err(DbLineRefusal::Cause(DbCause::TileKind)),
         Some(kind) if dst < chip.nets => {
             let list = bits.add(tile_width(kind), words)?;
             Ok(LinkHead {
@@ -154,7 +158,7 @@ fn link_into(
                 count: bits.get(list).len() as u8,
             })
         }
-        Some(_) => Err(Refusal::Cause(DbCause::NetRange)),
+        Some(_) => Err(DbLineRefusal::Cause(DbCause::NetRange)),
     }
 }
 

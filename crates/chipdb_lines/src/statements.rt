@@ -7,7 +7,7 @@ ghost use Rattle.chipdb_lines.specs.Statements.{alone, block_by, block_of, block
 ghost use Rattle.chipdb_lines.specs.Kept.{block_named, AddsBelow, Tells};
 
 use crate::bits::BitTable;
-use crate::cause::{DbCause, Refusal};
+use crate::cause::{DbCause, DbLineRefusal};
 use crate::chip::{Chip, chip_of};
 use crate::keyword::{Keyword, keyword_of};
 use crate::kinds::is_kind_at;
@@ -46,7 +46,11 @@ pub enum Below {
 /// `Cause` with what `statement_of` says of the words: `NoDevice`, `Device`, `Number`, `TileKind`, `NetRange`, `BitName`, `BitRange` or
 /// `CellBits`. `Memory` if memory is out. Then the table is as it was.
 #[tactic(auto, unfolding(crate::specs::Statements::statement_of))]
-pub fn statement(chip: Option<Chip>, line: &[u8], bits: &mut BitTable) -> Result<Below, Refusal>
+pub fn statement(
+    chip: Option<Chip>,
+    line: &[u8],
+    bits: &mut BitTable,
+) -> Result<Below, DbLineRefusal>
     requires { length bits.old < 2 ^ 32 - 1 }
     ensures unchanged { OnErr result (bits.new ≡ bits.old) }
     ensures added { IfOk result (AddsBelow bits.old bits.new) }
@@ -64,7 +68,7 @@ fn below_keyword(
     keyword: Option<Keyword>,
     words: &[u8],
     bits: &mut BitTable,
-) -> Result<Below, Refusal>
+) -> Result<Below, DbLineRefusal>
     requires { length bits.old < 2 ^ 32 - 1 }
     ensures unchanged { OnErr result (bits.new ≡ bits.old) }
     ensures added { IfOk result (AddsBelow bits.old bits.new) }
@@ -80,16 +84,16 @@ fn below_keyword(
 }
 
 /// Reads a statement before which no device was given.
-fn below_none(keyword: Keyword, words: &[u8]) -> Result<Below, Refusal>
+fn below_none(keyword: Keyword, words: &[u8]) -> Result<Below, DbLineRefusal>
     ensures added { (bits : List (List Bit)) → IfOk result (AddsBelow bits bits) }
     ensures says { (bits : List (List Bit)) → Tells (block_without keyword (words_in words.now)) (block_named bits) result }
 {
     match keyword {
         Keyword::Device => match chip_of(words) {
-            None => Err(Refusal::Cause(DbCause::Device)),
+            None => Err(DbLineRefusal::Cause(DbCause::Device)),
             Some(chip) => Ok(Below::Device(chip)),
         },
-        _ => Err(Refusal::Cause(DbCause::NoDevice)),
+        _ => Err(DbLineRefusal::Cause(DbCause::NoDevice)),
     }
 }
 
@@ -100,14 +104,14 @@ fn below_chip(
     keyword: Keyword,
     words: &[u8],
     bits: &mut BitTable,
-) -> Result<Below, Refusal>
+) -> Result<Below, DbLineRefusal>
     requires { length bits.old < 2 ^ 32 - 1 }
     ensures unchanged { OnErr result (bits.new ≡ bits.old) }
     ensures added { IfOk result (AddsBelow bits.old bits.new) }
     ensures says { Tells (block_of chip keyword (words_in words.now)) (block_named bits.new) result }
 {
     match keyword {
-        Keyword::Device => Err(Refusal::Cause(DbCause::Device)),
+        Keyword::Device => Err(DbLineRefusal::Cause(DbCause::Device)),
         Keyword::GlobalInputs => alone(Below::GlobalInputs, words),
         Keyword::GlobalPins => alone(Below::GlobalPins, words),
         Keyword::Tile(kind) => tile(chip.device, kind, words),
@@ -126,51 +130,51 @@ fn below_chip(
 }
 
 /// Reads a statement of one word.
-fn alone(below: Below, words: &[u8]) -> Result<Below, Refusal>
+fn alone(below: Below, words: &[u8]) -> Result<Below, DbLineRefusal>
     ensures same { IfOk result (λ found. found ≡ below) }
     ensures says { (bits : List (List Bit)) → Tells (alone (block_named bits below) (words_in words.now)) (block_named bits) result }
 {
     if has_no_word(words) {
         Ok(below)
     } else {
-        Err(Refusal::Cause(DbCause::Number))
+        Err(DbLineRefusal::Cause(DbCause::Number))
     }
 }
 
 /// `.io_tile X Y`, `.logic_tile X Y`, `.ramb_tile X Y` or `.ramt_tile X Y`
-fn tile(device: DeviceName, kind: TileKind, words: &[u8]) -> Result<Below, Refusal>
+fn tile(device: DeviceName, kind: TileKind, words: &[u8]) -> Result<Below, DbLineRefusal>
     ensures added { (bits : List (List Bit)) → IfOk result (AddsBelow bits bits) }
     ensures says { (bits : List (List Bit)) → Tells (tile_of_numbers device kind (numbers_of (words_in words.now))) (block_named bits) result }
 {
     match two_numbers(Separators::SpacesAndTabs, words) {
-        None => Err(Refusal::Cause(DbCause::Number)),
+        None => Err(DbLineRefusal::Cause(DbCause::Number)),
         Some((x, y)) if is_kind_at(device, kind, x, y) => Ok(Below::Passed),
-        Some(_) => Err(Refusal::Cause(DbCause::TileKind)),
+        Some(_) => Err(DbLineRefusal::Cause(DbCause::TileKind)),
     }
 }
 
 /// `.io_tile_bits COLUMNS ROWS`, and the same for the other kinds of tiles
-fn functions(kind: TileKind, words: &[u8]) -> Result<Below, Refusal>
+fn functions(kind: TileKind, words: &[u8]) -> Result<Below, DbLineRefusal>
     ensures added { (bits : List (List Bit)) → IfOk result (AddsBelow bits bits) }
     ensures says { (bits : List (List Bit)) → Tells (tile_bits_of_numbers kind (numbers_of (words_in words.now))) (block_named bits) result }
 {
     match two_numbers(Separators::SpacesAndTabs, words) {
-        None => Err(Refusal::Cause(DbCause::Number)),
+        None => Err(DbLineRefusal::Cause(DbCause::Number)),
         Some((columns, rows)) if columns as usize == tile_width(kind) && rows == 16 => {
             Ok(Below::Functions(kind))
         }
-        Some(_) => Err(Refusal::Cause(DbCause::TileKind)),
+        Some(_) => Err(DbLineRefusal::Cause(DbCause::TileKind)),
     }
 }
 
 /// `.net N`
-fn net(nets: u32, words: &[u8]) -> Result<Below, Refusal>
+fn net(nets: u32, words: &[u8]) -> Result<Below, DbLineRefusal>
     ensures added { (bits : List (List Bit)) → IfOk result (AddsBelow bits bits) }
     ensures says { (bits : List (List Bit)) → Tells (names_block (net_of_numbers nets (numbers_of (words_in words.now)))) (block_named bits) result }
 {
     match one_number(Separators::SpacesAndTabs, words) {
-        None => Err(Refusal::Cause(DbCause::Number)),
+        None => Err(DbLineRefusal::Cause(DbCause::Number)),
         Some(net) if net < nets => Ok(Below::Names(net)),
-        Some(_) => Err(Refusal::Cause(DbCause::NetRange)),
+        Some(_) => Err(DbLineRefusal::Cause(DbCause::NetRange)),
     }
 }

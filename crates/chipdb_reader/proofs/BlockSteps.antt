@@ -3,8 +3,8 @@ use Rattle.std.proofs.Common.{◌≡◌, ℕ, ◌+◌, true, false, List, [], dr
 use Rattle.std.specs.Prelude.{Option, Some, None, Result, Ok}
 use Rattle.std.specs.Result.{result_unwrap_or}
 use Rattle.text_lines.specs.Lines.{line_at}
-use Rattle.place_search.specs.Places.{or_else}
-use Rattle.place_search.proofs.Places.{last_below-more, first_below-more, or_else-none}
+use Rattle.index_search.specs.Places.{or_else}
+use Rattle.index_search.proofs.Places.{last_below-more, first_below-more, or_else-none}
 use Rattle.chipdb_lines.specs.declared.cause.DbCause.{DbCause}
 use Rattle.chipdb_lines.specs.declared.chip.Chip.{Chip}
 use Rattle.chipdb_lines.specs.declared.keyword.Keyword.{Keyword}

@@ -5,15 +5,15 @@ use Rattle.std.proofs.lemmas.Bool.{le-leb}
 use Rattle.std.proofs.lemmas.List.Elements.{All-nil}
 use Rattle.std.proofs.Math.Seq.{get_or-append_seam}
 use Rattle.text_lines.specs.Lines.{line_at, lines_of}
-use Rattle.place_search.specs.Places.{any_below, last_below, first_below, gathered_below}
-use Rattle.place_search.proofs.Places.{first_below-first, first_below-none}
+use Rattle.index_search.specs.Places.{any_below, last_below, first_below, gathered_below}
+use Rattle.index_search.proofs.Places.{first_below-first, first_below-none}
 use Rattle.chipdb_lines.specs.declared.cause.DbCause.{DbCause}
 use Rattle.chipdb_lines.specs.declared.cause.DbCause.TheVariants.{NoDevice}
 use Rattle.chipdb_lines.specs.declared.chip.Chip.{Chip}
 use Rattle.chipdb_lines.specs.Kept.{block_named}
 use Rattle.chipdb_reader.specs.declared.fault.DbFault.{DbFault}
 use Rattle.chipdb_reader.specs.declared.fault.DbFault.TheVariants.{At, Memory}
-use Rattle.chipdb_reader.specs.declared.reading.Reader.{Reader}
+use Rattle.chipdb_reader.specs.declared.reading.DatabaseState.{DatabaseState}
 use Rattle.chipdb_reader.specs.Blocks.{chip_before, statement_over, block_over}
 use Rattle.chipdb_reader.specs.Database.{database_of}
 use Rattle.chipdb_reader.specs.Faults.{Fault, DbMeans, Tells, cause_at, db_fault_of, end_cause, fault_of_lines, fault_with, is_net_before}
@@ -30,7 +30,7 @@ use Rattle.chipdb_reader.proofs.LineSteps.{Taken, line-taken, line-refused}
 -- ---- the lines so far
 
 -- nothing was read
-pub unread-holds : (reader : Reader) (lines : List (List ℕ)) → IsUnread reader → Holds reader lines 0
+pub unread-holds : (reader : DatabaseState) (lines : List (List ℕ)) → IsUnread reader → Holds reader lines 0
 unfolding chip_before statement_over block_over is_net_before any_below last_below first_below gathered_below
 unread-holds reader lines unread =
     let below = unread.below in
@@ -59,11 +59,11 @@ unread-holds reader lines unread =
       few_lists = let none : length reader.bits ≡ 0 = ap length unread.bits in omega arith;
     }
 
-pub HasRead-nothing : (reader : Reader) → IsUnread reader → HasRead [] reader
+pub HasRead-nothing : (reader : DatabaseState) → IsUnread reader → HasRead [] reader
 HasRead-nothing reader unread = record { holds = λ more. unread-holds reader more unread; sound = λ more k lt. absurd (omega arith) }
 
 -- one line more was read
-pub HasRead-more : (lines : List (List ℕ)) (line : List ℕ) (old new : Reader) → HasRead lines old → TakesLine old line new → HasRead (lines ++ (line ∷ [])) new
+pub HasRead-more : (lines : List (List ℕ)) (line : List ℕ) (old new : DatabaseState) → HasRead lines old → TakesLine old line new → HasRead (lines ++ (line ∷ [])) new
 HasRead-more lines line old new before taken =
     let n = length lines in
     let count : length (lines ++ (line ∷ [])) ≡ n + 1 = length-append lines (line ∷ []) in
@@ -90,7 +90,7 @@ fault-at lines count cause within sound here =
     (λ j lt. ap (fault_with (j + 1)) (sound j lt)) (ap (fault_with (count + 1)) here)
 
 -- a line that isn't taken is the first faulty one, whatever lines follow
-pub HasRead-told : (lines more : List (List ℕ)) (line : List ℕ) (reader : Reader) (fault : DbFault) → HasRead lines reader → FaultOf (length lines + 1) (RefusesLine reader line) fault → Tells (fault_of_lines (lines ++ (line ∷ more))) fault
+pub HasRead-told : (lines more : List (List ℕ)) (line : List ℕ) (reader : DatabaseState) (fault : DbFault) → HasRead lines reader → FaultOf (length lines + 1) (RefusesLine reader line) fault → Tells (fault_of_lines (lines ++ (line ∷ more))) fault
 HasRead-told lines more line reader (At number cause) before told =
     let all = lines ++ (line ∷ more) in
     let n = length lines in
@@ -103,10 +103,10 @@ HasRead-told lines more line reader (Memory e) before told = tt
 -- ---- the end
 
 -- all lines were read
-pub ended-holds : (lines : List (List ℕ)) (reader : Reader) → HasRead lines reader → Holds reader lines (length lines)
+pub ended-holds : (lines : List (List ℕ)) (reader : DatabaseState) → HasRead lines reader → Holds reader lines (length lines)
 ended-holds lines reader before = subst (λ (ls : List (List ℕ)). Holds reader ls (length lines)) (append-nil lines) (before.holds [])
 
-ended-sound : (lines : List (List ℕ)) (reader : Reader) → HasRead lines reader → (k : ℕ) → k < length lines → cause_at lines k ≡ None
+ended-sound : (lines : List (List ℕ)) (reader : DatabaseState) → HasRead lines reader → (k : ℕ) → k < length lines → cause_at lines k ≡ None
 ended-sound lines reader before k lt = subst (λ (ls : List (List ℕ)). cause_at ls k ≡ None) (append-nil lines) (before.sound [] k lt)
 
 -- the cause at the end
@@ -121,7 +121,7 @@ no-fault lines sound end =
     first_below-none (length lines + 1) (λ n. fault_with (n + 1) (cause_at lines n)) (λ k lt. ap (fault_with (k + 1)) (below_more (λ j. cause_at lines j ≡ None) (length lines) sound end k lt))
 
 -- what was read is what the lines give
-read-database : (reader : Reader) (lines : List (List ℕ)) (chip : Chip) (kept : Kept) → Holds reader lines (length lines) → FitsReader chip reader kept → database_in kept ≡ database_of chip lines
+read-database : (reader : DatabaseState) (lines : List (List ℕ)) (chip : Chip) (kept : Kept) → Holds reader lines (length lines) → FitsReader chip reader kept → database_in kept ≡ database_of chip lines
 unfolding database_of
 read-database reader lines chip kept holds fits = λ i. record {
   chip = fits.chip_is i;
@@ -135,7 +135,7 @@ read-database reader lines chip kept holds fits = λ i. record {
 }
 
 -- a database that is answered is what the text means
-means-by : (text : List ℕ) (reader : Reader) (chip : Chip) (kept : Kept) → HasRead (lines_of text) reader → reader.chip ≡ Some chip → FitsReader chip reader kept → DbMeans text (database_in kept)
+means-by : (text : List ℕ) (reader : DatabaseState) (chip : Chip) (kept : Kept) → HasRead (lines_of text) reader → reader.chip ≡ Some chip → FitsReader chip reader kept → DbMeans text (database_in kept)
 unfolding db_fault_of
 means-by text reader chip kept before given fits =
     let lines = lines_of text in
@@ -148,7 +148,7 @@ means-by text reader chip kept before given fits =
     }
 
 -- a text without a device
-no-device : (text : List ℕ) (reader : Reader) → HasRead (lines_of text) reader → reader.chip ≡ None → db_fault_of text ≡ Some (record { line = length (lines_of text) + 1; cause = NoDevice })
+no-device : (text : List ℕ) (reader : DatabaseState) → HasRead (lines_of text) reader → reader.chip ≡ None → db_fault_of text ≡ Some (record { line = length (lines_of text) + 1; cause = NoDevice })
 unfolding db_fault_of
 no-device text reader before none =
     let lines = lines_of text in
@@ -160,13 +160,13 @@ tells-memory fault (At line cause) is = absurd is
 tells-memory fault (Memory e) is = tt
 
 -- the answer at the end, if it is a database
-answered-by : (text : List ℕ) (count : ℕ) (reader : Reader) (chip : Option Chip) (answer : Result Kept DbFault) → HasRead (lines_of text) reader → reader.chip ≡ chip → EndsReading reader chip (count + 1) answer
+answered-by : (text : List ℕ) (count : ℕ) (reader : DatabaseState) (chip : Option Chip) (answer : Result Kept DbFault) → HasRead (lines_of text) reader → reader.chip ≡ chip → EndsReading reader chip (count + 1) answer
     → IfOk answer (λ kept. DbMeans text (database_in kept))
 answered-by text count reader None answer before given ends = rw ends tt
 answered-by text count reader (Some chip) (Ok kept) before given ends = means-by text reader chip kept before given ends
 answered-by text count reader (Some chip) (Err fault) before given ends = tt
 
-refused-by : (text : List ℕ) (count : ℕ) (reader : Reader) (chip : Option Chip) (answer : Result Kept DbFault) → HasRead (lines_of text) reader → count ≡ length (lines_of text) → reader.chip ≡ chip → EndsReading reader chip (count + 1) answer
+refused-by : (text : List ℕ) (count : ℕ) (reader : DatabaseState) (chip : Option Chip) (answer : Result Kept DbFault) → HasRead (lines_of text) reader → count ≡ length (lines_of text) → reader.chip ≡ chip → EndsReading reader chip (count + 1) answer
     → IfErr answer (Tells (db_fault_of text))
 refused-by text count reader None answer before all given ends =
     rw ends (no-device text reader before given ∙ ap (λ k. Some (record { line = k + 1; cause = NoDevice })) (sym all))
@@ -180,7 +180,7 @@ pub refused : (text : List ℕ) (taker : LineReader) (answer : Result Kept DbFau
 refused text taker answer has ends = refused-by text taker.count taker.reader taker.reader.chip answer has.read has.count_is refl ends
 
 -- what is answered at the end is in order
-pub sound-kept : (chip : Chip) (reader : Reader) (kept : Kept) → InRange reader → FitsReader chip reader kept → IsSound kept
+pub sound-kept : (chip : Chip) (reader : DatabaseState) (kept : Kept) → InRange reader → FitsReader chip reader kept → IsSound kept
 sound-kept chip reader kept range fits = record {
   names = rw (fits.names, fits.texts) range.names;
   functions = rw (fits.functions, fits.texts) range.functions;
@@ -191,7 +191,7 @@ sound-kept chip reader kept range fits = record {
 }
 
 -- what is answered at the end is fit
-pub fit-at_end : (lines : List (List ℕ)) (reader : Reader) → HasRead lines reader → (chip : Chip) (kept : Kept) → reader.chip ≡ Some chip → FitsReader chip reader kept → IsFit (database_in kept)
+pub fit-at_end : (lines : List (List ℕ)) (reader : DatabaseState) → HasRead lines reader → (chip : Chip) (kept : Kept) → reader.chip ≡ Some chip → FitsReader chip reader kept → IsFit (database_in kept)
 fit-at_end lines reader before chip kept given fits =
     let holds = ended-holds lines reader before in
     subst IsFit (sym (read-database reader lines chip kept holds fits)) (database-fit chip lines (sym holds.chip ∙ given))

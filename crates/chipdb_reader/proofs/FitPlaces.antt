@@ -1,6 +1,6 @@
 -- What a text means names tiles, bits and nets that its device has.
 use Rattle.std.proofs.Common.{◌≡◌, ℕ, zero, suc, ◌<◌, ◌≤◌, Bool, true, false, ◌&&◌, cond, List, [], ◌∷◌, length, drop, get_or, map, refl, sym, ap, ◌∙◌, inl, inr, arith, subst}
-use Rattle.place_search.proofs.Gathered.{All-gathered_below}
+use Rattle.index_search.proofs.Gathered.{All-gathered_below}
 use Rattle.plane_map.specs.Layout.{kind_of, columns_of}
 use Rattle.std.specs.Prelude.{◌==◌, Option, Some, None, Result, Ok, Err, All}
 use Rattle.std.specs.Result.{result_unwrap_or}
@@ -8,8 +8,8 @@ use Rattle.std.proofs.lemmas.Bool.{cases_lt}
 use Rattle.std.proofs.lemmas.List.Elements.{All-nil, All-cons, All-head, All-tail}
 use Rattle.text_lines.specs.Lines.{line_at}
 use Rattle.text_lines.specs.Words.{numbers_of}
-use Rattle.place_search.specs.Places.{first_below}
-use Rattle.place_search.proofs.Places.{last_below-place}
+use Rattle.index_search.specs.Places.{first_below}
+use Rattle.index_search.proofs.Places.{last_below-place}
 use Rattle.plane_map.specs.declared.tile.TileKind.{TileKind}
 use Rattle.chipdb_lines.specs.declared.cause.DbCause.{DbCause}
 use Rattle.chipdb_lines.specs.declared.cause.DbCause.TheVariants.{TileKind as KindCause}

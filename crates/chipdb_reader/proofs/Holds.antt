@@ -6,15 +6,15 @@ use Rattle.std.proofs.lemmas.Bool.{lt-ltb}
 use Rattle.std.proofs.Math.Bool.{or-false}
 use Rattle.shared_lemmas.proofs.Lists.{append-nothing}
 use Rattle.text_lines.specs.Lines.{line_at}
-use Rattle.place_search.specs.Places.{gathered_below}
-use Rattle.place_search.proofs.Places.{any_below-more, last_below-place, gathered_below-more}
+use Rattle.index_search.specs.Places.{gathered_below}
+use Rattle.index_search.proofs.Places.{any_below-more, last_below-place, gathered_below-more}
 use Rattle.chipdb_lines.specs.declared.statements.Below.{Below}
 use Rattle.chipdb_lines.specs.declared.statements.Below.TheVariants.{Passed, Device, GlobalInputs, GlobalPins, Functions, ExtraBits, Names, Buffers, Routings}
 use Rattle.chipdb_lines.specs.Words.{is_statement}
 use Rattle.chipdb_lines.specs.Statements.{Block, passed, of_device, global_inputs, global_pins, functions, extra_bits, names, buffers, routings}
 use Rattle.chipdb_lines.specs.Items.{LinkChoice}
 use Rattle.chipdb_lines.specs.Kept.{block_named}
-use Rattle.chipdb_reader.specs.declared.reading.Reader.{Reader}
+use Rattle.chipdb_reader.specs.declared.reading.DatabaseState.{DatabaseState}
 use Rattle.chipdb_reader.specs.Blocks.{statement_over, block_over}
 use Rattle.chipdb_reader.specs.Database.{Said, nothing, said_at, any_since, is_chosen_before, new_choices, buffers_in, buffers_at, routings_in, routings_at}
 use Rattle.chipdb_reader.specs.Faults.{is_net_before}
@@ -56,7 +56,7 @@ nets-own lines n net own = any_below-more n _ ∙ rw own (or-false _)
 -- ---- a line that is no statement
 
 -- What holds after a line that is no statement: the lists have grown by what it says.
-pub own-step : (old new : Reader) (lines : List (List ℕ)) (n : ℕ) (said : Said)
+pub own-step : (old new : DatabaseState) (lines : List (List ℕ)) (n : ℕ) (said : Said)
     → is_statement (line_at lines n) ≡ false → said_at lines n ≡ said → Holds old lines n
     → IsReady new → InRange new → ChoicesHold new lines (n + 1) new.below
     → new.chip ≡ old.chip → block_named new.bits new.below ≡ block_named old.bits old.below
@@ -122,7 +122,7 @@ unfolding routings_at
 routings_at-nothing lines n none = ap (routings_in (block_over lines n)) none ∙ routings_in-nothing (block_over lines n)
 
 -- the choices stay if the line has none
-pub choices-kept : (reader : Reader) (lines : List (List ℕ)) (n : ℕ) (below : Below) → is_statement (line_at lines n) ≡ false → (said_at lines n).choices ≡ []
+pub choices-kept : (reader : DatabaseState) (lines : List (List ℕ)) (n : ℕ) (below : Below) → is_statement (line_at lines n) ≡ false → (said_at lines n).choices ≡ []
     → ChoicesHold reader lines n below → ChoicesHold reader lines (n + 1) below
 choices-kept reader lines n (Buffers head) own none holds = record {
   own = holds.own;
@@ -138,7 +138,7 @@ choices-kept reader lines n (Names net) own none holds = tt
 choices-kept reader lines n (Routings head) own none holds = tt
 
 -- a line that says nothing
-pub nothing-step : (reader : Reader) (lines : List (List ℕ)) (n : ℕ) → is_statement (line_at lines n) ≡ false → said_at lines n ≡ nothing → Holds reader lines n → Holds reader lines (n + 1)
+pub nothing-step : (reader : DatabaseState) (lines : List (List ℕ)) (n : ℕ) → is_statement (line_at lines n) ≡ false → said_at lines n ≡ nothing → Holds reader lines n → Holds reader lines (n + 1)
 nothing-step reader lines n own says holds =
     let none : (said_at lines n).choices ≡ [] = ap (λ s. s.choices) says in
     let few : length reader.texts.arena ≤ n = holds.few in

@@ -24,7 +24,7 @@ use Rattle.chipdb_reader.specs.declared.items.Extra.{Extra}
 use Rattle.chipdb_reader.specs.declared.items.NetName.{NetName}
 use Rattle.chipdb_reader.specs.declared.items.LinkLine.{LinkLine}
 use Rattle.chipdb_reader.specs.declared.texts.Texts.{Texts}
-use Rattle.chipdb_reader.specs.declared.reading.Reader.{Reader}
+use Rattle.chipdb_reader.specs.declared.reading.DatabaseState.{DatabaseState}
 use Rattle.chipdb_reader.specs.Blocks.{chip_before, block_over, own_words_at}
 use Rattle.chipdb_reader.specs.Database.{Said, nothing, item, said_at, said_for}
 use Rattle.chipdb_reader.specs.Faults.{cause_at, item_cause}
@@ -54,7 +54,7 @@ cause-is lines n word words chip block lt own is given over =
     rw (inside, own, is, given, over) refl
 
 -- A line with words below a statement.
-pub record At (old : Reader) (lines : List (List ℕ)) (n : ℕ) (chip : Chip) (below : Below) (word : List ℕ) (words : List (List ℕ)) : Type 0 where
+pub record At (old : DatabaseState) (lines : List (List ℕ)) (n : ℕ) (chip : Chip) (below : Below) (word : List ℕ) (words : List (List ℕ)) : Type 0 where
   pub inside : n < length lines
   pub own : is_statement (line_at lines n) ≡ false
   pub holds : Holds old lines n
@@ -63,16 +63,16 @@ pub record At (old : Reader) (lines : List (List ℕ)) (n : ℕ) (chip : Chip) (
   pub is : own_words_at lines n ≡ word ∷ words
 
 -- the block over it
-pub block-at : (old : Reader) (lines : List (List ℕ)) (n : ℕ) (chip : Chip) (below : Below) (word : List ℕ) (words : List (List ℕ)) → At old lines n chip below word words
+pub block-at : (old : DatabaseState) (lines : List (List ℕ)) (n : ℕ) (chip : Chip) (below : Below) (word : List ℕ) (words : List (List ℕ)) → At old lines n chip below word words
     → block_over lines n ≡ block_named old.bits below
 block-at old lines n chip below word words at = sym at.holds.block ∙ ap (block_named old.bits) at.under
 
-pub said-at : (old : Reader) (lines : List (List ℕ)) (n : ℕ) (chip : Chip) (below : Below) (word : List ℕ) (words : List (List ℕ)) → At old lines n chip below word words
+pub said-at : (old : DatabaseState) (lines : List (List ℕ)) (n : ℕ) (chip : Chip) (below : Below) (word : List ℕ) (words : List (List ℕ)) → At old lines n chip below word words
     → said_at lines n ≡ said_for chip (block_named old.bits below) (word ∷ words)
 said-at old lines n chip below word words at =
     said-is lines n word words chip (block_named old.bits below) at.is (sym at.holds.chip ∙ at.given) (block-at old lines n chip below word words at)
 
-pub cause-at : (old : Reader) (lines : List (List ℕ)) (n : ℕ) (chip : Chip) (below : Below) (word : List ℕ) (words : List (List ℕ)) → At old lines n chip below word words
+pub cause-at : (old : DatabaseState) (lines : List (List ℕ)) (n : ℕ) (chip : Chip) (below : Below) (word : List ℕ) (words : List (List ℕ)) → At old lines n chip below word words
     → cause_at lines n ≡ item_cause lines n chip (block_named old.bits below) (word ∷ words)
 cause-at old lines n chip below word words at =
     cause-is lines n word words chip (block_named old.bits below) at.inside at.own at.is (sym at.holds.chip ∙ at.given) (block-at old lines n chip below word words at)
@@ -81,7 +81,7 @@ pub few-more : (n count : ℕ) → count ≤ n → count ≤ n + 1
 few-more n count le = omega arith
 
 -- a `.gbufin` line
-pub input-step : (old : Reader) (inputs : Vec GlobalInput Global) (lines : List (List ℕ)) (n : ℕ) (chip : Chip) (word : List ℕ) (words : List (List ℕ)) → At old lines n chip GlobalInputs word words
+pub input-step : (old : DatabaseState) (inputs : Vec GlobalInput Global) (lines : List (List ℕ)) (n : ℕ) (chip : Chip) (word : List ℕ) (words : List (List ℕ)) → At old lines n chip GlobalInputs word words
     → Pushes (global_input_of chip.device (word ∷ words)) old.global_inputs.items inputs.items → Holds (record old { global_inputs = inputs }) lines (n + 1)
 input-step old inputs lines n chip word words at pushed =
     let said : Said = record nothing { global_inputs = pushed.item ∷ [] } in
@@ -95,7 +95,7 @@ input-step old inputs lines n chip word words at pushed =
     (few-more n _ at.holds.few) (few-more n _ at.holds.few_lists)
 
 -- a `.gbufpin` line
-pub pin-step : (old : Reader) (pins : Vec GlobalPin Global) (lines : List (List ℕ)) (n : ℕ) (chip : Chip) (word : List ℕ) (words : List (List ℕ)) → At old lines n chip GlobalPins word words
+pub pin-step : (old : DatabaseState) (pins : Vec GlobalPin Global) (lines : List (List ℕ)) (n : ℕ) (chip : Chip) (word : List ℕ) (words : List (List ℕ)) → At old lines n chip GlobalPins word words
     → Pushes (global_pin_of chip.device (word ∷ words)) old.global_pins.items pins.items → Holds (record old { global_pins = pins }) lines (n + 1)
 pin-step old pins lines n chip word words at pushed =
     let said : Said = record nothing { global_pins = pushed.item ∷ [] } in
@@ -123,7 +123,7 @@ interned-counts old new text id interned =
     record { more = omega arith; few = omega arith; inside = (text-found new.arena text id interned.here).0 }
 
 -- ids and lists of bits stay in range
-pub in_range-grown : (old : Reader) (texts : Texts) (bits : List (List RowCol)) (more_texts : List (List ℕ)) (more_bits : List (List RowCol))
+pub in_range-grown : (old : DatabaseState) (texts : Texts) (bits : List (List RowCol)) (more_texts : List (List ℕ)) (more_bits : List (List RowCol))
     → texts.arena ≡ old.texts.arena ++ more_texts → bits ≡ old.bits ++ more_bits → InRange old → InRange (record old { texts = texts; bits = bits })
 in_range-grown old texts bits more_texts more_bits texts_grown bits_grown range =
     let count : length texts.arena ≡ length old.texts.arena + length more_texts = ap length texts_grown ∙ length-append old.texts.arena more_texts in
@@ -140,13 +140,13 @@ in_range-grown old texts bits more_texts more_bits texts_grown bits_grown range 
     }
 
 -- lists that say the same as each other
-pub names-kept : (old : Reader) (texts : Texts) (more : List (List ℕ)) → texts.arena ≡ old.texts.arena ++ more → InRange old → name_lines texts.arena (net_names old.nets) ≡ name_lines old.texts.arena (net_names old.nets)
+pub names-kept : (old : DatabaseState) (texts : Texts) (more : List (List ℕ)) → texts.arena ≡ old.texts.arena ++ more → InRange old → name_lines texts.arena (net_names old.nets) ≡ name_lines old.texts.arena (net_names old.nets)
 names-kept old texts more grown range = ap (λ t. name_lines t (net_names old.nets)) grown ∙ names-grown old.texts.arena more (net_names old.nets) range.names
 
-pub extras-kept : (old : Reader) (texts : Texts) (more : List (List ℕ)) → texts.arena ≡ old.texts.arena ++ more → InRange old → extra_lines texts.arena old.extras.items ≡ extra_lines old.texts.arena old.extras.items
+pub extras-kept : (old : DatabaseState) (texts : Texts) (more : List (List ℕ)) → texts.arena ≡ old.texts.arena ++ more → InRange old → extra_lines texts.arena old.extras.items ≡ extra_lines old.texts.arena old.extras.items
 extras-kept old texts more grown range = ap (λ t. extra_lines t old.extras.items) grown ∙ extras-grown old.texts.arena more old.extras.items range.extras
 
-pub functions-kept : (old : Reader) (texts : Texts) (bits : List (List RowCol)) (more_texts : List (List ℕ)) (more_bits : List (List RowCol)) → texts.arena ≡ old.texts.arena ++ more_texts → bits ≡ old.bits ++ more_bits → InRange old
+pub functions-kept : (old : DatabaseState) (texts : Texts) (bits : List (List RowCol)) (more_texts : List (List ℕ)) (more_bits : List (List RowCol)) → texts.arena ≡ old.texts.arena ++ more_texts → bits ≡ old.bits ++ more_bits → InRange old
     → function_lines texts.arena bits old.functions.items ≡ function_lines old.texts.arena old.bits old.functions.items
 functions-kept old texts bits more_texts more_bits texts_grown bits_grown range =
     (λ i. function_lines (texts_grown i) (bits_grown i) old.functions.items) ∙ functions-grown old.texts.arena more_texts old.bits more_bits old.functions.items range.functions range.function_bits
@@ -155,7 +155,7 @@ pub links-kept : (bits new_bits more : List (List RowCol)) (lines : List LinkLin
 links-kept bits new_bits more lines grown all = ap (λ b. link_lines b lines) grown ∙ links-grown bits more lines all
 
 -- a line of functions
-pub function-step : (old new : Reader) (lines : List (List ℕ)) (n : ℕ) (chip : Chip) (kind : TileKind) (word : List ℕ) (words : List (List ℕ)) → At old lines n chip (Functions kind) word words
+pub function-step : (old new : DatabaseState) (lines : List (List ℕ)) (n : ℕ) (chip : Chip) (kind : TileKind) (word : List ℕ) (words : List (List ℕ)) → At old lines n chip (Functions kind) word words
     → PushesFunction kind (word ∷ words) old new → Holds new lines (n + 1)
 function-step old new lines n chip kind word words at pushed =
     let function = pushed.function in
@@ -196,7 +196,7 @@ function-step old new lines n chip kind word words at pushed =
     (sym (append-nil _)) (sym (append-nil _)) (omega arith) (omega arith))
 
 -- a line of extra bits
-pub extra-step : (old new : Reader) (lines : List (List ℕ)) (n : ℕ) (chip : Chip) (word : List ℕ) (words : List (List ℕ)) → At old lines n chip ExtraBits word words
+pub extra-step : (old new : DatabaseState) (lines : List (List ℕ)) (n : ℕ) (chip : Chip) (word : List ℕ) (words : List (List ℕ)) → At old lines n chip ExtraBits word words
     → PushesExtra chip.device (word ∷ words) old new → Holds new lines (n + 1)
 extra-step old new lines n chip word words at pushed =
     let extra = pushed.extra in

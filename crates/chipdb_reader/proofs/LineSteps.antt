@@ -13,7 +13,7 @@ use Rattle.chipdb_lines.specs.declared.statements.Below.TheVariants.{Passed, Dev
 use Rattle.chipdb_lines.specs.Words.{is_statement}
 use Rattle.chipdb_lines.specs.Statements.{Block}
 use Rattle.chipdb_lines.specs.Items.{choice_of}
-use Rattle.chipdb_reader.specs.declared.reading.Reader.{Reader}
+use Rattle.chipdb_reader.specs.declared.reading.DatabaseState.{DatabaseState}
 use Rattle.chipdb_reader.specs.Blocks.{chip_before, block_over, own_words_at}
 use Rattle.chipdb_reader.specs.Database.{nothing, said_at, said_by}
 use Rattle.chipdb_reader.specs.Faults.{cause_at, cause_if, choice_cause, name_cause, own_cause}
@@ -27,7 +27,7 @@ use Rattle.chipdb_reader.proofs.NameSteps.{name-step, name-cause}
 use Rattle.chipdb_reader.proofs.StatementSteps.{statement-step, statement-accepted, statement-refused}
 
 -- what holds after a line, and that the line isn't faulty
-pub record Taken (new : Reader) (lines : List (List ℕ)) (n : ℕ) : Type 0 where
+pub record Taken (new : DatabaseState) (lines : List (List ℕ)) (n : ℕ) : Type 0 where
   pub holds : Holds new lines (n + 1)
   pub sound : cause_at lines n ≡ None
 
@@ -52,7 +52,7 @@ said_by-chipless : (block : Block) (words : List (List ℕ)) → said_by words N
 said_by-chipless block [] = refl
 said_by-chipless block (word ∷ words) = refl
 
-taken-chipless : (old : Reader) (lines : List (List ℕ)) (n : ℕ) → n < length lines → is_statement (line_at lines n) ≡ false → Holds old lines n → old.chip ≡ None → Taken old lines n
+taken-chipless : (old : DatabaseState) (lines : List (List ℕ)) (n : ℕ) → n < length lines → is_statement (line_at lines n) ≡ false → Holds old lines n → old.chip ≡ None → Taken old lines n
 unfolding said_at
 taken-chipless old lines n lt own_line holds none =
     let chip : chip_before lines n ≡ None = sym holds.chip ∙ none in
@@ -61,7 +61,7 @@ taken-chipless old lines n lt own_line holds none =
       sound = cause-own lines n lt own_line ∙ ap (λ c. own_cause lines n c (block_over lines n) (own_words_at lines n)) chip ∙ own_cause-chipless lines n (block_over lines n) (own_words_at lines n);
     }
 
-taken-wordless : (old : Reader) (lines : List (List ℕ)) (n : ℕ) → n < length lines → is_statement (line_at lines n) ≡ false → Holds old lines n → own_words_at lines n ≡ [] → Taken old lines n
+taken-wordless : (old : DatabaseState) (lines : List (List ℕ)) (n : ℕ) → n < length lines → is_statement (line_at lines n) ≡ false → Holds old lines n → own_words_at lines n ≡ [] → Taken old lines n
 unfolding said_at
 taken-wordless old lines n lt own_line holds none = record {
   holds = nothing-step old lines n own_line (ap (λ ws. said_by ws (chip_before lines n) (block_over lines n)) none) holds;
@@ -70,10 +70,10 @@ taken-wordless old lines n lt own_line holds none = record {
 
 -- ---- lines with words
 
-list-of : (old : Reader) (below : Below) → IsReady old → old.below ≡ below → IsBelowReady old.bits old.nets.last below
+list-of : (old : DatabaseState) (below : Below) → IsReady old → old.below ≡ below → IsBelowReady old.bits old.nets.last below
 list-of old below ready under = subst (IsBelowReady old.bits old.nets.last) under ready.below
 
-taken-item : (old new : Reader) (lines : List (List ℕ)) (n : ℕ) (chip : Chip) (below : Below) (word : List ℕ) (words : List (List ℕ)) → At old lines n chip below word words → TakesItem old chip below (word ∷ words) new → Taken new lines n
+taken-item : (old new : DatabaseState) (lines : List (List ℕ)) (n : ℕ) (chip : Chip) (below : Below) (word : List ℕ) (words : List (List ℕ)) → At old lines n chip below word words → TakesItem old chip below (word ∷ words) new → Taken new lines n
 taken-item old new lines n chip Passed word words at same =
     subst (λ r. Taken r lines n) (sym same) (record { holds = nothing-step old lines n at.own (said-at old lines n chip Passed word words at) at.holds; sound = cause-at old lines n chip Passed word words at })
 taken-item old new lines n chip (Device given) word words at same =
@@ -116,7 +116,7 @@ taken-item old new lines n chip (Routings head) word words at taken =
           ∙ ap (λ count. result_err (choice_of chip.nets count (word ∷ words))) (length-bits_named old.bits head is) ∙ ap result_err taken.0.chosen.says;
     })
 
-taken-words : (old new : Reader) (lines : List (List ℕ)) (n : ℕ) (chip : Option Chip) (words : List (List ℕ)) → n < length lines → is_statement (line_at lines n) ≡ false → Holds old lines n → old.chip ≡ chip → own_words_at lines n ≡ words
+taken-words : (old new : DatabaseState) (lines : List (List ℕ)) (n : ℕ) (chip : Option Chip) (words : List (List ℕ)) → n < length lines → is_statement (line_at lines n) ≡ false → Holds old lines n → old.chip ≡ chip → own_words_at lines n ≡ words
     → TakesWords old chip words new → Taken new lines n
 taken-words old new lines n None words lt own_line holds given is same = subst (λ r. Taken r lines n) (sym same) (taken-chipless old lines n lt own_line holds given)
 taken-words old new lines n (Some chip) [] lt own_line holds given is same = subst (λ r. Taken r lines n) (sym same) (taken-wordless old lines n lt own_line holds is)
@@ -124,7 +124,7 @@ taken-words old new lines n (Some chip) (word ∷ words) lt own_line holds given
     taken-item old new lines n chip old.below word words (record { inside = lt; own = own_line; holds = holds; given = given; under = refl; is = is }) taken
 
 -- a line that is taken
-pub line-taken : (old new : Reader) (lines : List (List ℕ)) (n : ℕ) → n < length lines → Holds old lines n → TakesLine old (line_at lines n) new → Taken new lines n
+pub line-taken : (old new : DatabaseState) (lines : List (List ℕ)) (n : ℕ) → n < length lines → Holds old lines n → TakesLine old (line_at lines n) new → Taken new lines n
 line-taken old new lines n lt holds taken =
     elim (cases_Bool (is_statement (line_at lines n))) [
       | inl dot ↦
@@ -135,14 +135,14 @@ line-taken old new lines n lt holds taken =
 
 -- ---- refusals
 
-name-refused : (old : Reader) (lines : List (List ℕ)) (n : ℕ) (chip : Chip) (net : ℕ) (word : List ℕ) (words : List (List ℕ)) (cause : DbCause) → At old lines n chip (Names net) word words
+name-refused : (old : DatabaseState) (lines : List (List ℕ)) (n : ℕ) (chip : Chip) (net : ℕ) (word : List ℕ) (words : List (List ℕ)) (cause : DbCause) → At old lines n chip (Names net) word words
     → NameRefusal chip.device net (word ∷ words) old cause → cause_at lines n ≡ Some cause
 name-refused old lines n chip net word words cause at (name_own told) = cause-at old lines n chip (Names net) word words at ∙ ap (name_cause lines n) told
 name-refused old lines n chip net word words cause at (name_twice named is) =
     name-cause old named.texts lines n chip net named.x named.y named.text named.id word words at named.says named.interned
     ∙ ap (λ b. cause_if b NameTwice) named.named ∙ ap (λ c. Some c) (sym is)
 
-buffer-refused : (old : Reader) (lines : List (List ℕ)) (n : ℕ) (chip : Chip) (head : KeptHead) (word : List ℕ) (words : List (List ℕ)) (cause : DbCause) → At old lines n chip (Buffers head) word words → IsHeadOf old.bits head
+buffer-refused : (old : DatabaseState) (lines : List (List ℕ)) (n : ℕ) (chip : Chip) (head : KeptHead) (word : List ℕ) (words : List (List ℕ)) (cause : DbCause) → At old lines n chip (Buffers head) word words → IsHeadOf old.bits head
     → BufferRefusal chip.nets head (word ∷ words) old cause → cause_at lines n ≡ Some cause
 buffer-refused old lines n chip head word words cause at is (buffer_own told) =
     cause-at old lines n chip (Buffers head) word words at
@@ -150,7 +150,7 @@ buffer-refused old lines n chip head word words cause at is (buffer_own told) =
 buffer-refused old lines n chip head word words cause at is (buffer_twice chosen) =
     buffer-cause_is old lines n chip head word words chosen.choice at is chosen.chosen ∙ chosen.twice
 
-refused-item : (old : Reader) (lines : List (List ℕ)) (n : ℕ) (chip : Chip) (below : Below) (word : List ℕ) (words : List (List ℕ)) (cause : DbCause) → At old lines n chip below word words → RefusesItem old chip below (word ∷ words) cause
+refused-item : (old : DatabaseState) (lines : List (List ℕ)) (n : ℕ) (chip : Chip) (below : Below) (word : List ℕ) (words : List (List ℕ)) (cause : DbCause) → At old lines n chip below word words → RefusesItem old chip below (word ∷ words) cause
     → cause_at lines n ≡ Some cause
 refused-item old lines n chip Passed word words cause at none = absurd none
 refused-item old lines n chip (Device given) word words cause at none = absurd none
@@ -165,7 +165,7 @@ refused-item old lines n chip (Routings head) word words cause at told =
     cause-at old lines n chip (Routings head) word words at
     ∙ ap (λ count. result_err (choice_of chip.nets count (word ∷ words))) (length-bits_named old.bits head (list-of old (Routings head) at.holds.ready at.under)) ∙ told
 
-refused-words : (old : Reader) (lines : List (List ℕ)) (n : ℕ) (chip : Option Chip) (words : List (List ℕ)) (cause : DbCause) → n < length lines → is_statement (line_at lines n) ≡ false → Holds old lines n → old.chip ≡ chip → own_words_at lines n ≡ words
+refused-words : (old : DatabaseState) (lines : List (List ℕ)) (n : ℕ) (chip : Option Chip) (words : List (List ℕ)) (cause : DbCause) → n < length lines → is_statement (line_at lines n) ≡ false → Holds old lines n → old.chip ≡ chip → own_words_at lines n ≡ words
     → RefusesWords old chip words cause → cause_at lines n ≡ Some cause
 refused-words old lines n None words cause lt own_line holds given is none = absurd none
 refused-words old lines n (Some chip) [] cause lt own_line holds given is none = absurd none
@@ -173,7 +173,7 @@ refused-words old lines n (Some chip) (word ∷ words) cause lt own_line holds g
     refused-item old lines n chip old.below word words cause (record { inside = lt; own = own_line; holds = holds; given = given; under = refl; is = is }) told
 
 -- a line that is refused has the reported cause
-pub line-refused : (old : Reader) (lines : List (List ℕ)) (n : ℕ) (cause : DbCause) → n < length lines → Holds old lines n → RefusesLine old (line_at lines n) cause → cause_at lines n ≡ Some cause
+pub line-refused : (old : DatabaseState) (lines : List (List ℕ)) (n : ℕ) (cause : DbCause) → n < length lines → Holds old lines n → RefusesLine old (line_at lines n) cause → cause_at lines n ≡ Some cause
 line-refused old lines n cause lt holds told =
     elim (cases_Bool (is_statement (line_at lines n))) [
       | inl dot ↦ statement-refused old lines n cause lt dot holds (MatchBool-at_true _ _ dot told)

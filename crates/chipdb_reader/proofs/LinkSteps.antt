@@ -24,7 +24,7 @@ use Rattle.chipdb_lines.specs.Items.{LinkChoice, choice_of}
 use Rattle.bit_plane.specs.BitList.{word_bits}
 use Rattle.chipdb_lines.specs.Kept.{block_named, bits_named, choice_named, head_named, Chooses}
 use Rattle.chipdb_reader.specs.declared.items.LinkLine.{LinkLine}
-use Rattle.chipdb_reader.specs.declared.reading.Reader.{Reader}
+use Rattle.chipdb_reader.specs.declared.reading.DatabaseState.{DatabaseState}
 use Rattle.chipdb_reader.specs.Blocks.{block_over}
 use Rattle.chipdb_reader.specs.Buffers.{AddsBuffer, buffer_cause, choice_cause_of, chosen_src, choices_of, with_line}
 use Rattle.chipdb_reader.specs.Database.{Said, nothing, item, said_at, link_of, new_choices, buffers_in, buffers_at, routings_in, routings_at, is_chosen_before, has_same_values, is_same_choice, is_other_choice}
@@ -33,7 +33,7 @@ use Rattle.chipdb_reader.specs.Kept.{link_line, link_lines}
 use Rattle.chipdb_reader.specs.Reading.{IsHeadOf, PushesRouting, PushesBuffer, link_with}
 use Rattle.chipdb_reader.specs.Sound.{IsLinkIn}
 use Rattle.std.proofs.lemmas.List.Folds.{list_any-append}
-use Rattle.place_search.specs.Places.{or_else}
+use Rattle.index_search.specs.Places.{or_else}
 use Rattle.chipdb_reader.proofs.Grown.{length-bits_named, link-in}
 use Rattle.chipdb_reader.specs.Holds.{Holds, ChoicesHold, LastHolds, IsLastLine, kept_choice, last_lines}
 use Rattle.chipdb_reader.proofs.Holds.{chosen-own, own-step}
@@ -94,7 +94,7 @@ choice-read : (nets : ℕ) (bits : List (List RowCol)) (head : KeptHead) (words 
 choice-read nets bits head words choice is chosen = ap (λ count. choice_of nets count words) (length-bits_named bits head is) ∙ chosen.says
 
 -- a line of a `.routing`
-pub routing-step : (old : Reader) (lines_kept : Vec LinkLine Global) (lines : List (List ℕ)) (n : ℕ) (chip : Chip) (head : KeptHead) (word : List ℕ) (words : List (List ℕ)) → At old lines n chip (Routings head) word words
+pub routing-step : (old : DatabaseState) (lines_kept : Vec LinkLine Global) (lines : List (List ℕ)) (n : ℕ) (chip : Chip) (head : KeptHead) (word : List ℕ) (words : List (List ℕ)) → At old lines n chip (Routings head) word words
     → IsHeadOf old.bits head → PushesRouting chip.nets head (word ∷ words) old.routings.items lines_kept.items → Holds (record old { routings = lines_kept }) lines (n + 1)
 unfolding buffers_at routings_at
 routing-step old lines_kept lines n chip head word words at is pushed =
@@ -121,7 +121,7 @@ routing-step old lines_kept lines n chip head word words at is pushed =
 -- ---- buffers
 
 -- some line passes if one of the looked-up values does
-found-passes : (reader : Reader) (head : KeptHead) (test : LinkChoice → Bool) (values src : ℕ) (ls : List LinkLine)
+found-passes : (reader : DatabaseState) (head : KeptHead) (test : LinkChoice → Bool) (values src : ℕ) (ls : List LinkLine)
     → ((l : LinkLine) → IsLastLine reader head l → eqb values l.values ≡ true → l.src ≡ src → test (kept_choice head.count l) ≡ true)
     → All (IsLastLine reader head) ls → lookup (nat_eq values) (choices_of ls) ≡ Some src → list_any test (map (kept_choice head.count) ls) ≡ true
 found-passes reader head test values src [] passes all found = absurd cc
@@ -138,7 +138,7 @@ found-passes reader head test values src (l ∷ ls) passes all found =
     ]
 
 -- no line passes if each fails
-none-passes : (reader : Reader) (head : KeptHead) (test : LinkChoice → Bool) (ls : List LinkLine)
+none-passes : (reader : DatabaseState) (head : KeptHead) (test : LinkChoice → Bool) (ls : List LinkLine)
     → ((l : LinkLine) → IsLastLine reader head l → test (kept_choice head.count l) ≡ false) → All (IsLastLine reader head) ls → list_any test (map (kept_choice head.count) ls) ≡ false
 none-passes reader head test [] fails all = refl
 none-passes reader head test (l ∷ ls) fails all =
@@ -146,12 +146,12 @@ none-passes reader head test (l ∷ ls) fails all =
     or_from (test (kept_choice head.count l)) (list_any test (map (kept_choice head.count) ls)) (fails l (All-head P l ls all)) (none-passes reader head test ls fails (All-tail P l ls all))
 
 -- the values of a line and of a choice
-same-by_number : (reader : Reader) (head : KeptHead) (choice : Choice) (l : LinkLine) → choice.values < 2 ^ head.count → IsLastLine reader head l
+same-by_number : (reader : DatabaseState) (head : KeptHead) (choice : Choice) (l : LinkLine) → choice.values < 2 ^ head.count → IsLastLine reader head l
     → has_same_values (choice_named head.count choice) (kept_choice head.count l) ≡ eqb choice.values l.values
 same-by_number reader head choice l small is = values-same head.count choice.values l.values small is.small
 
 -- a choice whose values no line has
-fails-unchosen : (reader : Reader) (head : KeptHead) (choice : Choice) (l : LinkLine) → choice.values < 2 ^ head.count → chosen_src reader.buffers choice.values ≡ None → IsLastLine reader head l
+fails-unchosen : (reader : DatabaseState) (head : KeptHead) (choice : Choice) (l : LinkLine) → choice.values < 2 ^ head.count → chosen_src reader.buffers choice.values ≡ None → IsLastLine reader head l
     → has_same_values (choice_named head.count choice) (kept_choice head.count l) ≡ false
 fails-unchosen reader head choice l small none is =
     same-by_number reader head choice l small is ∙ ne_eqb choice.values l.values (λ same.
@@ -160,7 +160,7 @@ fails-unchosen reader head choice l small none is =
     cc)
 
 -- a line with the values of a choice has the net that they choose
-src-is : (reader : Reader) (head : KeptHead) (values src : ℕ) (l : LinkLine) → chosen_src reader.buffers values ≡ Some src → IsLastLine reader head l → values ≡ l.values → l.src ≡ src
+src-is : (reader : DatabaseState) (head : KeptHead) (values src : ℕ) (l : LinkLine) → chosen_src reader.buffers values ≡ Some src → IsLastLine reader head l → values ≡ l.values → l.src ≡ src
 src-is reader head values src l chosen is same =
     let both : Some l.src ≡ Some src = sym is.chosen ∙ ap (chosen_src reader.buffers) (sym same) ∙ chosen in cc
 
@@ -174,11 +174,11 @@ is_apart None src = false
 is_apart (Some found) src = not (eqb found src)
 
 -- what the index says about the values of a choice
-pub record Judged (reader : Reader) (lines : List (List ℕ)) (n : ℕ) (head : KeptHead) (choice : Choice) (found : Option ℕ) : Type 0 where
+pub record Judged (reader : DatabaseState) (lines : List (List ℕ)) (n : ℕ) (head : KeptHead) (choice : Choice) (found : Option ℕ) : Type 0 where
   pub equal : is_chosen_before lines n (is_same_choice (choice_named head.count choice)) ≡ is_equal found choice.src
   pub other : is_chosen_before lines n (is_other_choice (choice_named head.count choice)) ≡ is_apart found choice.src
 
-pub judged : (reader : Reader) (lines : List (List ℕ)) (n : ℕ) (head : KeptHead) (choice : Choice) (found : Option ℕ) → LastHolds reader lines n head → choice.values < 2 ^ head.count
+pub judged : (reader : DatabaseState) (lines : List (List ℕ)) (n : ℕ) (head : KeptHead) (choice : Choice) (found : Option ℕ) → LastHolds reader lines n head → choice.values < 2 ^ head.count
     → chosen_src reader.buffers choice.values ≡ found → lookup (nat_eq choice.values) (choices_of (last_lines reader)) ≡ found → Judged reader lines n head choice found
 judged reader lines n head choice None holds small chosen looked = record {
   equal = holds.seen _ ∙ none-passes reader head (is_same_choice (choice_named head.count choice)) (last_lines reader) (λ l is. rw (fails-unchosen reader head choice l small chosen is) refl) holds.own;
@@ -232,24 +232,24 @@ judged reader lines n head choice (Some src) holds small chosen looked =
     ]
 
 -- what a `.buffer` line says
-buffer-said : (old : Reader) (lines : List (List ℕ)) (n : ℕ) (chip : Chip) (head : KeptHead) (word : List ℕ) (words : List (List ℕ)) (choice : Choice) → At old lines n chip (Buffers head) word words
+buffer-said : (old : DatabaseState) (lines : List (List ℕ)) (n : ℕ) (chip : Chip) (head : KeptHead) (word : List ℕ) (words : List (List ℕ)) (choice : Choice) → At old lines n chip (Buffers head) word words
     → IsHeadOf old.bits head → Chooses chip.nets head.count (word ∷ words) choice → said_at lines n ≡ record nothing { choices = choice_named head.count choice ∷ [] }
 buffer-said old lines n chip head word words choice at is chosen =
     said-at old lines n chip (Buffers head) word words at ∙ ap (λ r. record nothing { choices = item r }) (choice-read chip.nets old.bits head (word ∷ words) choice is chosen)
 
 -- and what is wrong with it
-pub buffer-cause : (old : Reader) (lines : List (List ℕ)) (n : ℕ) (chip : Chip) (head : KeptHead) (word : List ℕ) (words : List (List ℕ)) (choice : Choice) → At old lines n chip (Buffers head) word words
+pub buffer-cause : (old : DatabaseState) (lines : List (List ℕ)) (n : ℕ) (chip : Chip) (head : KeptHead) (word : List ℕ) (words : List (List ℕ)) (choice : Choice) → At old lines n chip (Buffers head) word words
     → IsHeadOf old.bits head → Chooses chip.nets head.count (word ∷ words) choice
     → cause_at lines n ≡ cause_if (is_chosen_before lines n (is_other_choice (choice_named head.count choice))) ValuesTwice
 buffer-cause old lines n chip head word words choice at is chosen =
     cause-at old lines n chip (Buffers head) word words at ∙ ap (choice_cause lines n) (choice-read chip.nets old.bits head (word ∷ words) choice is chosen)
 
 -- the lines of the statement hold, if the block is one of links
-pub last-holds : (old : Reader) (lines : List (List ℕ)) (n : ℕ) (head : KeptHead) → ChoicesHold old lines n old.below → old.below ≡ Buffers head → LastHolds old lines n head
+pub last-holds : (old : DatabaseState) (lines : List (List ℕ)) (n : ℕ) (head : KeptHead) → ChoicesHold old lines n old.below → old.below ≡ Buffers head → LastHolds old lines n head
 last-holds old lines n head holds under = subst (ChoicesHold old lines n) under holds
 
 -- the judgement of a line
-pub buffer-judged : (old : Reader) (lines : List (List ℕ)) (n : ℕ) (chip : Chip) (head : KeptHead) (word : List ℕ) (words : List (List ℕ)) (choice : Choice) → At old lines n chip (Buffers head) word words
+pub buffer-judged : (old : DatabaseState) (lines : List (List ℕ)) (n : ℕ) (chip : Chip) (head : KeptHead) (word : List ℕ) (words : List (List ℕ)) (choice : Choice) → At old lines n chip (Buffers head) word words
     → choice.values < 2 ^ head.count → Judged old lines n head choice (chosen_src old.buffers choice.values)
 buffer-judged old lines n chip head word words choice at small =
     judged old lines n head choice (chosen_src old.buffers choice.values) (last-holds old lines n head at.holds.choices at.under) small refl refl
@@ -264,7 +264,7 @@ cause_of_apart (Some other) src = by (eqb other src)
     by false = refl
 
 -- the cause of a line is the one that the index gives
-pub buffer-cause_is : (old : Reader) (lines : List (List ℕ)) (n : ℕ) (chip : Chip) (head : KeptHead) (word : List ℕ) (words : List (List ℕ)) (choice : Choice) → At old lines n chip (Buffers head) word words
+pub buffer-cause_is : (old : DatabaseState) (lines : List (List ℕ)) (n : ℕ) (chip : Chip) (head : KeptHead) (word : List ℕ) (words : List (List ℕ)) (choice : Choice) → At old lines n chip (Buffers head) word words
     → IsHeadOf old.bits head → Chooses chip.nets head.count (word ∷ words) choice → cause_at lines n ≡ buffer_cause old.buffers (link_with head choice)
 buffer-cause_is old lines n chip head word words choice at is chosen =
     buffer-cause old lines n chip head word words choice at is chosen
@@ -280,12 +280,12 @@ is_equal-fits found src fits =
     ]
 
 -- what the lines of the statement are then
-pub record Grows (old new : Reader) (lines : List (List ℕ)) (n : ℕ) (head : KeptHead) (choice : Choice) : Type 0 where
+pub record Grows (old new : DatabaseState) (lines : List (List ℕ)) (n : ℕ) (head : KeptHead) (choice : Choice) : Type 0 where
   pub links : link_lines old.bits new.buffers.lines.items ≡ link_lines old.bits old.buffers.lines.items ++ buffers_at lines n
   pub lists : All (IsLinkIn old.bits) new.buffers.lines.items
   pub last : LastHolds new lines (n + 1) head
 
-grows-new : (old new : Reader) (lines : List (List ℕ)) (n : ℕ) (chip : Chip) (head : KeptHead) (word : List ℕ) (words : List (List ℕ)) (choice : Choice) → At old lines n chip (Buffers head) word words
+grows-new : (old new : DatabaseState) (lines : List (List ℕ)) (n : ℕ) (chip : Chip) (head : KeptHead) (word : List ℕ) (words : List (List ℕ)) (choice : Choice) → At old lines n chip (Buffers head) word words
     → IsHeadOf old.bits head → Chooses chip.nets head.count (word ∷ words) choice → AddsBuffer old.buffers new.buffers (link_with head choice)
     → chosen_src old.buffers choice.values ≡ None → Grows old new lines n head choice
 unfolding buffers_at
@@ -325,7 +325,7 @@ grows-new old new lines n chip head word words choice at is chosen added none =
       };
     }
 
-grows-equal : (old new : Reader) (lines : List (List ℕ)) (n : ℕ) (chip : Chip) (head : KeptHead) (word : List ℕ) (words : List (List ℕ)) (choice : Choice) (src : ℕ) → At old lines n chip (Buffers head) word words
+grows-equal : (old new : DatabaseState) (lines : List (List ℕ)) (n : ℕ) (chip : Chip) (head : KeptHead) (word : List ℕ) (words : List (List ℕ)) (choice : Choice) (src : ℕ) → At old lines n chip (Buffers head) word words
     → IsHeadOf old.bits head → Chooses chip.nets head.count (word ∷ words) choice → AddsBuffer old.buffers new.buffers (link_with head choice)
     → chosen_src old.buffers choice.values ≡ Some src → eqb src choice.src ≡ true → Grows old new lines n head choice
 unfolding buffers_at
@@ -370,18 +370,18 @@ grows-equal old new lines n chip head word words choice src at is chosen added s
       };
     }
 
-grows : (old new : Reader) (lines : List (List ℕ)) (n : ℕ) (chip : Chip) (head : KeptHead) (word : List ℕ) (words : List (List ℕ)) (choice : Choice) (found : Option ℕ) → At old lines n chip (Buffers head) word words
+grows : (old new : DatabaseState) (lines : List (List ℕ)) (n : ℕ) (chip : Chip) (head : KeptHead) (word : List ℕ) (words : List (List ℕ)) (choice : Choice) (found : Option ℕ) → At old lines n chip (Buffers head) word words
     → IsHeadOf old.bits head → Chooses chip.nets head.count (word ∷ words) choice → AddsBuffer old.buffers new.buffers (link_with head choice)
     → chosen_src old.buffers choice.values ≡ found → choice_cause_of found choice.src ≡ None → Grows old new lines n head choice
 grows old new lines n chip head word words choice None at is chosen added found fits = grows-new old new lines n chip head word words choice at is chosen added found
 grows old new lines n chip head word words choice (Some src) at is chosen added found fits = grows-equal old new lines n chip head word words choice src at is chosen added found (is_equal-fits src choice.src fits)
 
-no_routing : (old : Reader) (lines : List (List ℕ)) (n : ℕ) (head : KeptHead) → block_over lines n ≡ block_named old.bits (Buffers head) → routings_at lines n ≡ []
+no_routing : (old : DatabaseState) (lines : List (List ℕ)) (n : ℕ) (head : KeptHead) → block_over lines n ≡ block_named old.bits (Buffers head) → routings_at lines n ≡ []
 unfolding routings_at
 no_routing old lines n head over = ap (λ b. routings_in b (said_at lines n).choices) over
 
 -- a line of a `.buffer`
-pub buffer-step : (old new : Reader) (lines : List (List ℕ)) (n : ℕ) (chip : Chip) (head : KeptHead) (word : List ℕ) (words : List (List ℕ)) → At old lines n chip (Buffers head) word words
+pub buffer-step : (old new : DatabaseState) (lines : List (List ℕ)) (n : ℕ) (chip : Chip) (head : KeptHead) (word : List ℕ) (words : List (List ℕ)) → At old lines n chip (Buffers head) word words
     → IsHeadOf old.bits head → PushesBuffer chip.nets head (word ∷ words) old new → Holds new lines (n + 1)
 buffer-step old new lines n chip head word words at is pushed =
     let choice = pushed.choice in

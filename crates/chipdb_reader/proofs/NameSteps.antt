@@ -10,14 +10,14 @@ use Rattle.std.proofs.lemmas.List.Folds.{list_any-append}
 use Rattle.shared_lemmas.proofs.Bytes.{same_bytes}
 use Rattle.shared_lemmas.proofs.Numbers.{eqb-turned}
 use Rattle.shared_lemmas.proofs.Lists.{append-nothing}
-use Rattle.place_search.specs.Places.{any_below, gathered_below}
+use Rattle.index_search.specs.Places.{any_below, gathered_below}
 use Rattle.chipdb_lines.specs.declared.cause.DbCause.TheVariants.{NameTwice}
 use Rattle.chipdb_lines.specs.declared.chip.Chip.{Chip}
 use Rattle.chipdb_lines.specs.declared.statements.Below.TheVariants.{Names}
 use Rattle.chipdb_lines.specs.Items.{NameLine, name_of}
 use Rattle.chipdb_reader.specs.declared.items.NetName.{NetName}
 use Rattle.chipdb_reader.specs.declared.texts.Texts.{Texts}
-use Rattle.chipdb_reader.specs.declared.reading.Reader.{Reader}
+use Rattle.chipdb_reader.specs.declared.reading.DatabaseState.{DatabaseState}
 use Rattle.chipdb_reader.specs.Database.{Said, nothing, item, said_at}
 use Rattle.chipdb_reader.specs.Faults.{cause_at, cause_if, is_named_before, is_same_name, name_cause}
 use Rattle.chipdb_reader.specs.Kept.{name_line, name_lines}
@@ -90,7 +90,7 @@ any-tie old new net x y text id (p ∷ entries) interned all =
     λ i. here i || rest i
 
 -- a name was given before if the index has it
-pub named-before : (old : Reader) (texts : Texts) (lines : List (List ℕ)) (n net x y : ℕ) (text : List ℕ) (id : ℕ) → Holds old lines n → Interns old.texts texts text id
+pub named-before : (old : DatabaseState) (texts : Texts) (lines : List (List ℕ)) (n net x y : ℕ) (text : List ℕ) (id : ℕ) → Holds old lines n → Interns old.texts texts text id
     → is_named_before lines n (record { net = net; x = x; y = y; name = text }) ≡ is_some (named_net old.nets (record { x = x; y = y; name = id }))
 unfolding is_named_before
 named-before old texts lines n net x y text id holds interned =
@@ -103,7 +103,7 @@ named-before old texts lines n net x y text id holds interned =
     ∙ ap (λ (o : Option ℕ). is_some o) (sym (holds.ready.nets.found name))
 
 -- what is wrong with a line that gives a name
-pub name-cause : (old : Reader) (texts : Texts) (lines : List (List ℕ)) (n : ℕ) (chip : Chip) (net x y : ℕ) (text : List ℕ) (id : ℕ) (word : List ℕ) (words : List (List ℕ)) → At old lines n chip (Names net) word words
+pub name-cause : (old : DatabaseState) (texts : Texts) (lines : List (List ℕ)) (n : ℕ) (chip : Chip) (net x y : ℕ) (text : List ℕ) (id : ℕ) (word : List ℕ) (words : List (List ℕ)) → At old lines n chip (Names net) word words
     → name_of chip.device net (word ∷ words) ≡ Ok (record { net = net; x = x; y = y; name = text }) → Interns old.texts texts text id
     → cause_at lines n ≡ cause_if (is_some (named_net old.nets (record { x = x; y = y; name = id }))) NameTwice
 name-cause old texts lines n chip net x y text id word words at says interned =
@@ -113,7 +113,7 @@ name-cause old texts lines n chip net x y text id word words at says interned =
 -- ---- one name more
 
 -- a line that gives a name
-pub name-step : (old new : Reader) (lines : List (List ℕ)) (n : ℕ) (chip : Chip) (net : ℕ) (word : List ℕ) (words : List (List ℕ)) → At old lines n chip (Names net) word words
+pub name-step : (old new : DatabaseState) (lines : List (List ℕ)) (n : ℕ) (chip : Chip) (net : ℕ) (word : List ℕ) (words : List (List ℕ)) → At old lines n chip (Names net) word words
     → PushesName chip.device net (word ∷ words) old new → Holds new lines (n + 1)
 name-step old new lines n chip net word words at pushed =
     let line : NameLine = record { net = net; x = pushed.x; y = pushed.y; name = pushed.text } in

@@ -7,8 +7,8 @@ use Rattle.std.proofs.lemmas.Bool.{cases_eq, cases_Bool, lt-ltb, le-ltb, eq-eqb,
 use Rattle.std.proofs.lemmas.List.Folds.{position_or_len_push}
 use Rattle.std.proofs.lemmas.List.Sums.{prefix_len-le-length}
 use Rattle.std.proofs.lemmas.Slice.Eq.{bytes_eq-Decides}
-use Rattle.place_search.proofs.Places.{or_else-none}
-use Rattle.place_search.specs.Places.{or_else}
+use Rattle.index_search.proofs.Places.{or_else-none}
+use Rattle.index_search.specs.Places.{or_else}
 
 -- the value of the first key that passes, with one entry more
 pub lookup-push : {K X : Type 0} (test : K → Bool) (entries : List (K × X)) (entry : K × X) → lookup test (entries ++ entry ∷ []) ≡ or_else (lookup test entries) (cond (test entry.0) (Some entry.1) None)

@@ -8,8 +8,8 @@ use Rattle.std.proofs.lemmas.List.Elements.{All-nil}
 use Rattle.std.proofs.Math.Bool.{or-false}
 use Rattle.std.proofs.Math.Seq.{drop-length}
 use Rattle.text_lines.specs.Lines.{line_at}
-use Rattle.place_search.specs.Places.{or_else}
-use Rattle.place_search.proofs.Places.{any_below-more, any_below-none, or_else-none}
+use Rattle.index_search.specs.Places.{or_else}
+use Rattle.index_search.proofs.Places.{any_below-more, any_below-none, or_else-none}
 use Rattle.plane_map.specs.declared.tile.RowCol.{RowCol}
 use Rattle.chipdb_lines.specs.declared.cause.DbCause.{DbCause}
 use Rattle.chipdb_lines.specs.declared.cause.DbCause.TheVariants.{NetTwice}
@@ -22,7 +22,7 @@ use Rattle.chipdb_lines.specs.Items.{LinkChoice}
 use Rattle.chipdb_lines.specs.Kept.{block_named, AddsBelow}
 use Rattle.chipdb_reader.specs.declared.nets.Nets.{Nets}
 use Rattle.chipdb_reader.specs.declared.buffers.Buffers.{Buffers as KeptBuffers}
-use Rattle.chipdb_reader.specs.declared.reading.Reader.{Reader}
+use Rattle.chipdb_reader.specs.declared.reading.DatabaseState.{DatabaseState}
 use Rattle.chipdb_reader.specs.Blocks.{chip_in, statement_at, own_words_at}
 use Rattle.chipdb_reader.specs.Buffers.{BeginsBuffers}
 use Rattle.chipdb_reader.specs.Database.{nothing, said_at, any_since, is_chosen_before, buffers_at, routings_at}
@@ -46,7 +46,7 @@ cause-statement lines n lt dot =
     rw (inside, dot) refl
 
 -- what a statement says, by the device that is kept
-pub statement-is : (old : Reader) (lines : List (List ℕ)) (n : ℕ) → Holds old lines n → statement_at lines n ≡ statement_of old.chip (words_in (line_at lines n))
+pub statement-is : (old : DatabaseState) (lines : List (List ℕ)) (n : ℕ) → Holds old lines n → statement_at lines n ≡ statement_of old.chip (words_in (line_at lines n))
 unfolding statement_at
 statement-is old lines n holds = ap (λ chip. statement_of chip (words_in (line_at lines n))) (sym holds.chip)
 
@@ -55,7 +55,7 @@ cause_if-is true cause = refl
 cause_if-is false cause = refl
 
 -- a statement that is no net begun twice has no cause
-pub begin-cause : (old : Reader) (lines : List (List ℕ)) (n : ℕ) (bits : List (List RowCol)) (below : Below) → Holds old lines n → statement_cause lines n (Ok (block_named bits below)) ≡ begin_cause old.nets below
+pub begin-cause : (old : DatabaseState) (lines : List (List ℕ)) (n : ℕ) (bits : List (List RowCol)) (below : Below) → Holds old lines n → statement_cause lines n (Ok (block_named bits below)) ≡ begin_cause old.nets below
 begin-cause old lines n bits (Names net) holds = ap (λ b. cause_if b NetTwice) (sym (holds.nets net)) ∙ cause_if-is (has_net old.nets net) NetTwice
 begin-cause old lines n bits Passed holds = refl
 begin-cause old lines n bits (Device chip) holds = refl
@@ -71,7 +71,7 @@ told-own lines n (Ok block) cause told = absurd cc
 told-own lines n (Err other) cause told = told
 
 -- a statement that is refused has the reported cause
-pub statement-refused : (old : Reader) (lines : List (List ℕ)) (n : ℕ) (cause : DbCause) → n < length lines → is_statement (line_at lines n) ≡ true → Holds old lines n
+pub statement-refused : (old : DatabaseState) (lines : List (List ℕ)) (n : ℕ) (cause : DbCause) → n < length lines → is_statement (line_at lines n) ≡ true → Holds old lines n
     → StatementRefusal old (line_at lines n) cause → cause_at lines n ≡ Some cause
 statement-refused old lines n cause lt dot holds (statement_own told) =
     cause-statement lines n lt dot ∙ ap (statement_cause lines n) (statement-is old lines n holds) ∙ told-own lines n (statement_of old.chip (words_in (line_at lines n))) cause told
@@ -79,7 +79,7 @@ statement-refused old lines n cause lt dot holds (statement_twice begun) =
     cause-statement lines n lt dot ∙ ap (statement_cause lines n) (statement-is old lines n holds ∙ begun.says) ∙ begin-cause old lines n begun.bits begun.below holds ∙ begun.twice
 
 -- one that is taken has none
-pub statement-accepted : (old new : Reader) (lines : List (List ℕ)) (n : ℕ) → n < length lines → is_statement (line_at lines n) ≡ true → Holds old lines n
+pub statement-accepted : (old new : DatabaseState) (lines : List (List ℕ)) (n : ℕ) → n < length lines → is_statement (line_at lines n) ≡ true → Holds old lines n
     → TakesStatement old (line_at lines n) new → cause_at lines n ≡ None
 statement-accepted old new lines n lt dot holds taken =
     cause-statement lines n lt dot ∙ ap (statement_cause lines n) (statement-is old lines n holds ∙ taken.says) ∙ begin-cause old lines n taken.bits taken.below holds ∙ taken.fits
@@ -101,7 +101,7 @@ chosen-none lines n test dot =
     ∙ any_below-none (n + 1) (λ k. nat_lt n k && list_any test (said_at lines k).choices) (λ k lt. let before : nat_lt n k ≡ false = le-ltb n k (omega arith) in rw before refl)
 
 -- What a statement changes, with what it says.
-pub record Begun (old : Reader) (lines : List (List ℕ)) (n : ℕ) (bits : List (List RowCol)) (chip : Option Chip) (below : Below) (nets : Nets) (buffers : KeptBuffers) : Type 0 where
+pub record Begun (old : DatabaseState) (lines : List (List ℕ)) (n : ℕ) (bits : List (List RowCol)) (chip : Option Chip) (below : Below) (nets : Nets) (buffers : KeptBuffers) : Type 0 where
   pub dot : is_statement (line_at lines n) ≡ true
   pub holds : Holds old lines n
   pub says : statement_of old.chip (words_in (line_at lines n)) ≡ Ok (block_named bits below)
@@ -113,7 +113,7 @@ pub record Begun (old : Reader) (lines : List (List ℕ)) (n : ℕ) (bits : List
   pub indexed : IsNetIndex nets
   pub ready : IsBelowReady bits nets.last below
 
-choices-begun : (reader : Reader) (lines : List (List ℕ)) (n : ℕ) (below : Below) → is_statement (line_at lines n) ≡ true → last_lines reader ≡ [] → ChoicesHold reader lines (n + 1) below
+choices-begun : (reader : DatabaseState) (lines : List (List ℕ)) (n : ℕ) (below : Below) → is_statement (line_at lines n) ≡ true → last_lines reader ≡ [] → ChoicesHold reader lines (n + 1) below
 choices-begun reader lines n (Buffers head) dot none = record {
   own = rw none (All-nil _);
   seen = λ test. chosen-none lines n test dot ∙ rw none refl;
@@ -127,7 +127,7 @@ choices-begun reader lines n ExtraBits dot none = tt
 choices-begun reader lines n (Names net) dot none = tt
 choices-begun reader lines n (Routings head) dot none = tt
 
-begun-step : (old : Reader) (lines : List (List ℕ)) (n : ℕ) (bits : List (List RowCol)) (chip : Option Chip) (below : Below) (nets : Nets) (buffers : KeptBuffers)
+begun-step : (old : DatabaseState) (lines : List (List ℕ)) (n : ℕ) (bits : List (List RowCol)) (chip : Option Chip) (below : Below) (nets : Nets) (buffers : KeptBuffers)
     → Begun old lines n bits chip below nets buffers → Holds (record old { chip = chip; below = below; bits = bits; nets = nets; buffers = buffers }) lines (n + 1)
 unfolding is_net_before
 begun-step old lines n bits chip below nets buffers begun =
@@ -144,7 +144,7 @@ begun-step old lines n bits chip below nets buffers begun =
     let few : length old.texts.arena ≤ n = holds.few in
     let few_lists : length old.bits ≤ n = holds.few_lists in
     let one_list : length bits ≤ length old.bits + 1 = begun.grown.few in
-    let reader : Reader = record old { chip = chip; below = below; bits = bits; nets = nets; buffers = buffers } in
+    let reader : DatabaseState = record old { chip = chip; below = below; bits = bits; nets = nets; buffers = buffers } in
     record {
       ready = record { texts = holds.ready.texts; nets = begun.indexed; buffers = begun.buffers_begin.indexed; below = begun.ready };
       in_range = record {
@@ -173,7 +173,7 @@ begun-step old lines n bits chip below nets buffers begun =
     }
 
 -- a statement by which neither the device nor the nets change
-plain-begun : (old : Reader) (lines : List (List ℕ)) (n : ℕ) (bits : List (List RowCol)) (below : Below) (buffers : KeptBuffers)
+plain-begun : (old : DatabaseState) (lines : List (List ℕ)) (n : ℕ) (bits : List (List RowCol)) (below : Below) (buffers : KeptBuffers)
     → is_statement (line_at lines n) ≡ true → Holds old lines n → statement_of old.chip (words_in (line_at lines n)) ≡ Ok (block_named bits below) → AddsBelow old.bits bits below
     → BeginsBuffers old.buffers buffers → device_of (block_named bits below) ≡ None → net_in (Ok (block_named bits below)) ≡ None → IsBelowReady bits old.nets.last below
     → Holds (record old { below = below; bits = bits; buffers = buffers }) lines (n + 1)
@@ -191,7 +191,7 @@ plain-begun old lines n bits below buffers dot holds says added begin no_device 
       ready = ready;
     })
 
-begun-by : (old new : Reader) (lines : List (List ℕ)) (n : ℕ) (bits : List (List RowCol)) (below : Below)
+begun-by : (old new : DatabaseState) (lines : List (List ℕ)) (n : ℕ) (bits : List (List RowCol)) (below : Below)
     → is_statement (line_at lines n) ≡ true → Holds old lines n → statement_of old.chip (words_in (line_at lines n)) ≡ Ok (block_named bits below) → AddsBelow old.bits bits below
     → BeginsBuffers old.buffers new.buffers → ChangesAt (record old { bits = bits }) below new → Holds new lines (n + 1)
 begun-by old new lines n bits (Device chip) dot holds says added begin changes =
@@ -229,5 +229,5 @@ begun-by old new lines n bits (Buffers head) dot holds says added begin changes 
 begun-by old new lines n bits (Routings head) dot holds says added begin changes = subst (λ r. Holds r lines (n + 1)) (sym changes) (plain-begun old lines n bits (Routings head) new.buffers dot holds says added begin refl refl (head-added old.bits bits head added))
 
 -- what holds after a statement
-pub statement-step : (old new : Reader) (lines : List (List ℕ)) (n : ℕ) → is_statement (line_at lines n) ≡ true → Holds old lines n → TakesStatement old (line_at lines n) new → Holds new lines (n + 1)
+pub statement-step : (old new : DatabaseState) (lines : List (List ℕ)) (n : ℕ) → is_statement (line_at lines n) ≡ true → Holds old lines n → TakesStatement old (line_at lines n) new → Holds new lines (n + 1)
 statement-step old new lines n dot holds taken = begun-by old new lines n taken.bits taken.below dot holds taken.says taken.added taken.begun.buffers taken.begun.changes

@@ -6,7 +6,7 @@ use Rattle.std.proofs.lemmas.Bool.{cases_lt}
 use Rattle.std.proofs.lemmas.List.{get_or_append_left, get_or-append_right}
 use Rattle.std.proofs.lemmas.List.Quantifiers.{position-Some}
 use Rattle.shared_lemmas.proofs.Bytes.{same_bytes}
-use Rattle.place_search.specs.Places.{or_else}
+use Rattle.index_search.specs.Places.{or_else}
 use Rattle.chipdb_reader.specs.Texts.{text_at}
 use Rattle.chipdb_reader.proofs.Searches.{lookup-push, position-push, bytes_eq-same}
 

@@ -3,7 +3,7 @@ use Rattle.std.proofs.Common.{◌≡◌, refl}
 use Rattle.std.specs.Prelude.{codes, Some, None}
 use Rattle.text_lines.specs.Lines.{lines_of}
 use Rattle.text_lines.specs.Words.{words_of, pieces_of, number_of, numbers_of}
-use Rattle.place_search.specs.Places.{any_below, last_below, first_below, gathered_below}
+use Rattle.index_search.specs.Places.{any_below, last_below, first_below, gathered_below}
 use Rattle.plane_map.specs.Layout.{kind_of}
 use Rattle.chipdb_lines.specs.declared.cause.DbCause.TheVariants.{NoDevice, Device, Number, TileKind, NetRange, NetTwice, NameTwice, BitName, BitRange, CellBits, ValueLength, ValuesTwice}
 use Rattle.chipdb_lines.specs.Words.{own_words, bit_of, bits_of}

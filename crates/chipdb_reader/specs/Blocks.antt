@@ -3,7 +3,7 @@
 use Rattle.std.specs.Prelude.{ℕ, List, [], drop, get_or, if◌then◌else◌, Option, Some, None, Result}
 use Rattle.std.specs.Result.{result_unwrap_or}
 use Rattle.text_lines.specs.Lines.{line_at}
-use Rattle.place_search.specs.Places.{last_below, first_below}
+use Rattle.index_search.specs.Places.{last_below, first_below}
 use Rattle.chipdb_lines.specs.declared.cause.DbCause.{DbCause}
 use Rattle.chipdb_lines.specs.declared.chip.Chip.{Chip}
 use Rattle.chipdb_lines.specs.declared.keyword.Keyword.{Keyword}

@@ -3,7 +3,7 @@ use Rattle.std.specs.Prelude.{◌≡◌, ℕ, ◌+◌, Bool, true, false, ◌&&�
 use Rattle.std.specs.List.{list_any}
 use Rattle.std.specs.Result.{result_err}
 use Rattle.text_lines.specs.Lines.{line_at, lines_of}
-use Rattle.place_search.specs.Places.{any_below, first_below}
+use Rattle.index_search.specs.Places.{any_below, first_below}
 use Rattle.chipdb_lines.specs.declared.cause.DbCause.{DbCause}
 use Rattle.chipdb_lines.specs.declared.cause.DbCause.TheVariants.{NoDevice, NetTwice, NameTwice, ValuesTwice}
 use Rattle.chipdb_lines.specs.declared.chip.Chip.{Chip}

@@ -2,10 +2,11 @@
 use Rattle.std.specs.Prelude.{ℕ, ◌+◌, ◌*◌, ◌&&◌, List, get_or, nat_lt, ◌==◌, if◌then◌else◌, Option, Some, None}
 use Rattle.std.specs.declared.cmp.Ordering.{Ordering}
 use Rattle.std.specs.BTreeMap.{get}
-use Rattle.place_search.specs.Places.{or_else}
+use Rattle.index_search.specs.Places.{or_else}
+use Rattle.plane_map.specs.Layout.{max_side}
 use Rattle.chipdb_reader.specs.declared.items.NetName.{NetName}
 use Rattle.chipdb_reader.specs.declared.name_index.NameIndex.{NameIndex}
-use Rattle.chipdb_reader.specs.declared.name_index.TheConstants.{SIDE, NAMES, NO_NET}
+use Rattle.chipdb_reader.specs.declared.name_index.TheConstants.{NAMES, NO_NET}
 use Rattle.chipdb_reader.specs.contracts.items.NetNameOrd.TheImpl as net_name_ord
 
 -- the order of names
@@ -15,8 +16,8 @@ name_cmp = (net_name_ord.ghosts).cmp
 -- the cell of a name, which only the first names have; the cells of one name are together, row by row of the grid
 abbrev pub cell_of : NetName → Option ℕ
 cell_of name =
-    if nat_lt name.x SIDE && (nat_lt name.y SIDE && nat_lt name.name NAMES)
-    then Some ((name.name * SIDE + name.y) * SIDE + name.x)
+    if nat_lt name.x max_side && (nat_lt name.y max_side && nat_lt name.name NAMES)
+    then Some ((name.name * max_side + name.y) * max_side + name.x)
     else None
 
 -- the net that a cell holds, if it holds one

@@ -3,14 +3,14 @@
 use Rattle.std.specs.Bool.{MatchBool}
 use Rattle.std.specs.Prelude.{◌≡◌, ℕ, ◌<◌, ◌≤◌, true, false, List, [], ◌∷◌, ◌++◌, length, is_some, if◌then◌else◌, Option, Some, None, Result, Ok, Err}
 use Rattle.std.specs.Result.{result_err, MatchResult}
-use Rattle.place_search.specs.Places.{or_else}
+use Rattle.index_search.specs.Places.{or_else}
 use Rattle.plane_map.specs.declared.device.DeviceName.{DeviceName}
 use Rattle.plane_map.specs.declared.tile.TileKind.{TileKind}
 use Rattle.plane_map.specs.declared.tile.RowCol.{RowCol}
 use Rattle.chipdb_lines.specs.declared.cause.DbCause.{DbCause}
 use Rattle.chipdb_lines.specs.declared.cause.DbCause.TheVariants.{NetTwice, NameTwice, NoDevice}
-use Rattle.chipdb_lines.specs.declared.cause.Refusal.{Refusal}
-use Rattle.chipdb_lines.specs.declared.cause.Refusal.TheVariants.{Cause, Memory}
+use Rattle.chipdb_lines.specs.declared.cause.DbLineRefusal.{DbLineRefusal}
+use Rattle.chipdb_lines.specs.declared.cause.DbLineRefusal.TheVariants.{Cause, Memory}
 use Rattle.chipdb_lines.specs.declared.chip.Chip.{Chip}
 use Rattle.chipdb_lines.specs.declared.links.LinkHead.{LinkHead}
 use Rattle.chipdb_lines.specs.declared.links.Choice.{Choice}
@@ -26,7 +26,7 @@ use Rattle.chipdb_reader.specs.declared.items.Function.{Function}
 use Rattle.chipdb_reader.specs.declared.items.Extra.{Extra}
 use Rattle.chipdb_reader.specs.declared.texts.Texts.{Texts}
 use Rattle.chipdb_reader.specs.declared.nets.Nets.{Nets}
-use Rattle.chipdb_reader.specs.declared.reading.Reader.{Reader}
+use Rattle.chipdb_reader.specs.declared.reading.DatabaseState.{DatabaseState}
 use Rattle.chipdb_reader.specs.declared.fault.DbFault.{DbFault}
 use Rattle.chipdb_reader.specs.declared.fault.DbFault.TheVariants.{At, Memory as OutOfMemory}
 use Rattle.chipdb_reader.specs.Kept.{Kept}
@@ -47,7 +47,7 @@ IsBelowReady bits last (Buffers head) = IsHeadOf bits head
 IsBelowReady bits last (Routings head) = IsHeadOf bits head
 IsBelowReady bits last below = Unit {0}
 
-pub record IsReady (reader : Reader) : Type 0 where
+pub record IsReady (reader : DatabaseState) : Type 0 where
   pub texts : IsIndexed reader.texts
   pub nets : IsNetIndex reader.nets
   pub buffers : IsChosen reader.buffers
@@ -70,14 +70,14 @@ pub record PushesRouting (nets : ℕ) (head : LinkHead) (words : List (List ℕ)
   pub chosen : Chooses nets head.count words choice
   pub added : new ≡ old ++ link_with head choice ∷ []
 
-pub record PushesBuffer (nets : ℕ) (head : LinkHead) (words : List (List ℕ)) (old new : Reader) : Type 0 where
+pub record PushesBuffer (nets : ℕ) (head : LinkHead) (words : List (List ℕ)) (old new : DatabaseState) : Type 0 where
   pub choice : Choice
   pub chosen : Chooses nets head.count words choice
   pub added : AddsBuffer old.buffers new.buffers (link_with head choice)
   pub fits : buffer_cause old.buffers (link_with head choice) ≡ None
   pub rest : new ≡ record old { buffers = new.buffers }
 
-pub record PushesName (device : DeviceName) (net : ℕ) (words : List (List ℕ)) (old new : Reader) : Type 0 where
+pub record PushesName (device : DeviceName) (net : ℕ) (words : List (List ℕ)) (old new : DatabaseState) : Type 0 where
   pub x : ℕ
   pub y : ℕ
   pub text : List ℕ
@@ -87,7 +87,7 @@ pub record PushesName (device : DeviceName) (net : ℕ) (words : List (List ℕ)
   pub added : AddsName old.nets new.nets net (record { x = x; y = y; name = id })
   pub rest : new ≡ record old { texts = new.texts; nets = new.nets }
 
-pub record PushesFunction (kind : TileKind) (words : List (List ℕ)) (old new : Reader) : Type 0 where
+pub record PushesFunction (kind : TileKind) (words : List (List ℕ)) (old new : DatabaseState) : Type 0 where
   pub function : Function
   pub name : List ℕ
   pub same : function.kind ≡ kind
@@ -97,7 +97,7 @@ pub record PushesFunction (kind : TileKind) (words : List (List ℕ)) (old new :
   pub added : new.functions.items ≡ old.functions.items ++ function ∷ []
   pub rest : new ≡ record old { texts = new.texts; bits = new.bits; functions = new.functions }
 
-pub record PushesExtra (device : DeviceName) (words : List (List ℕ)) (old new : Reader) : Type 0 where
+pub record PushesExtra (device : DeviceName) (words : List (List ℕ)) (old new : DatabaseState) : Type 0 where
   pub extra : Extra
   pub name : List ℕ
   pub says : extra_of device words ≡ Ok (record { name = name; at = extra.at })
@@ -106,7 +106,7 @@ pub record PushesExtra (device : DeviceName) (words : List (List ℕ)) (old new 
   pub rest : new ≡ record old { texts = new.texts; extras = new.extras }
 
 -- what the words of a line change
-abbrev pub TakesItem : Reader → Chip → Below → List (List ℕ) → Reader → Type 0
+abbrev pub TakesItem : DatabaseState → Chip → Below → List (List ℕ) → DatabaseState → Type 0
 TakesItem old chip Passed words new = new ≡ old
 TakesItem old chip (Device given) words new = new ≡ old
 TakesItem old chip GlobalInputs words new = Pushes (global_input_of chip.device words) old.global_inputs.items new.global_inputs.items × (new ≡ record old { global_inputs = new.global_inputs })
@@ -118,7 +118,7 @@ TakesItem old chip (Buffers head) words new = PushesBuffer chip.nets head words 
 TakesItem old chip (Routings head) words new = PushesRouting chip.nets head words old.routings.items new.routings.items × (new ≡ record old { routings = new.routings })
 
 -- the tile has that name already
-pub record IsNamedTwice (device : DeviceName) (net : ℕ) (words : List (List ℕ)) (old : Reader) : Type 0 where
+pub record IsNamedTwice (device : DeviceName) (net : ℕ) (words : List (List ℕ)) (old : DatabaseState) : Type 0 where
   pub x : ℕ
   pub y : ℕ
   pub text : List ℕ
@@ -129,22 +129,22 @@ pub record IsNamedTwice (device : DeviceName) (net : ℕ) (words : List (List �
   pub named : is_some (named_net old.nets (record { x = x; y = y; name = id })) ≡ true
 
 -- the values choose another net already
-pub record IsChosenTwice (nets : ℕ) (head : LinkHead) (words : List (List ℕ)) (old : Reader) (cause : DbCause) : Type 0 where
+pub record IsChosenTwice (nets : ℕ) (head : LinkHead) (words : List (List ℕ)) (old : DatabaseState) (cause : DbCause) : Type 0 where
   pub choice : Choice
   pub chosen : Chooses nets head.count words choice
   pub twice : buffer_cause old.buffers (link_with head choice) ≡ Some cause
 
 -- why a name is refused: for the line itself, or because of an earlier one
-pub data NameRefusal (device : DeviceName) (net : ℕ) (words : List (List ℕ)) (old : Reader) (cause : DbCause) : Type 0 where
+pub data NameRefusal (device : DeviceName) (net : ℕ) (words : List (List ℕ)) (old : DatabaseState) (cause : DbCause) : Type 0 where
   name_own : name_of device net words ≡ Err cause → NameRefusal device net words old cause
   name_twice : IsNamedTwice device net words old → cause ≡ NameTwice → NameRefusal device net words old cause
 
-pub data BufferRefusal (nets : ℕ) (head : LinkHead) (words : List (List ℕ)) (old : Reader) (cause : DbCause) : Type 0 where
+pub data BufferRefusal (nets : ℕ) (head : LinkHead) (words : List (List ℕ)) (old : DatabaseState) (cause : DbCause) : Type 0 where
   buffer_own : choice_of nets head.count words ≡ Err cause → BufferRefusal nets head words old cause
   buffer_twice : IsChosenTwice nets head words old cause → BufferRefusal nets head words old cause
 
 -- why the words of a line are refused
-abbrev pub RefusesItem : Reader → Chip → Below → List (List ℕ) → DbCause → Type 0
+abbrev pub RefusesItem : DatabaseState → Chip → Below → List (List ℕ) → DbCause → Type 0
 RefusesItem old chip Passed words cause = ⊥
 RefusesItem old chip (Device given) words cause = ⊥
 RefusesItem old chip GlobalInputs words cause = result_err (global_input_of chip.device words) ≡ Some cause
@@ -156,17 +156,17 @@ RefusesItem old chip (Buffers head) words cause = BufferRefusal chip.nets head w
 RefusesItem old chip (Routings head) words cause = result_err (choice_of chip.nets head.count words) ≡ Some cause
 
 -- the reported cause is one of these; out of memory may come in place of any answer
-abbrev pub ForCause : (DbCause → Type 0) → Refusal → Type 0
+abbrev pub ForCause : (DbCause → Type 0) → DbLineRefusal → Type 0
 ForCause P (Cause cause) = P cause
 ForCause P (Memory e) = Unit {0}
 
 -- what the words of a line change, if it has any and the device is known
-abbrev pub TakesWords : Reader → Option Chip → List (List ℕ) → Reader → Type 0
+abbrev pub TakesWords : DatabaseState → Option Chip → List (List ℕ) → DatabaseState → Type 0
 TakesWords old None words new = new ≡ old
 TakesWords old (Some chip) [] new = new ≡ old
 TakesWords old (Some chip) (word ∷ words) new = TakesItem old chip old.below (word ∷ words) new
 
-abbrev pub RefusesWords : Reader → Option Chip → List (List ℕ) → DbCause → Type 0
+abbrev pub RefusesWords : DatabaseState → Option Chip → List (List ℕ) → DbCause → Type 0
 RefusesWords old None words cause = ⊥
 RefusesWords old (Some chip) [] cause = ⊥
 RefusesWords old (Some chip) (word ∷ words) cause = RefusesItem old chip old.below (word ∷ words) cause
@@ -174,13 +174,13 @@ RefusesWords old (Some chip) (word ∷ words) cause = RefusesItem old chip old.b
 -- ---- statements
 
 -- what else changes when the lines below a statement begin
-abbrev pub ChangesAt : Reader → Below → Reader → Type 0
+abbrev pub ChangesAt : DatabaseState → Below → DatabaseState → Type 0
 ChangesAt old (Device chip) new = new ≡ record old { chip = or_else old.chip (Some chip); below = Device chip; buffers = new.buffers }
 ChangesAt old (Names net) new = BeginsNet old.nets new.nets net × (new ≡ record old { below = Names net; nets = new.nets; buffers = new.buffers })
 ChangesAt old below new = new ≡ record old { below = below; buffers = new.buffers }
 
 -- the lines below a statement begin
-pub record BeginsBlock (old : Reader) (below : Below) (new : Reader) : Type 0 where
+pub record BeginsBlock (old : DatabaseState) (below : Below) (new : DatabaseState) : Type 0 where
   pub buffers : BeginsBuffers old.buffers new.buffers
   pub changes : ChangesAt old below new
 
@@ -190,7 +190,7 @@ begin_cause nets (Names net) = if has_net nets net then Some NetTwice else None
 begin_cause nets below = None
 
 -- what a statement changes
-pub record TakesStatement (old : Reader) (line : List ℕ) (new : Reader) : Type 0 where
+pub record TakesStatement (old : DatabaseState) (line : List ℕ) (new : DatabaseState) : Type 0 where
   pub bits : List (List RowCol)
   pub below : Below
   pub says : statement_of old.chip (words_in line) ≡ Ok (block_named bits below)
@@ -199,42 +199,42 @@ pub record TakesStatement (old : Reader) (line : List ℕ) (new : Reader) : Type
   pub begun : BeginsBlock (record old { bits = bits }) below new
 
 -- the net was begun before
-pub record IsBegunTwice (old : Reader) (line : List ℕ) (cause : DbCause) : Type 0 where
+pub record IsBegunTwice (old : DatabaseState) (line : List ℕ) (cause : DbCause) : Type 0 where
   pub bits : List (List RowCol)
   pub below : Below
   pub says : statement_of old.chip (words_in line) ≡ Ok (block_named bits below)
   pub twice : begin_cause old.nets below ≡ Some cause
 
-pub data StatementRefusal (old : Reader) (line : List ℕ) (cause : DbCause) : Type 0 where
+pub data StatementRefusal (old : DatabaseState) (line : List ℕ) (cause : DbCause) : Type 0 where
   statement_own : result_err (statement_of old.chip (words_in line)) ≡ Some cause → StatementRefusal old line cause
   statement_twice : IsBegunTwice old line cause → StatementRefusal old line cause
 
 -- ---- lines
 
 -- what a line changes
-abbrev pub TakesLine : Reader → List ℕ → Reader → Type 0
+abbrev pub TakesLine : DatabaseState → List ℕ → DatabaseState → Type 0
 TakesLine old line new = MatchBool (is_statement line) (TakesStatement old line new) (TakesWords old old.chip (own_words line) new)
 
 -- why a line is refused
-abbrev pub RefusesLine : Reader → List ℕ → DbCause → Type 0
+abbrev pub RefusesLine : DatabaseState → List ℕ → DbCause → Type 0
 RefusesLine old line cause = MatchBool (is_statement line) (StatementRefusal old line cause) (RefusesWords old old.chip (own_words line) cause)
 
 -- what the first line of a text changes
-pub record TakesFirst (old : Reader) (text rest : List ℕ) (new : Reader) : Type 0 where
+pub record TakesFirst (old : DatabaseState) (text rest : List ℕ) (new : DatabaseState) : Type 0 where
   pub line : List ℕ
   pub lines : lines_of text ≡ line ∷ lines_of rest
   pub shorter : length rest < length text
   pub taken : TakesLine old line new
 
 -- why it is refused
-pub record RefusesFirst (old : Reader) (text : List ℕ) (cause : DbCause) : Type 0 where
+pub record RefusesFirst (old : DatabaseState) (text : List ℕ) (cause : DbCause) : Type 0 where
   pub line : List ℕ
   pub rest : List ℕ
   pub lines : lines_of text ≡ line ∷ lines_of rest
   pub refused : RefusesLine old line cause
 
 -- nothing was read
-pub record IsUnread (reader : Reader) : Type 0 where
+pub record IsUnread (reader : DatabaseState) : Type 0 where
   pub ready : IsReady reader
   pub chip : reader.chip ≡ None
   pub below : reader.below ≡ Passed
@@ -252,7 +252,7 @@ pub record IsUnread (reader : Reader) : Type 0 where
 -- ---- the end
 
 -- the database has exactly what was read
-pub record FitsReader (chip : Chip) (reader : Reader) (kept : Kept) : Type 0 where
+pub record FitsReader (chip : Chip) (reader : DatabaseState) (kept : Kept) : Type 0 where
   pub chip_is : kept.chip ≡ chip
   pub texts : kept.texts ≡ reader.texts.arena
   pub bits : kept.bits ≡ reader.bits
@@ -269,7 +269,7 @@ IsOutOfMemory (OutOfMemory e) = Unit {0}
 IsOutOfMemory (At line cause) = ⊥
 
 -- the fault that a refusal of a line makes
-abbrev pub located : Refusal → ℕ → DbFault
+abbrev pub located : DbLineRefusal → ℕ → DbFault
 located (Cause cause) line = At line cause
 located (Memory e) line = OutOfMemory e
 
@@ -279,6 +279,6 @@ FaultOf number P (At line cause) = (line ≡ number) × P cause
 FaultOf number P (OutOfMemory e) = Unit {0}
 
 -- what is answered at the end
-abbrev pub EndsReading : Reader → Option Chip → ℕ → Result Kept DbFault → Type 0
+abbrev pub EndsReading : DatabaseState → Option Chip → ℕ → Result Kept DbFault → Type 0
 EndsReading reader None number answer = answer ≡ Err (At number NoDevice)
 EndsReading reader (Some chip) number answer = MatchResult answer (FitsReader chip reader) IsOutOfMemory

@@ -7,7 +7,7 @@ ghost use Rattle.std.specs.Map.{lookup};
 ghost use Rattle.chipdb_reader.specs.Buffers.{choices_of};
 
 use crate::items::LinkLine;
-use chipdb_lines::{DbCause, Refusal};
+use chipdb_lines::{DbCause, DbLineRefusal};
 use std::alloc::{AllocError, Global};
 use std::collections::BTreeMap;
 
@@ -67,7 +67,7 @@ impl Buffers {
 
     /// Adds a line of the last statement. A line equal to an earlier one of that statement is skipped. A line with the values of an earlier
     /// one but another net is refused.
-    pub(crate) fn add(&mut self, line: LinkLine) -> Result<(), Refusal>
+    pub(crate) fn add(&mut self, line: LinkLine) -> Result<(), DbLineRefusal>
         requires { IsChosen self.old }
         ensures added { IfOk result (λ _. AddsBuffer self.old self.new line) }
         ensures refused { IfErr result (Reports (buffer_cause self.old line)) }
@@ -76,7 +76,7 @@ impl Buffers {
         match self.chosen_src(line.values) {
             None => self.add_new(line),
             Some(src) if src == line.src => Ok(()),
-            Some(_) => Err(Refusal::Cause(DbCause::ValuesTwice)),
+            Some(_) => Err(DbLineRefusal::Cause(DbCause::ValuesTwice)),
         }
     }
 
@@ -95,7 +95,7 @@ impl Buffers {
     }
 
     /// Adds a line whose values no other line has.
-    fn add_new(&mut self, line: LinkLine) -> Result<(), Refusal>
+    fn add_new(&mut self, line: LinkLine) -> Result<(), DbLineRefusal>
         requires indexed { IsChosen self.old }
         requires absent { chosen_src self.old line.values ≡ None }
         ensures added { IfOk result (λ _. AddsBuffer self.old self.new line) }
@@ -112,7 +112,7 @@ impl Buffers {
     }
 
     /// Adds a line whose values no other line has, while the lines aren't in the index.
-    fn add_few(&mut self, line: LinkLine) -> Result<(), Refusal>
+    fn add_few(&mut self, line: LinkLine) -> Result<(), DbLineRefusal>
         requires indexed { IsChosen self.old }
         requires few { self.old.is_indexed ≡ false }
         requires absent { chosen_src self.old line.values ≡ None }
@@ -125,7 +125,7 @@ impl Buffers {
     }
 
     /// Adds a line whose values no other line has, when the lines are in the index.
-    fn add_indexed(&mut self, line: LinkLine) -> Result<(), Refusal>
+    fn add_indexed(&mut self, line: LinkLine) -> Result<(), DbLineRefusal>
         requires indexed { IsChosen self.old }
         requires many { self.old.is_indexed ≡ true }
         requires absent { chosen_src self.old line.values ≡ None }

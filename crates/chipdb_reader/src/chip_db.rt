@@ -4,7 +4,7 @@ ghost use Rattle.std.specs.Prelude.{◌≡◌, IfOk, IfErr};
 use crate::fault::DbFault;
 use crate::items::{Extra, Function, LinkLine};
 use crate::nets::Nets;
-use crate::reading::Reader;
+use crate::reading::DatabaseState;
 use crate::texts::Texts;
 use chipdb_lines::{BitTable, Chip, GlobalInput, GlobalPin};
 use std::marker::Model;
@@ -44,7 +44,7 @@ impl ChipDb {
     ghost use Rattle.chipdb_reader.specs.Sound.{IsSound};
 
     /// The database that the lines of a text give.
-    pub(crate) fn of(chip: Chip, reader: Reader) -> Result<ChipDb, DbFault>
+    pub(crate) fn of(chip: Chip, reader: DatabaseState) -> Result<ChipDb, DbFault>
         requires ready { IsReady reader }
         requires sound { (kept : Kept) → FitsReader chip reader kept → IsSound kept }
         requires fit { (kept : Kept) → FitsReader chip reader kept → IsFit (database_in kept) }

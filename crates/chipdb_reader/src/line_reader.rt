@@ -6,15 +6,15 @@ ghost use Rattle.chipdb_reader.specs.Kept.{database_in};
 
 use crate::chip_db::ChipDb;
 use crate::fault::DbFault;
-use crate::reading::Reader;
-use chipdb_lines::{DbCause, Refusal};
+use crate::reading::DatabaseState;
+use chipdb_lines::{DbCause, DbLineRefusal};
 use std::alloc::{AllocError, Global};
 use text_lines::{LineTaker, first_line};
 
 /// What the lines so far have given, and how many lines there were.
 #[derive(Drop)]
 pub(crate) struct LineReader {
-    reader: Reader,
+    reader: DatabaseState,
     count: u64,
 }
 
@@ -26,7 +26,7 @@ impl LineReader {
         ensures taken { HasTaken [] result }
         ensures none { result.count ≡ 0 }
     {
-        let reader = Reader::new(alloc);
+        let reader = DatabaseState::new(alloc);
         LineReader { reader, count: 0 }
     }
 
@@ -95,7 +95,11 @@ impl LineTaker for LineReader {
 ghost use Rattle.chipdb_reader.specs.Reading.{EndsReading, FaultOf, IsReady, RefusesFirst, RefusesLine, TakesFirst, TakesLine, located};
 
 /// Takes the first line of a text, which is line `number` of the database, and returns what follows it.
-fn take_first<'a>(reader: &mut Reader, number: u64, text: &'a [u8]) -> Result<&'a [u8], DbFault>
+fn take_first<'a>(
+    reader: &mut DatabaseState,
+    number: u64,
+    text: &'a [u8],
+) -> Result<&'a [u8], DbFault>
     requires ready { IsReady reader.old }
     requires room { length reader.old.texts.arena < 2 ^ 32 - 1 }
     requires lists { length reader.old.bits < 2 ^ 32 - 1 }
@@ -111,7 +115,11 @@ fn take_first<'a>(reader: &mut Reader, number: u64, text: &'a [u8]) -> Result<&'
 }
 
 /// Takes the first line of a text, whatever form the line has; the slow path of `take_first`.
-fn take_any<'a>(reader: &mut Reader, number: u64, text: &'a [u8]) -> Result<&'a [u8], DbFault>
+fn take_any<'a>(
+    reader: &mut DatabaseState,
+    number: u64,
+    text: &'a [u8],
+) -> Result<&'a [u8], DbFault>
     requires ready { IsReady reader.old }
     requires room { length reader.old.texts.arena < 2 ^ 32 - 1 }
     requires lists { length reader.old.bits < 2 ^ 32 - 1 }
@@ -129,7 +137,7 @@ fn take_any<'a>(reader: &mut Reader, number: u64, text: &'a [u8]) -> Result<&'a 
 }
 
 /// Takes the next line, which is line `number` of the database.
-fn take_line(reader: &mut Reader, number: u64, line: &[u8]) -> Result<(), DbFault>
+fn take_line(reader: &mut DatabaseState, number: u64, line: &[u8]) -> Result<(), DbFault>
     requires ready { IsReady reader.old }
     requires room { length reader.old.texts.arena < 2 ^ 32 - 1 }
     requires lists { length reader.old.bits < 2 ^ 32 - 1 }
@@ -143,12 +151,12 @@ fn take_line(reader: &mut Reader, number: u64, line: &[u8]) -> Result<(), DbFaul
 }
 
 /// The fault that a refusal of that line makes.
-fn fault_at(line: u64, refusal: Refusal) -> DbFault
+fn fault_at(line: u64, refusal: DbLineRefusal) -> DbFault
     ensures { result ≡ located refusal line }
 {
     match refusal {
-        Refusal::Cause(cause) => DbFault::At { line, cause },
-        Refusal::Memory(e) => DbFault::Memory(e),
+        DbLineRefusal::Cause(cause) => DbFault::At { line, cause },
+        DbLineRefusal::Memory(e) => DbFault::Memory(e),
     }
 }
 
@@ -160,7 +168,7 @@ ghost use Rattle.chipdb_reader.specs.Reading.{FitsReader};
 ghost use Rattle.chipdb_reader.specs.Sound.{IsSound};
 
 /// The database, after all lines were read. `number` is the number of the line after the last.
-fn finish(reader: Reader, number: u64) -> Result<ChipDb, DbFault>
+fn finish(reader: DatabaseState, number: u64) -> Result<ChipDb, DbFault>
     requires ready { IsReady reader }
     requires sound { (chip : Chip) (kept : Kept) → reader.chip ≡ Some chip → FitsReader chip reader kept → IsSound kept }
     requires fit { (chip : Chip) (kept : Kept) → reader.chip ≡ Some chip → FitsReader chip reader kept → IsFit (database_in kept) }

@@ -4,17 +4,15 @@ ghost use Rattle.std.specs.BTreeMap.{get, is_at};
 ghost use Rattle.chipdb_reader.specs.NameIndex.{cell_of, held_at, name_cmp, net_held, net_in};
 
 use crate::items::NetName;
+use plane_map::MAX_SIDE;
 use std::alloc::{AllocError, Global};
 use std::collections::BTreeMap;
-
-/// The width and the height of the grid that the table has cells for. The largest device, iCE40 HX8K, has this grid.
-const SIDE: usize = 34;
 
 /// How many names have cells in the table.
 const NAMES: usize = 4096;
 
 /// How many cells the table has at most.
-const CELLS: usize = NAMES * SIDE * SIDE;
+const CELLS: usize = NAMES * MAX_SIDE * MAX_SIDE;
 
 /// The value of a cell whose name no net has.
 const NO_NET: u32 = u32::MAX;
@@ -67,8 +65,8 @@ fn cell_of(name: &NetName) -> Option<usize>
     ensures small { IfSome result (λ cell. cell < CELLS) }
 {
     let (x, y, grid) = (name.x as usize, name.y as usize, name.name.place());
-    if x < SIDE && y < SIDE && grid < NAMES {
-        Some((grid * SIDE + y) * SIDE + x)
+    if x < MAX_SIDE && y < MAX_SIDE && grid < NAMES {
+        Some((grid * MAX_SIDE + y) * MAX_SIDE + x)
     } else {
         None
     }

@@ -4,7 +4,7 @@ ghost use Rattle.chipdb_lines.specs.Kept.{Reports};
 
 use crate::items::NetName;
 use crate::name_index::NameIndex;
-use chipdb_lines::{DbCause, Refusal};
+use chipdb_lines::{DbCause, DbLineRefusal};
 use indexmap::IndexMap;
 use std::alloc::{AllocError, Global};
 
@@ -50,7 +50,7 @@ impl Nets {
     }
 
     /// Begins the names of a net, unless that net was begun before.
-    pub(crate) fn begin(&mut self, net: u32) -> Result<(), Refusal>
+    pub(crate) fn begin(&mut self, net: u32) -> Result<(), DbLineRefusal>
         requires { IsNetIndex self.old }
         ensures begun { IfOk result (λ _. BeginsNet self.old self.new net) }
         ensures refused { IfErr result (Reports (if has_net self.old net then Some DbCause.NetTwice else None)) }
@@ -58,7 +58,7 @@ impl Nets {
     {
         self.close()?;
         if self.earlier.contains_key(&net) {
-            return Err(Refusal::Cause(DbCause::NetTwice));
+            return Err(DbLineRefusal::Cause(DbCause::NetTwice));
         }
         self.last = Some(net);
         Ok(())
@@ -90,14 +90,14 @@ impl Nets {
     }
 
     /// Adds a name to the net that was begun last, unless the tile has that name already.
-    pub(crate) fn add(&mut self, net: u32, name: NetName) -> Result<(), Refusal>
+    pub(crate) fn add(&mut self, net: u32, name: NetName) -> Result<(), DbLineRefusal>
         requires indexed { IsNetIndex self.old }
         requires last { self.old.last ≡ Some net }
         ensures added { IfOk result (λ _. AddsName self.old self.new net name) }
         ensures refused { IfErr result (Reports (if is_some (named_net self.old name) then Some DbCause.NameTwice else None)) }
     {
         if self.index.get(&name).is_some() {
-            return Err(Refusal::Cause(DbCause::NameTwice));
+            return Err(DbLineRefusal::Cause(DbCause::NameTwice));
         }
         self.index.put(&name, net)?;
         self.names.push(name).map_err(AllocError::from)?;

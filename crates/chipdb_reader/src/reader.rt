@@ -20,7 +20,7 @@ use text_lines::{LineFeed, LineTaker};
 /// use chipdb_reader::read;
 ///
 /// let db = read(alloc, b".device 1k 14 18 2\n.net 1\n1 1 lutff_0/out\n")?;
-/// let device = db.device(); // DeviceName::K1
+/// let device = db.device(); // DeviceName::Hx1k
 /// let net = db.net_of(1, 1, b"lutff_0/out"); // Some(1)
 /// ```
 pub fn read(alloc: Global, bytes: &[u8]) -> Result<ChipDb, DbFault>

@@ -10,7 +10,7 @@ use crate::items::{Extra, Function, LinkLine, NetName};
 use crate::nets::Nets;
 use crate::texts::Texts;
 use chipdb_lines::{
-    Below, BitTable, Chip, Choice, GlobalInput, GlobalPin, LinkHead, Refusal, choice_item,
+    Below, BitTable, Chip, Choice, DbLineRefusal, GlobalInput, GlobalPin, LinkHead, choice_item,
     choice_line, extra_item, function_item, global_input, global_pin, is_statement, name_item,
     own_words, statement,
 };
@@ -19,7 +19,7 @@ use std::alloc::{AllocError, Global};
 
 /// What the lines so far have given, and how the next ones are read.
 #[derive(Drop)]
-pub(crate) struct Reader {
+pub(crate) struct DatabaseState {
     pub(crate) chip: Option<Chip>,
     below: Below,
     pub(crate) texts: Texts,
@@ -33,17 +33,17 @@ pub(crate) struct Reader {
     pub(crate) global_pins: Vec<GlobalPin>,
 }
 
-impl Reader {
+impl DatabaseState {
     ghost use Rattle.chipdb_reader.specs.Nets.{IsNetIndex};
     ghost use Rattle.chipdb_reader.specs.Texts.{IsIndexed};
     ghost use Rattle.chipdb_reader.specs.Buffers.{IsChosen};
     ghost use Rattle.chipdb_reader.specs.Reading.{BeginsBlock, BufferRefusal, ForCause, IsReady, IsUnread, NameRefusal, PushesBuffer, PushesExtra, PushesFunction, PushesName, RefusesFirst, RefusesItem, RefusesLine, RefusesWords, StatementRefusal, TakesFirst, TakesItem, TakesLine, TakesStatement, TakesWords, begin_cause};
 
     /// A reader that has read no line. It takes no memory yet.
-    pub(crate) fn new(alloc: Global) -> Reader
+    pub(crate) fn new(alloc: Global) -> DatabaseState
         ensures { IsUnread result }
     {
-        Reader {
+        DatabaseState {
             chip: None,
             below: Below::Passed,
             texts: Texts::new(alloc),
@@ -59,7 +59,7 @@ impl Reader {
     }
 
     /// Takes the next line.
-    pub(crate) fn accept(&mut self, line: &[u8]) -> Result<(), Refusal>
+    pub(crate) fn accept(&mut self, line: &[u8]) -> Result<(), DbLineRefusal>
         requires ready { IsReady self.old }
         requires room { length self.old.texts.arena < 2 ^ 32 - 1 }
         requires lists { length self.old.bits < 2 ^ 32 - 1 }
@@ -78,7 +78,10 @@ impl Reader {
 
     /// A fast path of `accept` for a line of links in its usual form: takes the first line of a text, and returns what follows it. `None`
     /// if the line has another form.
-    pub(crate) fn accept_choice<'a>(&mut self, text: &'a [u8]) -> Result<Option<&'a [u8]>, Refusal>
+    pub(crate) fn accept_choice<'a>(
+        &mut self,
+        text: &'a [u8],
+    ) -> Result<Option<&'a [u8]>, DbLineRefusal>
         requires { IsReady self.old }
         ensures taken { IfOk result (λ rest. MatchOption rest (self.new ≡ self.old) (λ rest. TakesFirst self.old text.now rest.now self.new)) }
         ensures refused { IfErr result (ForCause (RefusesFirst self.old text.now)) }
@@ -96,7 +99,7 @@ impl Reader {
         chip: Chip,
         head: LinkHead,
         text: &'a [u8],
-    ) -> Result<Option<&'a [u8]>, Refusal>
+    ) -> Result<Option<&'a [u8]>, DbLineRefusal>
         requires chosen { IsChosen self.old.buffers }
         requires few { head.count ≤ 64 }
         ensures taken { IfOk result (λ rest. MatchOption rest (self.new ≡ self.old) (λ rest. BeginsWithPair text.now rest.now (λ words. TakesItem self.old chip (Below.Buffers head) words self.new))) }
@@ -117,7 +120,7 @@ impl Reader {
         chip: Chip,
         head: LinkHead,
         text: &'a [u8],
-    ) -> Result<Option<&'a [u8]>, Refusal>
+    ) -> Result<Option<&'a [u8]>, DbLineRefusal>
         requires { head.count ≤ 64 }
         ensures taken { IfOk result (λ rest. MatchOption rest (self.new ≡ self.old) (λ rest. BeginsWithPair text.now rest.now (λ words. TakesItem self.old chip (Below.Routings head) words self.new))) }
         ensures refused { IfErr result (Reports None) }
@@ -125,14 +128,14 @@ impl Reader {
         match choice_line(chip.nets, head.count as usize, text) {
             None => Ok(None),
             Some(line) => match self.routings.push(link(head, line.choice)) {
-                Err(e) => Err(Refusal::Memory(AllocError::from(e))),
+                Err(e) => Err(DbLineRefusal::Memory(AllocError::from(e))),
                 Ok(()) => Ok(Some(line.rest)),
             },
         }
     }
 
     /// Takes a statement.
-    fn accept_statement(&mut self, line: &[u8]) -> Result<(), Refusal>
+    fn accept_statement(&mut self, line: &[u8]) -> Result<(), DbLineRefusal>
         requires ready { IsReady self.old }
         requires lists { length self.old.bits < 2 ^ 32 - 1 }
         ensures taken { IfOk result (λ _. TakesStatement self.old line.now self.new) }
@@ -143,7 +146,7 @@ impl Reader {
     }
 
     /// Begins the lines below a statement.
-    fn begin(&mut self, below: Below) -> Result<(), Refusal>
+    fn begin(&mut self, below: Below) -> Result<(), DbLineRefusal>
         requires { IsNetIndex self.old.nets }
         ensures begun { IfOk result (λ _. BeginsBlock self.old below self.new) }
         ensures fits { OnOk result (begin_cause self.old.nets below ≡ None) }
@@ -162,7 +165,7 @@ impl Reader {
     }
 
     /// Takes the words of a line for the statement above it.
-    fn accept_words(&mut self, words: &[u8]) -> Result<(), Refusal>
+    fn accept_words(&mut self, words: &[u8]) -> Result<(), DbLineRefusal>
         requires ready { IsReady self.old }
         requires room { length self.old.texts.arena < 2 ^ 32 - 1 }
         requires lists { length self.old.bits < 2 ^ 32 - 1 }
@@ -177,7 +180,7 @@ impl Reader {
     }
 
     /// Takes the words of a line for the statement above it, after the device was given.
-    fn accept_item(&mut self, chip: Chip, words: &[u8]) -> Result<(), Refusal>
+    fn accept_item(&mut self, chip: Chip, words: &[u8]) -> Result<(), DbLineRefusal>
         requires ready { IsReady self.old }
         requires room { length self.old.texts.arena < 2 ^ 32 - 1 }
         requires lists { length self.old.bits < 2 ^ 32 - 1 }
@@ -197,7 +200,7 @@ impl Reader {
     }
 
     /// Takes a line of functions.
-    fn accept_function(&mut self, kind: TileKind, words: &[u8]) -> Result<(), Refusal>
+    fn accept_function(&mut self, kind: TileKind, words: &[u8]) -> Result<(), DbLineRefusal>
         requires indexed { IsIndexed self.old.texts }
         requires room { length self.old.texts.arena < 2 ^ 32 - 1 }
         requires lists { length self.old.bits < 2 ^ 32 - 1 }
@@ -217,14 +220,14 @@ impl Reader {
     }
 
     /// Takes a line of extra bits.
-    fn accept_extra(&mut self, device: DeviceName, words: &[u8]) -> Result<(), Refusal>
+    fn accept_extra(&mut self, device: DeviceName, words: &[u8]) -> Result<(), DbLineRefusal>
         requires indexed { IsIndexed self.old.texts }
         requires room { length self.old.texts.arena < 2 ^ 32 - 1 }
         ensures taken { IfOk result (λ _. PushesExtra device (words_in words.now) self.old self.new) }
         ensures refused { IfErr result (Reports (result_err (extra_of device (words_in words.now)))) }
     {
         match extra_item(device, words) {
-            Err(cause) => Err(Refusal::Cause(cause)),
+            Err(cause) => Err(DbLineRefusal::Cause(cause)),
             Ok(item) => {
                 let name = self.texts.intern(item.name)?;
                 self.extras
@@ -236,7 +239,12 @@ impl Reader {
     }
 
     /// Takes a name of a net.
-    fn accept_name(&mut self, device: DeviceName, net: u32, words: &[u8]) -> Result<(), Refusal>
+    fn accept_name(
+        &mut self,
+        device: DeviceName,
+        net: u32,
+        words: &[u8],
+    ) -> Result<(), DbLineRefusal>
         requires indexed { IsIndexed self.old.texts }
         requires nets { IsNetIndex self.old.nets }
         requires last { self.old.nets.last ≡ Some net }
@@ -245,7 +253,7 @@ impl Reader {
         ensures refused { IfErr result (ForCause (NameRefusal device net (words_in words.now) self.old)) }
     {
         match name_item(device, words) {
-            Err(cause) => Err(Refusal::Cause(cause)),
+            Err(cause) => Err(DbLineRefusal::Cause(cause)),
             Ok(item) => {
                 let name = self.texts.intern(item.name)?;
                 self.nets.add(
@@ -261,21 +269,26 @@ impl Reader {
     }
 
     /// Takes a line of a `.buffer`.
-    fn accept_buffer(&mut self, nets: u32, head: LinkHead, words: &[u8]) -> Result<(), Refusal>
+    fn accept_buffer(
+        &mut self,
+        nets: u32,
+        head: LinkHead,
+        words: &[u8],
+    ) -> Result<(), DbLineRefusal>
         requires chosen { IsChosen self.old.buffers }
         requires few { head.count ≤ 64 }
         ensures taken { IfOk result (λ _. PushesBuffer nets head (words_in words.now) self.old self.new) }
         ensures refused { IfErr result (ForCause (BufferRefusal nets head (words_in words.now) self.old)) }
     {
         match choice_item(nets, head.count as usize, words) {
-            Err(cause) => Err(Refusal::Cause(cause)),
+            Err(cause) => Err(DbLineRefusal::Cause(cause)),
             Ok(choice) => self.buffers.add(link(head, choice)),
         }
     }
 }
 
 ghost use Rattle.std.specs.Prelude.{Some};
-ghost use Rattle.place_search.specs.Places.{or_else};
+ghost use Rattle.index_search.specs.Places.{or_else};
 ghost use Rattle.chipdb_lines.specs.Items.{extra_of, function_of};
 ghost use Rattle.chipdb_reader.specs.Reading.{Pushes, PushesRouting, link_with};
 
@@ -309,7 +322,7 @@ fn push_routing(
     nets: u32,
     head: LinkHead,
     words: &[u8],
-) -> Result<(), Refusal>
+) -> Result<(), DbLineRefusal>
     requires { head.count ≤ 64 }
     ensures taken { MatchResult result
         (λ _. PushesRouting nets head (words_in words.now) routings.old.items routings.new.items)
@@ -317,7 +330,7 @@ fn push_routing(
     ensures unchanged { OnErr result (routings.new.items ≡ routings.old.items) }
 {
     match choice_item(nets, head.count as usize, words) {
-        Err(cause) => Err(Refusal::Cause(cause)),
+        Err(cause) => Err(DbLineRefusal::Cause(cause)),
         Ok(choice) => {
             routings.push(link(head, choice)).map_err(AllocError::from)?;
             Ok(())
@@ -330,14 +343,14 @@ fn push_global_input(
     inputs: &mut Vec<GlobalInput>,
     device: DeviceName,
     words: &[u8],
-) -> Result<(), Refusal>
+) -> Result<(), DbLineRefusal>
     ensures taken { MatchResult result
         (λ _. Pushes (global_input_of device (words_in words.now)) inputs.old.items inputs.new.items)
         (Reports (result_err (global_input_of device (words_in words.now)))) }
     ensures unchanged { OnErr result (inputs.new.items ≡ inputs.old.items) }
 {
     match global_input(device, words) {
-        Err(cause) => Err(Refusal::Cause(cause)),
+        Err(cause) => Err(DbLineRefusal::Cause(cause)),
         Ok(input) => {
             inputs.push(input).map_err(AllocError::from)?;
             Ok(())
@@ -350,14 +363,14 @@ fn push_global_pin(
     pins: &mut Vec<GlobalPin>,
     device: DeviceName,
     words: &[u8],
-) -> Result<(), Refusal>
+) -> Result<(), DbLineRefusal>
     ensures taken { MatchResult result
         (λ _. Pushes (global_pin_of device (words_in words.now)) pins.old.items pins.new.items)
         (Reports (result_err (global_pin_of device (words_in words.now)))) }
     ensures unchanged { OnErr result (pins.new.items ≡ pins.old.items) }
 {
     match global_pin(device, words) {
-        Err(cause) => Err(Refusal::Cause(cause)),
+        Err(cause) => Err(DbLineRefusal::Cause(cause)),
         Ok(pin) => {
             pins.push(pin).map_err(AllocError::from)?;
             Ok(())

@@ -3,18 +3,18 @@ use Rattle.std.proofs.Common.{◌≡◌, ◌∙◌, ℕ, ◌^◌, ◌≤◌, Boo
 use Rattle.std.specs.Prelude.{Option, Some, None, Result, Ok, Err, get_or, codes, if◌then◌else◌, is_some, ◌&&◌, nat_le, length}
 use Rattle.clap.specs.Words.{Row, Text, first_of, matches_of}
 use Rattle.layout_file.specs.declared.layouts.Layouts.{Layouts}
-use Rattle.tool_parts.specs.Layouts.{answer_under, behind_layout, layouts_for}
-use Rattle.tool_parts.specs.DesignInput.{answer_of_both, answer_to_both}
+use Rattle.tool_inputs.specs.Layouts.{answer_under, behind_layout, layouts_for}
+use Rattle.tool_inputs.specs.DesignInput.{answer_of_both, answer_to_both}
 use Rattle.ice_image.specs.Configuration.{Configuration}
 use Rattle.chipdb_reader.specs.Database.{Database}
 use Rattle.chipdb_reader.specs.Fit.{IsFit}
 use Rattle.vlog_module.specs.Names.{is_name, reserved_words, IsName}
 use Rattle.vlog_module.specs.Parts.{Parts}
 use Rattle.vlog_module.specs.WellFormed.{IsModule}
-use Rattle.net_extract.specs.declared.pin.Pin.{Pin}
-use Rattle.net_extract.specs.Steps.{IsRun}
+use Rattle.fabric_model.specs.declared.pin.Pin.{Pin}
+use Rattle.fabric_model.specs.Steps.{IsRun}
 use Rattle.pin_file.specs.declared.pin_name.PinName.{PinName}
-use Rattle.pin_file.specs.declared.fault.PinFault.{PinFault}
+use Rattle.pin_file.specs.declared.fault.PinFileFault.{PinFileFault}
 use Rattle.pin_file.specs.Faults.{pin_fault_of, ports_of}
 use Rattle.pin_file.specs.Packages.{Package, package_of}
 use Rattle.port_names.specs.Named.{AreAccepted, named_module, named_output, named_port, named_ports, switched_places}
@@ -23,34 +23,34 @@ use Rattle.port_names.proofs.IsFabric.{named-is-fabric}
 use Rattle.vlog_forms.specs.Printed.{printed}
 use Rattle.vlog_forms.proofs.PrintedTokens.{printed-spells}
 use Rattle.vlog_forms.proofs.Spelled.{one-module}
-use Rattle.net_extract.specs.declared.lut_inputs.LutInputs.{LutInputs}
-use Rattle.net_extract.specs.Fabric.{fabric_with, fabric_of}
+use Rattle.fabric_model.specs.declared.lut_inputs.LutInputs.{LutInputs}
+use Rattle.fabric_model.specs.Fabric.{fabric_with, fabric_of}
 use Rattle.graph_order.specs.Wiring.{IsWriteOrder}
-use Rattle.net_extract.specs.Wiring.{wiring_of}
-use Rattle.net_extract.specs.Faults.{Fault, design_fault}
-use Rattle.net_extract.proofs.Within.{fabric-within}
-use Rattle.net_extract.proofs.Taken.{design-taken, taken-order}
-use Rattle.net_extract.proofs.Alike.{design-run}
+use Rattle.fabric_model.specs.Wiring.{wiring_of}
+use Rattle.fabric_model.specs.Faults.{Fault, design_fault}
+use Rattle.fabric_model.proofs.Within.{fabric-within}
+use Rattle.fabric_model.proofs.Taken.{design-taken, taken-order}
+use Rattle.fabric_model.proofs.Alike.{design-run}
 use Rattle.fabric_module.specs.Written.{module_of}
 use Rattle.fabric_module.proofs.Design.{design-is-module, design-well_formed}
-use Rattle.tool_parts.proofs.CommandLines.{helped-no}
-use Rattle.tool_parts.specs.Databases.{database_read}
-use Rattle.tool_parts.specs.Images.{image_read}
+use Rattle.tool_inputs.proofs.CommandLines.{helped-no}
+use Rattle.tool_inputs.specs.Databases.{database_read}
+use Rattle.tool_inputs.specs.Images.{image_read}
 use Rattle.tool_run.specs.Runs.{Does, Outside, Scene}
 use Rattle.tool_run.specs.Tasks.{Answer, Done, Task, usage_error}
-use Rattle.tool_parts.specs.Commands.{has_flag, is_taken}
-use Rattle.tool_parts.specs.Outcomes.{asked}
+use Rattle.tool_inputs.specs.Commands.{has_flag, is_taken}
+use Rattle.tool_inputs.specs.Outcomes.{asked}
 use Rattle.design_tools.specs.declared.request.TheConstants.{ICEBOX_VLOG_HELP}
 use Rattle.design_tools.specs.Names.{name_given}
-use Rattle.design_parts.specs.Lines.{fabric_events}
-use Rattle.design_parts.specs.Order.{write_order}
+use Rattle.design_answers.specs.Lines.{fabric_events}
+use Rattle.design_answers.specs.Order.{write_order}
 use Rattle.design_tools.specs.Pins.{database_text, pin_text, texts_without_pins}
 use Rattle.design_tools.specs.Vlog.{Named, icebox_vlog, inputs_wanted, module_with_names, named_by, named_where, named_with, pins_in, written, written_module, written_named, written_with, vlog_command, vlog_name, vlog_outcome, vlog_task_by, vlog_task_of, vlog_usage}
 use Rattle.design_tools.specs.Fabric.{HasNoPinFault, PromisesFabric, SpellsFabric, WritesFabric, names_given, names_layout, package_given, texts_of_design}
-use Rattle.tool_parts.proofs.Appended.{helped-kept}
-use Rattle.tool_parts.proofs.Databases.{read-few, read-fit}
-use Rattle.design_parts.proofs.Lines.{run-shown}
-use Rattle.design_parts.proofs.Order.{order-is}
+use Rattle.tool_inputs.proofs.Appended.{helped-kept}
+use Rattle.tool_inputs.proofs.Databases.{read-few, read-fit}
+use Rattle.design_answers.proofs.Lines.{run-shown}
+use Rattle.design_answers.proofs.Order.{order-is}
 
 -- ---- the module
 
@@ -130,7 +130,7 @@ module _ (inputs : LutInputs) (name : List ℕ) (is_name : IsName name) (db : Da
   abbrev IsNamed : Type 0
   IsNamed = (pin_fault_of chosen (switched_places (fabric_of db image).pins) file ≡ None) × SpellsFabric (ports_of chosen file) db image bytes
 
-  accepted-done : (fault : Option PinFault) → design_fault inputs db image ≡ None
+  accepted-done : (fault : Option PinFileFault) → design_fault inputs db image ≡ None
       → pin_fault_of chosen (switched_places (fabric_with inputs db image).pins) file ≡ fault → named_with inputs name (ports_of chosen file) db image fault ≡ Done bytes → IsNamed
   accepted-done (Some fault) none is done = absurd cc
   accepted-done None none is done =

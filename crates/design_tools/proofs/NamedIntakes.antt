@@ -5,11 +5,11 @@ use Rattle.std.specs.Result.{result_ok}
 use Rattle.std.specs.declared.alloc.AllocError.{AllocError}
 use Rattle.tool_run.specs.Collected.{Collects}
 use Rattle.tool_run.specs.declared.collected.Collected.{Collected}
-use Rattle.tool_parts.specs.declared.design_input.DesignInput.{DesignInput}
-use Rattle.tool_parts.specs.declared.taking.Taking.{Taking}
-use Rattle.tool_parts.specs.DesignInput.{TakesInput}
-use Rattle.tool_parts.specs.Layouts.{behind_layout}
-use Rattle.tool_parts.specs.Taking.{IsTaking}
+use Rattle.tool_inputs.specs.declared.design_input.DesignInput.{DesignInput}
+use Rattle.tool_inputs.specs.declared.taking.Taking.{Taking}
+use Rattle.tool_inputs.specs.DesignInput.{TakesInput}
+use Rattle.tool_inputs.specs.Layouts.{behind_layout}
+use Rattle.tool_inputs.specs.Taking.{IsTaking}
 use Rattle.pin_file.specs.declared.pin_reader.PinReader.{PinReader}
 use Rattle.pin_file.specs.Feeding.{StandsFor}
 use Rattle.design_tools.specs.declared.named_intake.NextText.{NextText}

@@ -6,19 +6,19 @@ use Rattle.ice_image.specs.Configuration.{Configuration}
 use Rattle.chipdb_reader.specs.Database.{Database}
 use Rattle.vlog_module.specs.Parts.{Parts}
 use Rattle.vlog_forms.specs.Printed.{printed}
-use Rattle.net_extract.specs.declared.pin.Pin.{Pin}
-use Rattle.net_extract.specs.declared.lut_inputs.LutInputs.{LutInputs}
-use Rattle.net_extract.specs.Fabric.{Fabric, fabric_with}
-use Rattle.net_extract.specs.Wiring.{wiring_of}
-use Rattle.net_extract.specs.Faults.{Fault}
+use Rattle.fabric_model.specs.declared.pin.Pin.{Pin}
+use Rattle.fabric_model.specs.declared.lut_inputs.LutInputs.{LutInputs}
+use Rattle.fabric_model.specs.Fabric.{Fabric, fabric_with}
+use Rattle.fabric_model.specs.Wiring.{wiring_of}
+use Rattle.fabric_model.specs.Faults.{Fault}
 use Rattle.fabric.specs.declared.fault.FabricFault.{FabricFault}
 use Rattle.fabric.specs.Kept.{Kept}
 use Rattle.fabric.specs.Design.{IsDesignOf}
 use Rattle.fabric.specs.Faults.{IsCause}
 use Rattle.fabric_module.specs.Written.{module_of}
 use Rattle.pin_file.specs.declared.pin_name.PinName.{PinName}
-use Rattle.pin_file.specs.declared.fault.PinFault.{PinFault}
-use Rattle.pin_file.specs.declared.fault.PinFault.TheVariants.{At, Memory as OutOfMemory}
+use Rattle.pin_file.specs.declared.fault.PinFileFault.{PinFileFault}
+use Rattle.pin_file.specs.declared.fault.PinFileFault.TheVariants.{At, Memory as OutOfMemory}
 use Rattle.pin_file.specs.Faults.{Tells, pin_fault_of, ports_of}
 use Rattle.pin_file.specs.Packages.{Package}
 use Rattle.port_names.specs.Named.{named_module, switched_places}
@@ -26,11 +26,11 @@ use Rattle.tool_run.specs.declared.tool.Stop.{Stop}
 use Rattle.tool_run.specs.declared.tool.Stop.TheVariants.{Refused, UsageError, Memory}
 use Rattle.tool_run.specs.Stops.{StopsWith}
 use Rattle.tool_run.specs.Tasks.{Answer, Done, Refused as Refuses}
-use Rattle.design_parts.specs.Faults.{StopsFor, design_fault_text, told_fault}
-use Rattle.design_parts.proofs.Causes.{cause-told}
+use Rattle.design_answers.specs.Faults.{StopsFor, design_fault_text, told_fault}
+use Rattle.design_answers.proofs.Causes.{cause-told}
 use Rattle.design_tools.specs.Pins.{StopsForPins}
 use Rattle.design_tools.specs.Vlog.{module_with_names, named_where, named_with, written, written_module, written_named, written_with}
-use Rattle.design_parts.proofs.Order.{order-is}
+use Rattle.design_answers.proofs.Order.{order-is}
 
 -- the text of the module of a design
 pub written_done : (name : List ℕ) (db : Database) (image : Configuration) (design : Kept) (m : Parts) (text : List ℕ) → IsDesignOf db image design
@@ -56,7 +56,7 @@ module _ (name : List ℕ) (chosen : Package) (pins : List ℕ) (db : Database) 
   abbrev inputs : LutInputs
   inputs = design.parts.lut_inputs
 
-  fault-is : (fault : Option PinFault) → pin_fault_of chosen (switched_places design.parts.pins.items) pins ≡ fault
+  fault-is : (fault : Option PinFileFault) → pin_fault_of chosen (switched_places design.parts.pins.items) pins ≡ fault
       → written_named inputs name chosen pins db image ≡ named_with inputs name (ports_of chosen pins) db image fault
   fault-is fault told =
       ap (named_where inputs name chosen pins db image) is.taken
@@ -70,7 +70,7 @@ module _ (name : List ℕ) (chosen : Package) (pins : List ℕ) (db : Database) 
       fault-is None none ∙ ap Done (sym (shown ∙ ap (λ (ports : List PinName). printed (module_with_names ports inputs name db image)) are))
 
   -- a tool that tells its fault stops as it has to
-  pub pins_stop : (fault : PinFault) (stop : Stop) → Tells (pin_fault_of chosen (switched_places design.parts.pins.items) pins) fault → StopsForPins fault stop
+  pub pins_stop : (fault : PinFileFault) (stop : Stop) → Tells (pin_fault_of chosen (switched_places design.parts.pins.items) pins) fault → StopsForPins fault stop
       → StopsWith (written_named inputs name chosen pins db image) stop
   pins_stop (At line cause) stop tells stops = subst (λ (answer : Answer). StopsWith answer stop) (sym (fault-is (Some (At line cause)) tells)) stops
   pins_stop (OutOfMemory failed) stop tells stops = rw stops tt

@@ -3,29 +3,29 @@ use Rattle.std.specs.Prelude.{◌≡◌, ℕ, Bool, false, List, [], map, codes,
 use Rattle.std.specs.List.{AllZip}
 use Rattle.clap.specs.Words.{first_of, matches_of}
 use Rattle.layout_file.specs.declared.layouts.Layouts.{Layouts}
-use Rattle.tool_parts.specs.Layouts.{behind_layout, layouts_for}
+use Rattle.tool_inputs.specs.Layouts.{behind_layout, layouts_for}
 use Rattle.ice_image.specs.Configuration.{Configuration}
 use Rattle.chipdb_reader.specs.Database.{Database}
 use Rattle.vlog_forms.specs.Items.{IsSpelling}
-use Rattle.vlog_cycle.specs.Events.{events_of}
-use Rattle.vlog_plan.specs.Run.{module_run}
-use Rattle.vlog_cycle.specs.Text.{run_text}
-use Rattle.net_extract.specs.Fabric.{fabric_of}
-use Rattle.net_extract.specs.Steps.{Event, Entry, IsRun}
-use Rattle.net_extract.specs.Unique.{ExactlyOne}
+use Rattle.vlog_run.specs.Events.{events_of}
+use Rattle.vlog_semantics.specs.Run.{module_run}
+use Rattle.vlog_run.specs.Text.{run_text}
+use Rattle.fabric_model.specs.Fabric.{fabric_of}
+use Rattle.fabric_model.specs.Steps.{Event, Entry, IsRun}
+use Rattle.fabric_model.specs.Unique.{ExactlyOne}
 use Rattle.fabric_module.specs.Matching.{module_event}
 use Rattle.pin_file.specs.declared.pin_name.PinName.{PinName}
-use Rattle.net_extract.specs.declared.pin.Pin.{Pin}
+use Rattle.fabric_model.specs.declared.pin.Pin.{Pin}
 use Rattle.pin_file.specs.Faults.{pin_fault_of, ports_of}
 use Rattle.pin_file.specs.Packages.{Package, package_of}
 use Rattle.port_names.specs.Named.{named_ports, switched_places}
 use Rattle.port_names.specs.Matching.{MatchesNamed}
 use Rattle.tool_run.specs.Runs.{Outside, Scene}
 use Rattle.tool_run.specs.Tasks.{asks_for_help}
-use Rattle.tool_parts.specs.Appended.{AppendsFor}
-use Rattle.tool_parts.specs.Databases.{database_read}
-use Rattle.tool_parts.specs.Images.{image_read}
-use Rattle.design_parts.specs.Lines.{fabric_events, fabric_text}
+use Rattle.tool_inputs.specs.Appended.{AppendsFor}
+use Rattle.tool_inputs.specs.Databases.{database_read}
+use Rattle.tool_inputs.specs.Images.{image_read}
+use Rattle.design_answers.specs.Lines.{fabric_events, fabric_text}
 use Rattle.design_tools.specs.Pins.{database_text, pin_text, texts_without_pins}
 use Rattle.design_tools.specs.Vlog.{vlog_command, vlog_outcome}
 

@@ -2,7 +2,7 @@
 use Rattle.std.specs.Prelude.{◌≡◌, Bool, true, List, codes, refl, Option, None, Some}
 use Rattle.clap.specs.Words.{Row, Text, first_of, is_simple_and_free}
 use Rattle.clap.proofs.OnLiterals.{clap_on_literals}
-use Rattle.tool_parts.specs.Commands.{has_flag}
+use Rattle.tool_inputs.specs.Commands.{has_flag}
 use Rattle.design_tools.specs.Names.{name_given}
 use Rattle.design_tools.specs.Vlog.{Named, pins_in, vlog_command, vlog_name, vlog_task_by, vlog_task_of}
 

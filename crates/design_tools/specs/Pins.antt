@@ -1,26 +1,26 @@
 -- The pin file of `icebox_vlog`, and the message for its fault.
 use Rattle.std.specs.Prelude.{◌≡◌, ◌<◌, ℕ, Bool, true, false, List, [], ◌++◌, codes, decimal, drop, get_or, length, take, Option, Some, None}
-use Rattle.pin_file.specs.declared.fault.PinCause.{PinCause}
-use Rattle.pin_file.specs.declared.fault.PinCause.TheVariants.{Statement, Package, Pin, Repeated, Name}
-use Rattle.pin_file.specs.declared.fault.PinFault.{PinFault}
-use Rattle.pin_file.specs.declared.fault.PinFault.TheVariants.{At, Memory}
+use Rattle.pin_file.specs.declared.fault.PinFileCause.{PinFileCause}
+use Rattle.pin_file.specs.declared.fault.PinFileCause.TheVariants.{Statement, Package, Pin, Repeated, Name}
+use Rattle.pin_file.specs.declared.fault.PinFileFault.{PinFileFault}
+use Rattle.pin_file.specs.declared.fault.PinFileFault.TheVariants.{At, Memory}
 use Rattle.pin_file.specs.declared.pin_reader.PinReader.{PinReader}
 use Rattle.pin_file.specs.Feeding.{StandsFor}
 use Rattle.tool_run.specs.Stops.{StopsWith}
 use Rattle.tool_run.specs.Tasks.{Refused}
 use Rattle.tool_run.specs.declared.tool.Stop.{Stop}
 use Rattle.tool_run.specs.declared.tool.Stop.TheVariants.{Memory as OutOfMemory}
-use Rattle.tool_parts.specs.declared.design_input.DesignInput.{DesignInput}
-use Rattle.tool_parts.specs.declared.taking.Taking.{Taking}
-use Rattle.tool_parts.specs.DesignInput.{fed_input}
-use Rattle.tool_parts.specs.Layouts.{behind_layout}
-use Rattle.tool_parts.specs.Taking.{fed_of}
+use Rattle.tool_inputs.specs.declared.design_input.DesignInput.{DesignInput}
+use Rattle.tool_inputs.specs.declared.taking.Taking.{Taking}
+use Rattle.tool_inputs.specs.DesignInput.{fed_input}
+use Rattle.tool_inputs.specs.Layouts.{behind_layout}
+use Rattle.tool_inputs.specs.Taking.{fed_of}
 use Rattle.design_tools.specs.declared.named_intake.NextText.{NextText}
 use Rattle.design_tools.specs.declared.named_intake.NextText.TheVariants as next
 
 -- ---- the fault
 
-abbrev pub pin_cause_text : PinCause → List ℕ
+abbrev pub pin_cause_text : PinFileCause → List ℕ
 pin_cause_text Statement = codes ": Statement"
 pin_cause_text Package = codes ": Package"
 pin_cause_text Pin = codes ": Pin"
@@ -28,12 +28,12 @@ pin_cause_text Repeated = codes ": Repeated"
 pin_cause_text Name = codes ": Name"
 
 -- the faulty line, and the cause
-abbrev pub pin_fault_text : PinFault → List ℕ
+abbrev pub pin_fault_text : PinFileFault → List ℕ
 pin_fault_text (At line cause) = codes "pin file line " ++ decimal line ++ pin_cause_text cause
 pin_fault_text (Memory e) = codes "out of memory"
 
 -- a tool stops with the message for the fault of a pin file, or out of memory
-abbrev pub StopsForPins : PinFault → Stop → Type 0
+abbrev pub StopsForPins : PinFileFault → Stop → Type 0
 StopsForPins (At line cause) stop = StopsWith (Refused (pin_fault_text (At line cause))) stop
 StopsForPins (Memory e) stop = stop ≡ OutOfMemory
 

@@ -1,8 +1,8 @@
 -- What `icebox_vlog` has taken of its texts so far, if a pin file names the ports.
 use Rattle.std.specs.Prelude.{ℕ, Bool, List, length}
 use Rattle.tool_run.specs.Collected.{Collects}
-use Rattle.tool_parts.specs.DesignInput.{TakesInput, fed_input}
-use Rattle.tool_parts.specs.Taking.{IsTaking, fed_of}
+use Rattle.tool_inputs.specs.DesignInput.{TakesInput, fed_input}
+use Rattle.tool_inputs.specs.Taking.{IsTaking, fed_of}
 use Rattle.design_tools.specs.declared.named_intake.NextText.{NextText}
 use Rattle.design_tools.specs.declared.named_intake.NamedIntake.{NamedIntake}
 use Rattle.design_tools.specs.Pins.{HasPins, StandsBehind, database_so_far, design_bytes, pin_file_so_far, texts_without_pins}

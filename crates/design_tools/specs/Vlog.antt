@@ -7,33 +7,33 @@ use Rattle.ice_image.specs.Configuration.{Configuration}
 use Rattle.chipdb_reader.specs.Database.{Database}
 use Rattle.vlog_module.specs.Parts.{Parts}
 use Rattle.vlog_forms.specs.Printed.{printed}
-use Rattle.net_extract.specs.declared.lut_inputs.LutInputs.{LutInputs}
-use Rattle.net_extract.specs.declared.lut_inputs.LutInputs.TheVariants as read
-use Rattle.net_extract.specs.Fabric.{fabric_with}
-use Rattle.net_extract.specs.Wiring.{wiring_of}
-use Rattle.net_extract.specs.Faults.{Fault, design_fault}
+use Rattle.fabric_model.specs.declared.lut_inputs.LutInputs.{LutInputs}
+use Rattle.fabric_model.specs.declared.lut_inputs.LutInputs.TheVariants as read
+use Rattle.fabric_model.specs.Fabric.{fabric_with}
+use Rattle.fabric_model.specs.Wiring.{wiring_of}
+use Rattle.fabric_model.specs.Faults.{Fault, design_fault}
 use Rattle.fabric_module.specs.Written.{module_of}
 use Rattle.tool_run.specs.Needs.{text_of}
 use Rattle.tool_run.specs.Tasks.{Answer, Done, Refused, Task, usage_error}
-use Rattle.tool_parts.specs.Outcomes.{Manual, outcome}
-use Rattle.tool_parts.specs.Commands.{command, has_flag, long_flag, long_option, positional, short_option}
-use Rattle.tool_parts.specs.DesignInput.{input_answer}
-use Rattle.tool_parts.specs.Layouts.{with_layout}
-use Rattle.tool_parts.specs.Images.{image_limit}
-use Rattle.tool_parts.specs.Databases.{database_limit}
+use Rattle.tool_inputs.specs.Outcomes.{Manual, outcome}
+use Rattle.tool_inputs.specs.Commands.{command, has_flag, long_flag, long_option, positional, short_option}
+use Rattle.tool_inputs.specs.DesignInput.{input_answer}
+use Rattle.tool_inputs.specs.Layouts.{with_layout}
+use Rattle.tool_inputs.specs.Images.{image_limit}
+use Rattle.tool_inputs.specs.Databases.{database_limit}
 use Rattle.design_tools.specs.declared.name.ModuleName.{ModuleName}
 use Rattle.design_tools.specs.declared.request.Request.{Request}
 use Rattle.design_tools.specs.declared.request.PinRequest.{PinRequest}
 use Rattle.design_tools.specs.declared.request.TheConstants.{ICEBOX_VLOG_HELP}
 use Rattle.design_tools.specs.Names.{name_given}
 use Rattle.design_tools.specs.Pins.{database_text, pin_fault_text, pin_text, texts_without_pins}
-use Rattle.pin_file.specs.declared.fault.PinFault.{PinFault}
+use Rattle.pin_file.specs.declared.fault.PinFileFault.{PinFileFault}
 use Rattle.pin_file.specs.declared.pin_name.PinName.{PinName}
 use Rattle.pin_file.specs.Faults.{pin_fault_of, ports_of}
 use Rattle.pin_file.specs.Packages.{Package, package_of}
 use Rattle.port_names.specs.Named.{named_module, switched_places}
-use Rattle.design_parts.specs.Order.{write_order}
-use Rattle.design_parts.specs.Faults.{design_fault_text}
+use Rattle.design_answers.specs.Order.{write_order}
+use Rattle.design_answers.specs.Faults.{design_fault_text}
 
 -- ---- the answer
 
@@ -56,7 +56,7 @@ abbrev pub written : LutInputs → List ℕ → Database → Configuration → A
 written inputs name db image = written_with inputs name db image (design_fault inputs db image)
 
 -- the text of the module whose ports have the names of a pin file, or the message for the fault of the file
-abbrev pub named_with : LutInputs → List ℕ → List PinName → Database → Configuration → Option PinFault → Answer
+abbrev pub named_with : LutInputs → List ℕ → List PinName → Database → Configuration → Option PinFileFault → Answer
 named_with inputs name named db image None = Done (printed (module_with_names named inputs name db image))
 named_with inputs name named db image (Some fault) = Refused (pin_fault_text fault)
 

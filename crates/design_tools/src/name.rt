@@ -5,7 +5,7 @@ ghost use Rattle.tool_run.specs.Needs.{text_of};
 ghost use Rattle.vlog_module.specs.Names.{IsName};
 ghost use Rattle.design_tools.specs.Names.{module_name, name_given};
 
-use vlog_text::is_name;
+use vlog_parser::is_name;
 
 /// The most bytes that a name on the command line may have.
 const NAME_LIMIT: usize = 64;

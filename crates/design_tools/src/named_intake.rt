@@ -4,7 +4,7 @@ ghost use Rattle.design_tools.specs.Pins.{HasPins, IsIdle, first_text};
 
 use pin_file::PinReader;
 use std::alloc::Global;
-use tool_parts::{DesignInput, Taking};
+use tool_inputs::{DesignInput, Taking};
 use tool_run::Collected;
 
 /// Which text comes next.

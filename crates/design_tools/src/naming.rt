@@ -9,7 +9,7 @@ ghost use Rattle.fabric.specs.Design.{IsDesignOf};
 ghost use Rattle.vlog_forms.specs.Printed.{printed};
 ghost use Rattle.pin_file.specs.Feeding.{kept_in};
 ghost use Rattle.pin_file.specs.Packages.{package_of};
-ghost use Rattle.pin_file.specs.declared.fault.PinFault.TheVariants.{At};
+ghost use Rattle.pin_file.specs.declared.fault.PinFileFault.TheVariants.{At};
 ghost use Rattle.port_names.specs.Named.{AreAccepted, switched_places};
 ghost use Rattle.tool_run.specs.Collected.{Collects};
 ghost use Rattle.tool_run.specs.Lines.{refusal_text};
@@ -25,17 +25,17 @@ use crate::name::ModuleName;
 use crate::named_intake::NamedIntake;
 use crate::request::{PinRequest, Request};
 use chipdb_reader::ChipDb;
-use design_parts::design_stop;
+use design_answers::design_stop;
 use fabric::{Design, design_with};
+use fabric_model::LutInputs;
 use ice_image::AnyImage;
-use net_extract::LutInputs;
-use pin_file::{PackagePins, PinCause, PinFault, PinName, PinPlace, PinReader, pin_names};
+use pin_file::{PackagePins, PinFileCause, PinFileFault, PinName, PinPlace, PinReader, pin_names};
 use port_names::{name_ports, switched_places};
 use std::alloc::{AllocError, Global};
-use tool_parts::{DB_LIMIT, DesignInput, IMAGE_LIMIT, LAYOUT_LIMIT, refusal, with_layout};
+use tool_inputs::{DB_LIMIT, DesignInput, IMAGE_LIMIT, LAYOUT_LIMIT, refusal, with_layout};
 use tool_run::{Collected, Host, Job, Load, PieceTool, Refusal, Stop, decimal, text};
 use vlog_emit::emit;
-use vlog_text::print;
+use vlog_parser::print;
 
 /// The most bytes that a pin file may have.
 const PINS_LIMIT: usize = 1_048_576;
@@ -201,32 +201,32 @@ fn named_text(
 }
 
 // Why a line of a pin file is refused, after a colon.
-fn pin_cause_text(cause: PinCause) -> &'static str
+fn pin_cause_text(cause: PinFileCause) -> &'static str
     ensures { result.now ≡ pin_cause_text cause }
 {
     match cause {
-        PinCause::Statement => ": Statement",
-        PinCause::Package => ": Package",
-        PinCause::Pin => ": Pin",
-        PinCause::Repeated => ": Repeated",
-        PinCause::Name => ": Name",
+        PinFileCause::Statement => ": Statement",
+        PinFileCause::Package => ": Package",
+        PinFileCause::Pin => ": Pin",
+        PinFileCause::Repeated => ": Repeated",
+        PinFileCause::Name => ": Name",
     }
 }
 
 // The refusal of a pin file: the line and the cause.
-fn pin_refusal(line: u64, cause: PinCause) -> Refusal<'static>
+fn pin_refusal(line: u64, cause: PinFileCause) -> Refusal<'static>
     ensures { refusal_text result ≡ pin_fault_text (At line cause) }
 {
     refusal(decimal("pin file line ", line), text(pin_cause_text(cause)))
 }
 
 // The stop for a pin file with this fault.
-fn pin_stop(fault: PinFault) -> Stop<'static>
+fn pin_stop(fault: PinFileFault) -> Stop<'static>
     ensures { StopsForPins fault result }
 {
     match fault {
-        PinFault::At { line, cause } => Stop::Refused(pin_refusal(line, cause)),
-        PinFault::Memory(_) => Stop::Memory,
+        PinFileFault::At { line, cause } => Stop::Refused(pin_refusal(line, cause)),
+        PinFileFault::Memory(_) => Stop::Memory,
     }
 }
 

@@ -7,9 +7,9 @@ ghost use Rattle.design_tools.specs.Vlog.{inputs_wanted, name_text, named_by, pi
 
 use crate::name::{ModuleName, name_given};
 use clap::{ArgMatches, Command};
-use net_extract::LutInputs;
+use fabric_model::LutInputs;
 use std::alloc::{AllocError, Global};
-use tool_parts::{has_flag, long_flag, long_option, positional, short_option, value, with};
+use tool_inputs::{has_flag, long_flag, long_option, positional, short_option, value, with};
 
 /// The command line of `icebox_vlog`.
 pub const ICEBOX_VLOG_USAGE: &str =

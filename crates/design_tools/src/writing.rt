@@ -9,8 +9,8 @@ ghost use Rattle.fabric.specs.Design.{IsDesignOf};
 ghost use Rattle.tool_run.specs.Runs.{Does};
 ghost use Rattle.tool_run.specs.Stops.{StopsWith};
 ghost use Rattle.tool_run.specs.Tasks.{Done};
-ghost use Rattle.tool_parts.specs.DesignInput.{TakesInput};
-ghost use Rattle.tool_parts.specs.Taking.{IsTaking};
+ghost use Rattle.tool_inputs.specs.DesignInput.{TakesInput};
+ghost use Rattle.tool_inputs.specs.Taking.{IsTaking};
 ghost use Rattle.design_tools.specs.Fabric.{PromisesFabric};
 ghost use Rattle.design_tools.specs.Vlog.{vlog_answer, vlog_outcome, vlog_task_for, write_task, written};
 ghost use Rattle.tool_run.specs.Needs.{text_of};
@@ -20,18 +20,18 @@ use crate::naming::write_named;
 use crate::request::{ICEBOX_VLOG_HELP, ICEBOX_VLOG_USAGE, Request, command, request_in};
 use chipdb_reader::ChipDb;
 use clap::{ArgMatches, Command};
-use design_parts::design_stop;
+use design_answers::design_stop;
 use fabric::{Design, design_with};
+use fabric_model::LutInputs;
 use ice_image::AnyImage;
-use net_extract::LutInputs;
 use std::alloc::{AllocError, Global};
-use tool_parts::{
+use tool_inputs::{
     CommandLine, DB_LIMIT, DesignInput, IMAGE_LIMIT, LAYOUT_LIMIT, Taking, Words, run_tool,
     with_layout,
 };
 use tool_run::{Host, Job, Load, PieceTool, Stop};
 use vlog_emit::emit;
-use vlog_text::print;
+use vlog_parser::print;
 
 /// Writes the module of a database and an image under a name. LUTs read these inputs. If a layout file is named, it comes first, and the
 /// image is read under its layouts.
@@ -44,8 +44,8 @@ pub(crate) struct Writing<'a> {
 }
 
 impl<'a> PieceTool for Writing<'a> {
-    ghost use Rattle.tool_parts.specs.DesignInput.{TakesInput, fed_input};
-    ghost use Rattle.tool_parts.specs.Taking.{IsTaking, fed_of};
+    ghost use Rattle.tool_inputs.specs.DesignInput.{TakesInput, fed_input};
+    ghost use Rattle.tool_inputs.specs.Taking.{IsTaking, fed_of};
     ghost use Rattle.design_tools.specs.Vlog.{vlog_answer};
 
     type Intake = Taking<DesignInput>;

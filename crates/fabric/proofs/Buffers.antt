@@ -8,9 +8,9 @@ use Rattle.ice_image.specs.Configuration.{Configuration}
 use Rattle.chipdb_reader.specs.declared.items.LinkLine.{LinkLine}
 use Rattle.chipdb_reader.specs.Database.{Link}
 use Rattle.chipdb_reader.specs.Kept.{Kept, link_line, link_lines, database_in}
-use Rattle.net_extract.specs.On.{is_link_on}
-use Rattle.net_extract.specs.Fabric.{buffer_of, buffers_of, numbered}
-use Rattle.net_extract.specs.Links.{places_on}
+use Rattle.fabric_model.specs.On.{is_link_on}
+use Rattle.fabric_model.specs.Fabric.{buffer_of, buffers_of, numbered}
+use Rattle.fabric_model.specs.Links.{places_on}
 use Rattle.fabric.specs.Buffers.{buffer_if, buffers_at}
 use Rattle.fabric.proofs.Lists.{StandsIn, numbered-stand}
 

@@ -5,20 +5,20 @@ use Rattle.std.proofs.lemmas.List.Elements.{All-nil, All-cons, All-weaker}
 use Rattle.ice_image.specs.Configuration.{Configuration}
 use Rattle.chipdb_reader.specs.Database.{Database}
 use Rattle.chipdb_reader.specs.Fit.{IsFit}
-use Rattle.net_extract.specs.Joins.{class_of}
-use Rattle.net_extract.specs.declared.lut_inputs.LutInputs.{LutInputs}
-use Rattle.net_extract.specs.Fabric.{Fabric, fabric_with, fabric_of}
-use Rattle.net_extract.specs.Values.{bit_in}
-use Rattle.net_extract.specs.Steps.{Event, Entry, IsEntry, FollowEach, IsRun}
-use Rattle.net_extract.specs.Clocks.{ClockEnd, LeadsTo, clock_end}
-use Rattle.net_extract.specs.Clocks.ClockEnd.{at_pin, undriven, logic}
-use Rattle.net_extract.specs.Faults.{design_fault}
-use Rattle.net_extract.proofs.Chains.{HasEndValue, clock-value, clock_end-leads}
-use Rattle.net_extract.proofs.Taken.{design-taken, taken-order}
-use Rattle.net_extract.proofs.Within.{fabric-within}
-use Rattle.net_extract.proofs.Runs.{IsClockEnd, IsClocked, fabric-placed, register-good, read-good, write-good}
-use Rattle.net_extract.proofs.Paired.{pairs-first}
-use Rattle.net_extract.proofs.Alike.{RegistersAlike, register-field, registers-alike, run-with, clock_end-with, leads-with}
+use Rattle.fabric_model.specs.Joins.{class_of}
+use Rattle.fabric_model.specs.declared.lut_inputs.LutInputs.{LutInputs}
+use Rattle.fabric_model.specs.Fabric.{Fabric, fabric_with, fabric_of}
+use Rattle.fabric_model.specs.Values.{bit_in}
+use Rattle.fabric_model.specs.Steps.{Event, Entry, IsEntry, FollowEach, IsRun}
+use Rattle.fabric_model.specs.Clocks.{ClockEnd, LeadsTo, clock_end}
+use Rattle.fabric_model.specs.Clocks.ClockEnd.{at_pin, undriven, logic}
+use Rattle.fabric_model.specs.Faults.{design_fault}
+use Rattle.fabric_model.proofs.Chains.{HasEndValue, clock-value, clock_end-leads}
+use Rattle.fabric_model.proofs.Taken.{design-taken, taken-order}
+use Rattle.fabric_model.proofs.Within.{fabric-within}
+use Rattle.fabric_model.proofs.Runs.{IsClockEnd, IsClocked, fabric-placed, register-good, read-good, write-good}
+use Rattle.fabric_model.proofs.Paired.{pairs-first}
+use Rattle.fabric_model.proofs.Alike.{RegistersAlike, register-field, registers-alike, run-with, clock_end-with, leads-with}
 use Rattle.fabric.specs.Clocks.{HasEndBit, HasClock, HasClocks}
 
 end-bit : (pins : List Bool) (end : ClockEnd) (bit : Bool) → IsClockEnd end → HasEndValue pins end bit → HasEndBit pins end bit

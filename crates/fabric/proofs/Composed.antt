@@ -7,27 +7,27 @@ use Rattle.std.proofs.Common.{arith, ◌≡◌, ◌++◌, ℕ, ◌≤◌, List, 
 use Rattle.ice_image.specs.Configuration.{Configuration}
 use Rattle.chipdb_reader.specs.Database.{Database}
 use Rattle.chipdb_reader.specs.Fit.{IsFit}
-use Rattle.net_extract.specs.Links.{AreLinks}
-use Rattle.net_extract.specs.Cells.{cells_of, sets_of}
-use Rattle.net_extract.specs.Registers.{registers_of, pin_registers_of}
-use Rattle.net_extract.specs.Rams.{rams_of}
-use Rattle.net_extract.specs.Pins.{pins_of, globals_of}
+use Rattle.fabric_model.specs.Links.{AreLinks}
+use Rattle.fabric_model.specs.Cells.{cells_of, sets_of}
+use Rattle.fabric_model.specs.Registers.{registers_of, pin_registers_of}
+use Rattle.fabric_model.specs.Rams.{rams_of}
+use Rattle.fabric_model.specs.Pins.{pins_of, globals_of}
 use Rattle.ice_image.specs.Bits.{ram_word_of}
-use Rattle.net_extract.specs.declared.ram.RamCell.{RamCell}
-use Rattle.net_extract.specs.declared.pin.Pin.{Pin}
-use Rattle.net_extract.specs.Tiles.{each_below}
-use Rattle.net_extract.specs.Faults.{fabric_fault, design_fault}
-use Rattle.net_extract.specs.declared.lut_inputs.LutInputs.{LutInputs}
-use Rattle.net_extract.specs.Fabric.{fabric_with, buffers_of}
-use Rattle.net_extract.proofs.Within.{fabric-in}
+use Rattle.fabric_model.specs.declared.ram.RamCell.{RamCell}
+use Rattle.fabric_model.specs.declared.pin.Pin.{Pin}
+use Rattle.fabric_model.specs.Tiles.{each_below}
+use Rattle.fabric_model.specs.Faults.{fabric_fault, design_fault}
+use Rattle.fabric_model.specs.declared.lut_inputs.LutInputs.{LutInputs}
+use Rattle.fabric_model.specs.Fabric.{fabric_with, buffers_of}
+use Rattle.fabric_model.proofs.Within.{fabric-in}
 use Rattle.fabric_wiring.specs.declared.parts.Parts.{Parts}
 use Rattle.fabric_wiring.specs.Parts.{ArePartsOf, buffer_of}
 use Rattle.graph_order.specs.Wiring.{IsWriteOrder}
-use Rattle.net_extract.specs.Wiring.{wiring_of}
+use Rattle.fabric_model.specs.Wiring.{wiring_of}
 use Rattle.fabric_wiring.specs.DriverLists.{DriverSet, AreDriversOf}
 use Rattle.fabric_wiring.specs.declared.ends.ClockEnd.{ClockEnd}
 use Rattle.fabric_wiring.specs.Ends.{AreEndsOf}
-use Rattle.net_extract.specs.Outputs.{outputs_of}
+use Rattle.fabric_model.specs.Outputs.{outputs_of}
 use Rattle.fabric_wiring.specs.declared.output_pins.Output.{Output}
 use Rattle.fabric_wiring.specs.Outputs.{output_of}
 use Rattle.fabric.specs.Kept.{Kept, AreWordsOf, IsKeptOf}

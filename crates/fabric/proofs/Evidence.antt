@@ -3,24 +3,24 @@ use Rattle.std.proofs.Common.{◌≡◌, ℕ, zero, suc, ◌<◌, ◌≤◌, Boo
 use Rattle.std.specs.Prelude.{Option, Some, None, Contains, flat_map, slice_index, get_or, ◌⊎◌}
 use Rattle.std.proofs.lemmas.Bool.{false≢true}
 use Rattle.plane_map.specs.declared.device.DeviceName.{DeviceName}
-use Rattle.place_search.specs.Places.{gathered_below}
-use Rattle.net_extract.specs.declared.driver.Driver.{Driver}
-use Rattle.net_extract.specs.declared.driver.ClockUser.{ClockUser}
-use Rattle.net_extract.specs.Tiles.{first_of, item_if}
-use Rattle.net_extract.specs.Fabric.{Fabric}
-use Rattle.net_extract.specs.Drivers.{Drive, drivers_of}
+use Rattle.index_search.specs.Places.{gathered_below}
+use Rattle.fabric_model.specs.declared.driver.Driver.{Driver}
+use Rattle.fabric_model.specs.declared.driver.ClockUser.{ClockUser}
+use Rattle.fabric_model.specs.Tiles.{first_of, item_if}
+use Rattle.fabric_model.specs.Fabric.{Fabric}
+use Rattle.fabric_model.specs.Drivers.{Drive, drivers_of}
 use Rattle.std.specs.declared.vec.Vec.{Vec}
 use Rattle.graph_order.proofs.Whole.{marked-within}
-use Rattle.place_search.proofs.Places.{gathered_below-none}
-use Rattle.net_extract.proofs.Firsts.{first_of-alone}
+use Rattle.index_search.proofs.Places.{gathered_below-none}
+use Rattle.fabric_model.proofs.Firsts.{first_of-alone}
 use Rattle.graph_order.specs.Wiring.{Wiring, is_on_cycle, IsCycle}
-use Rattle.net_extract.specs.Wiring.{wiring_of}
+use Rattle.fabric_model.specs.Wiring.{wiring_of}
 use Rattle.graph_order.proofs.Cycles.{IsBounded, is_on_cycle-whole}
 use Rattle.graph_order.specs.Rows.{ReadsByDriven, wiring_of as rows_wiring}
-use Rattle.net_extract.specs.Joins.{class_of}
-use Rattle.net_extract.specs.Clocks.{ClockEnd, LeadsTo, User, users_of, clock_end}
-use Rattle.net_extract.specs.Clocks.ClockEnd.{at_pin, undriven, logic}
-use Rattle.net_extract.specs.Faults.{Fault, drivers_fault, driver_faults, loop_faults, end_fault, user_fault, clock_faults, fabric_fault}
+use Rattle.fabric_model.specs.Joins.{class_of}
+use Rattle.fabric_model.specs.Clocks.{ClockEnd, LeadsTo, User, users_of, clock_end}
+use Rattle.fabric_model.specs.Clocks.ClockEnd.{at_pin, undriven, logic}
+use Rattle.fabric_model.specs.Faults.{Fault, drivers_fault, driver_faults, loop_faults, end_fault, user_fault, clock_faults, fabric_fault}
 use Rattle.fabric_wiring.specs.declared.fault.DriverFault.{DriverFault}
 use Rattle.fabric_wiring.specs.declared.fault.DriverFault.TheVariants as drivers
 use Rattle.fabric_wiring.specs.Faults.{IsCause as IsDriverCause}
@@ -28,7 +28,7 @@ use Rattle.fabric.specs.declared.fault.FabricFault.{FabricFault}
 use Rattle.fabric.specs.declared.fault.FabricFault.TheVariants.{Device, Pll, PinMode, Cascade, TwoDrivers, Loop, Clock, Memory}
 use Rattle.graph_order.specs.Alike.{AreAlike}
 use Rattle.graph_order.proofs.Alike.{is_on_cycle-alike, cycle-alike}
-use Rattle.net_extract.proofs.OneValue.{count-is}
+use Rattle.fabric_model.proofs.OneValue.{count-is}
 use Rattle.fabric.specs.Causes.{of_drivers}
 use Rattle.fabric.specs.Faults.{HasDriversApart, IsCause, AreTwoDrivers, IsCycleFrom, IsUnclocked}
 

@@ -2,7 +2,7 @@
 use Rattle.std.proofs.Common.{◌≡◌, ℕ, zero, suc, ◌+◌, ◌*◌, ◌<◌, Bool, true, false, List, [], ◌∷◌, ◌++◌, length, map, get_or, refl, sym, ap, subst, ◌∙◌, arith}
 use Rattle.std.specs.Prelude.{All, Some, flat_map, slice_get, if◌then◌else◌}
 use Rattle.std.proofs.lemmas.List.{get_or-append-add}
-use Rattle.net_extract.specs.Fabric.{numbered_from, numbered}
+use Rattle.fabric_model.specs.Fabric.{numbered_from, numbered}
 use Rattle.std.proofs.lemmas.List.Elements.{All-nil, All-cons}
 use Rattle.std.proofs.Common.{append_assoc, zero-mul, suc-mul, length-append}
 use Rattle.std.proofs.Math.ListN.{get_or-append}

@@ -5,12 +5,12 @@ use Rattle.std.specs.Result.{IsErrAnd}
 use Rattle.plane_map.proofs.Devices.{same-device, other-device}
 use Rattle.ice_image.specs.Configuration.{Configuration}
 use Rattle.chipdb_reader.specs.Database.{Database}
-use Rattle.place_search.specs.Places.{or_else}
-use Rattle.net_extract.specs.declared.lut_inputs.LutInputs.{LutInputs}
-use Rattle.net_extract.specs.Fabric.{fabric_with}
-use Rattle.net_extract.specs.Faults.{Fault, device_faults, pins_fault, rams_fault, fabric_fault, design_fault}
-use Rattle.net_extract.specs.declared.fault.LinkFault.{LinkFault}
-use Rattle.net_extract.specs.declared.fault.LinkFault.TheVariants as links
+use Rattle.index_search.specs.Places.{or_else}
+use Rattle.fabric_model.specs.declared.lut_inputs.LutInputs.{LutInputs}
+use Rattle.fabric_model.specs.Fabric.{fabric_with}
+use Rattle.fabric_model.specs.Faults.{Fault, device_faults, pins_fault, rams_fault, fabric_fault, design_fault}
+use Rattle.fabric_model.specs.declared.fault.LinkFault.{LinkFault}
+use Rattle.fabric_model.specs.declared.fault.LinkFault.TheVariants as links
 use Rattle.fabric_parts.specs.declared.io.fault.PinFault.{PinFault}
 use Rattle.fabric_parts.specs.declared.io.fault.PinFault.TheVariants as pins
 use Rattle.fabric_parts.specs.PinFaults.{IsCause as IsPinCause}

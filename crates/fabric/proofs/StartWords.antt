@@ -10,16 +10,16 @@ use Rattle.chipdb_lines.specs.Statements.{is_kind_there}
 use Rattle.chipdb_reader.specs.Database.{Database}
 use Rattle.ice_image.specs.Configuration.{Configuration}
 use Rattle.ice_image.specs.Bits.{ram_word_of}
-use Rattle.place_search.proofs.Gathered.{map-gathered_below}
-use Rattle.place_search.proofs.Places.{gathered_below-same}
-use Rattle.net_extract.specs.declared.ram.RamCell.{RamCell}
-use Rattle.net_extract.specs.Tiles.{over_grid, at_kind, each_below}
-use Rattle.net_extract.specs.Rams.{is_ram_used, ram_at, rams_of, over_rams, start_word, start_words}
-use Rattle.net_extract.specs.declared.lut_inputs.LutInputs.{LutInputs}
-use Rattle.net_extract.specs.Fabric.{fabric_with}
-use Rattle.net_extract.proofs.Within.{All-over_grid, All-if, All-single}
-use Rattle.net_extract.proofs.OneValue.{each_below-length, each_below-at}
-use Rattle.net_extract.proofs.InOrder.{is_kind_there-is}
+use Rattle.index_search.proofs.Gathered.{map-gathered_below}
+use Rattle.index_search.proofs.Places.{gathered_below-same}
+use Rattle.fabric_model.specs.declared.ram.RamCell.{RamCell}
+use Rattle.fabric_model.specs.Tiles.{over_grid, at_kind, each_below}
+use Rattle.fabric_model.specs.Rams.{is_ram_used, ram_at, rams_of, over_rams, start_word, start_words}
+use Rattle.fabric_model.specs.declared.lut_inputs.LutInputs.{LutInputs}
+use Rattle.fabric_model.specs.Fabric.{fabric_with}
+use Rattle.fabric_model.proofs.Within.{All-over_grid, All-if, All-single}
+use Rattle.fabric_model.proofs.OneValue.{each_below-length, each_below-at}
+use Rattle.fabric_model.proofs.InOrder.{is_kind_there-is}
 use Rattle.fabric.specs.Kept.{AreWordsOf}
 use Rattle.fabric.proofs.Lists.{map-if, item-of_part, count-of_parts}
 

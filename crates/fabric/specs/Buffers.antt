@@ -1,7 +1,7 @@
 -- Buffers by their indexes.
 use Rattle.std.specs.Prelude.{ℕ, List, [], ◌∷◌, flat_map, slice_get, Option, Some, None}
 use Rattle.chipdb_reader.specs.declared.items.LinkLine.{LinkLine}
-use Rattle.net_extract.specs.Fabric.{Buffer}
+use Rattle.fabric_model.specs.Fabric.{Buffer}
 
 -- the buffer of the line with an index, if there is one
 abbrev pub buffer_if : ℕ → Option LinkLine → List Buffer

@@ -1,6 +1,6 @@
 -- Each refusal of a part as a refusal of the whole.
-use Rattle.net_extract.specs.declared.fault.LinkFault.{LinkFault}
-use Rattle.net_extract.specs.declared.fault.LinkFault.TheVariants as links
+use Rattle.fabric_model.specs.declared.fault.LinkFault.{LinkFault}
+use Rattle.fabric_model.specs.declared.fault.LinkFault.TheVariants as links
 use Rattle.fabric_parts.specs.declared.io.fault.PinFault.{PinFault}
 use Rattle.fabric_parts.specs.declared.io.fault.PinFault.TheVariants as pins
 use Rattle.fabric_parts.specs.declared.ram.fault.RamFault.{RamFault}

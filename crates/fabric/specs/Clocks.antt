@@ -1,12 +1,12 @@
 -- The clocks in an entry of a run.
 use Rattle.std.specs.Prelude.{◌≡◌, ℕ, Bool, false, List, get_or, Contains, Option, Some, None}
-use Rattle.net_extract.specs.declared.register.Register.{Register}
-use Rattle.net_extract.specs.declared.ram.RamCell.{RamCell}
-use Rattle.net_extract.specs.Fabric.{Fabric}
-use Rattle.net_extract.specs.Values.{bit_in}
-use Rattle.net_extract.specs.Steps.{Entry}
-use Rattle.net_extract.specs.Clocks.{ClockEnd, clock_end}
-use Rattle.net_extract.specs.Clocks.ClockEnd.{at_pin, undriven, logic}
+use Rattle.fabric_model.specs.declared.register.Register.{Register}
+use Rattle.fabric_model.specs.declared.ram.RamCell.{RamCell}
+use Rattle.fabric_model.specs.Fabric.{Fabric}
+use Rattle.fabric_model.specs.Values.{bit_in}
+use Rattle.fabric_model.specs.Steps.{Entry}
+use Rattle.fabric_model.specs.Clocks.{ClockEnd, clock_end}
+use Rattle.fabric_model.specs.Clocks.ClockEnd.{at_pin, undriven, logic}
 
 -- a clock has the value of the pin at which its clock chain ends, or is 0 if the chain ends at a class of joined nets without a driver
 abbrev pub HasEndBit : List Bool → ClockEnd → Bool → Type 0

@@ -4,11 +4,11 @@ use Rattle.ice_image.specs.Configuration.{Configuration}
 use Rattle.chipdb_reader.specs.Database.{Database}
 use Rattle.chipdb_reader.specs.Fit.{IsFit}
 use Rattle.chipdb_reader.specs.declared.items.PinXy.{PinXy}
-use Rattle.net_extract.specs.declared.pin.Pin.{Pin}
-use Rattle.net_extract.specs.Fabric.{fabric_with}
-use Rattle.net_extract.specs.Clocks.{ClockEnd}
-use Rattle.net_extract.specs.Clocks.ClockEnd.{at_pin, undriven, logic}
-use Rattle.net_extract.specs.Faults.{design_fault}
+use Rattle.fabric_model.specs.declared.pin.Pin.{Pin}
+use Rattle.fabric_model.specs.Fabric.{fabric_with}
+use Rattle.fabric_model.specs.Clocks.{ClockEnd}
+use Rattle.fabric_model.specs.Clocks.ClockEnd.{at_pin, undriven, logic}
+use Rattle.fabric_model.specs.Faults.{design_fault}
 use Rattle.fabric_wiring.specs.declared.parts.Buffer.{Buffer}
 use Rattle.fabric.specs.declared.design_type.LinkEnds.{LinkEnds}
 use Rattle.fabric.specs.Kept.{Kept, IsKeptOf}

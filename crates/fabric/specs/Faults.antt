@@ -1,18 +1,18 @@
 -- Why a database and an image aren't taken, with the evidence.
 use Rattle.std.specs.Prelude.{◌≡◌, ◌≢◌, ℕ, ◌<◌, List, ◌∷◌, Contains, Option, Some, None}
 use Rattle.ice_image.specs.Configuration.{Configuration}
-use Rattle.net_extract.specs.declared.driver.Driver.{Driver}
-use Rattle.net_extract.specs.declared.driver.ClockUser.{ClockUser}
-use Rattle.net_extract.specs.Tiles.{first_of}
-use Rattle.net_extract.specs.Fabric.{Fabric}
-use Rattle.net_extract.specs.Drivers.{Drive, drivers_of}
+use Rattle.fabric_model.specs.declared.driver.Driver.{Driver}
+use Rattle.fabric_model.specs.declared.driver.ClockUser.{ClockUser}
+use Rattle.fabric_model.specs.Tiles.{first_of}
+use Rattle.fabric_model.specs.Fabric.{Fabric}
+use Rattle.fabric_model.specs.Drivers.{Drive, drivers_of}
 use Rattle.graph_order.specs.Wiring.{IsCycle}
-use Rattle.net_extract.specs.Wiring.{wiring_of}
-use Rattle.net_extract.specs.Joins.{class_of}
-use Rattle.net_extract.specs.Clocks.{LeadsTo, users_of, clock_end}
-use Rattle.net_extract.specs.Clocks.ClockEnd.{logic}
+use Rattle.fabric_model.specs.Wiring.{wiring_of}
+use Rattle.fabric_model.specs.Joins.{class_of}
+use Rattle.fabric_model.specs.Clocks.{LeadsTo, users_of, clock_end}
+use Rattle.fabric_model.specs.Clocks.ClockEnd.{logic}
 use Rattle.chipdb_reader.specs.Database.{Database}
-use Rattle.net_extract.specs.Faults.{Fault, pins_fault, rams_fault}
+use Rattle.fabric_model.specs.Faults.{Fault, pins_fault, rams_fault}
 use Rattle.plane_map.specs.declared.device.DeviceName.{DeviceName}
 use Rattle.fabric.specs.declared.fault.FabricFault.{FabricFault}
 use Rattle.fabric.specs.declared.fault.FabricFault.TheVariants.{Device, Pll, PinMode, Cascade, TwoDrivers, Loop, Clock, Memory}

@@ -1,11 +1,11 @@
 -- What is kept of a design, and when it is the design of a fabric.
 use Rattle.std.specs.Prelude.{◌≡◌, ℕ, ◌+◌, ◌*◌, ◌<◌, List, [], length, map, get_or}
 use Rattle.bit_plane.specs.BitList.{word_of}
-use Rattle.net_extract.specs.declared.pin.Pin.{Pin}
-use Rattle.net_extract.specs.Fabric.{Fabric, inputs_of}
+use Rattle.fabric_model.specs.declared.pin.Pin.{Pin}
+use Rattle.fabric_model.specs.Fabric.{Fabric, inputs_of}
 use Rattle.graph_order.specs.Wiring.{IsWriteOrder}
-use Rattle.net_extract.specs.Wiring.{wiring_of}
-use Rattle.net_extract.specs.Outputs.{outputs_of}
+use Rattle.fabric_model.specs.Wiring.{wiring_of}
+use Rattle.fabric_model.specs.Outputs.{outputs_of}
 use Rattle.fabric_wiring.specs.declared.parts.Parts.{Parts}
 use Rattle.fabric_wiring.specs.Parts.{ArePartsOf}
 use Rattle.fabric_wiring.specs.DriverLists.{DriverSet, AreDriversOf}

@@ -4,15 +4,15 @@ ghost use Rattle.std.specs.Option.{option_map};
 ghost use Rattle.std.specs.List.{list_any};
 ghost use Rattle.ice_image.specs.Configuration.{Configuration};
 ghost use Rattle.chipdb_reader.specs.Database.{Database};
-ghost use Rattle.net_extract.specs.Links.{class_in};
+ghost use Rattle.fabric_model.specs.Links.{class_in};
 ghost use Rattle.fabric_wiring.specs.DriverLists.{driver_in};
 ghost use Rattle.fabric_wiring.specs.Ends.{end_in, end_of};
 ghost use Rattle.fabric.specs.Kept.{word_in, IsKeptOf};
 ghost use Rattle.fabric.specs.Design.{IsDesign, end_pin, ends_of, link_in};
 
 use chipdb_reader::PinXy;
+use fabric_model::{CarrySet, Driver, GlobalNet, LogicCell, LutInputs, Pin, RamCell, Register};
 use fabric_wiring::{Buffer, ClockEnd, Drive, Drivers, Output, Parts, Rule};
-use net_extract::{CarrySet, Driver, GlobalNet, Lc, LutInputs, Pin, RamCell, Register};
 use std::marker::Model;
 
 /// The two nets of a buffer.
@@ -118,7 +118,7 @@ impl Design {
     }
 
     /// The used logic cells, by tile and index.
-    pub fn lcs(&self) -> &[Lc]
+    pub fn lcs(&self) -> &[LogicCell]
         ensures lcs { result.now ≡ self.now.parts.lcs.items }
         ensures design { IsDesign self.now }
     {

@@ -2,9 +2,9 @@
 ghost use Rattle.std.specs.Prelude.{◌≡◌};
 
 use crate::cycle::Cycle;
+use fabric_model::{ClockUser, Driver, LinkFault};
 use fabric_parts::{PinFault, RamFault};
 use fabric_wiring::DriverFault;
-use net_extract::{ClockUser, Driver, LinkFault};
 use std::alloc::AllocError;
 
 /// Why a database and an image aren't taken: the first cause that holds, in the order below, with the first tile, pin, class of joined nets

@@ -2,14 +2,14 @@
 ghost use Rattle.std.specs.Prelude.{◌≡◌, ℕ, All, Bool, List, IfOk, IfErr, OnOk, None};
 ghost use Rattle.ice_image.specs.Either.{configuration_of};
 ghost use Rattle.chipdb_reader.specs.Kept.{database_in};
-ghost use Rattle.net_extract.specs.declared.lut_inputs.LutInputs.TheVariants as read;
-ghost use Rattle.net_extract.specs.Fabric.{fabric_with, fabric_of};
-ghost use Rattle.net_extract.specs.Values.{State, IsConsistent};
-ghost use Rattle.net_extract.specs.Joins.{class_of};
-ghost use Rattle.net_extract.specs.Clocks.{LeadsTo, clock_end};
-ghost use Rattle.net_extract.specs.Steps.{Event, Entry, IsRun};
-ghost use Rattle.net_extract.specs.Unique.{ExactlyOne};
-ghost use Rattle.net_extract.specs.Faults.{design_fault};
+ghost use Rattle.fabric_model.specs.declared.lut_inputs.LutInputs.TheVariants as read;
+ghost use Rattle.fabric_model.specs.Fabric.{fabric_with, fabric_of};
+ghost use Rattle.fabric_model.specs.Values.{State, IsConsistent};
+ghost use Rattle.fabric_model.specs.Joins.{class_of};
+ghost use Rattle.fabric_model.specs.Clocks.{LeadsTo, clock_end};
+ghost use Rattle.fabric_model.specs.Steps.{Event, Entry, IsRun};
+ghost use Rattle.fabric_model.specs.Unique.{ExactlyOne};
+ghost use Rattle.fabric_model.specs.Faults.{design_fault};
 ghost use Rattle.fabric.specs.Clocks.{HasClocks};
 ghost use Rattle.fabric.specs.Design.{IsDesignOf};
 ghost use Rattle.fabric.specs.Faults.{IsCause};
@@ -19,8 +19,8 @@ use crate::fault::FabricFault;
 use crate::parts::parts;
 use crate::wire::wire;
 use chipdb_reader::ChipDb;
+use fabric_model::{LutInputs, inputs};
 use ice_image::AnyImage;
-use net_extract::{LutInputs, inputs};
 use std::alloc::Global;
 
 /// Finds the design of a database and an image. The LUTs read all of their inputs.

@@ -1,13 +1,13 @@
 // The write order of classes of joined nets.
 ghost use Rattle.std.specs.Prelude.{◌≡◌, ◌≤◌, length, IfOk, IfErr, OnOk, None};
 ghost use Rattle.plane_map.specs.declared.device.DeviceName.{DeviceName};
-ghost use Rattle.net_extract.specs.Fabric.{Fabric};
-ghost use Rattle.net_extract.specs.Tiles.{first_of};
+ghost use Rattle.fabric_model.specs.Fabric.{Fabric};
+ghost use Rattle.fabric_model.specs.Tiles.{first_of};
 ghost use Rattle.graph_order.specs.Wiring.{IsWriteOrder};
-ghost use Rattle.net_extract.specs.Wiring.{wiring_of as wiring_of_fabric};
+ghost use Rattle.fabric_model.specs.Wiring.{wiring_of as wiring_of_fabric};
 ghost use Rattle.graph_order.specs.Rows.{wiring_of, ReadsWithin, ReadsByDriven};
 ghost use Rattle.graph_order.specs.Alike.{AreAlike};
-ghost use Rattle.net_extract.specs.Faults.{loop_faults};
+ghost use Rattle.fabric_model.specs.Faults.{loop_faults};
 ghost use Rattle.fabric_wiring.specs.Parts.{ArePartsOf};
 ghost use Rattle.fabric_wiring.specs.DriverLists.{AreDriversOf};
 ghost use Rattle.fabric.specs.Faults.{IsCause};

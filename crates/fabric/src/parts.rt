@@ -4,20 +4,20 @@ ghost use Rattle.plane_map.specs.declared.tile.TileKind.TheVariants.{Io};
 ghost use Rattle.ice_image.specs.Either.{configuration_of};
 ghost use Rattle.chipdb_reader.specs.Fit.{IsFit};
 ghost use Rattle.chipdb_reader.specs.Kept.{database_in};
-ghost use Rattle.net_extract.specs.TilesOfKind.{HasTile};
-ghost use Rattle.net_extract.specs.Registers.{registers_of, pin_registers_of};
-ghost use Rattle.net_extract.specs.Fabric.{fabric_with};
-ghost use Rattle.net_extract.specs.Faults.{design_fault};
+ghost use Rattle.fabric_model.specs.TilesOfKind.{HasTile};
+ghost use Rattle.fabric_model.specs.Registers.{registers_of, pin_registers_of};
+ghost use Rattle.fabric_model.specs.Fabric.{fabric_with};
+ghost use Rattle.fabric_model.specs.Faults.{design_fault};
 ghost use Rattle.fabric_wiring.specs.Parts.{ArePartsOf, buffer_of};
 ghost use Rattle.fabric.specs.Faults.{IsCause, AreTaken};
 ghost use Rattle.fabric.specs.Buffers.{buffer_if, buffers_at};
 
 use crate::fault::FabricFault;
 use chipdb_reader::{ChipDb, LinkLine};
+use fabric_model::{LogicCell, LutInputs, Pin, Register, links};
 use fabric_parts::{cells, pin_registers, pins, rams};
 use fabric_wiring::{Buffer, Parts, registers_of};
 use ice_image::AnyImage;
-use net_extract::{Lc, LutInputs, Pin, Register, links};
 use std::alloc::{AllocError, Global};
 
 /// Appends the buffer of the line with an index, if there is one.
@@ -57,7 +57,7 @@ fn registers(
     db: &ChipDb,
     image: &AnyImage,
     inputs: LutInputs,
-    lcs: &[Lc],
+    lcs: &[LogicCell],
     pins: &[Pin],
 ) -> Result<Vec<Register>, AllocError>
     requires { All (λ pin. HasTile image.now Io pin.x pin.y) pins.now }

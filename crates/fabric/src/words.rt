@@ -5,10 +5,10 @@ ghost use Rattle.plane_map.specs.Layout.{kind_of};
 ghost use Rattle.plane_map.specs.declared.tile.TileKind.TheVariants.{RamB};
 ghost use Rattle.ice_image.specs.Either.{configuration_of, device_of};
 ghost use Rattle.ice_image.specs.Bits.{ram_word_of};
-ghost use Rattle.net_extract.specs.Tiles.{each_below};
+ghost use Rattle.fabric_model.specs.Tiles.{each_below};
 
+use fabric_model::RamCell;
 use ice_image::AnyImage;
-use net_extract::RamCell;
 use std::alloc::{AllocError, Global};
 
 /// Appends the 256 words of the RAM whose lower tile is at (x, y).

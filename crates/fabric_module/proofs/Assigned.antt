@@ -9,11 +9,11 @@ use Rattle.vlog_module.specs.declared.item.Item.{Item}
 use Rattle.vlog_module.specs.Uses.{atom_uses, uses_of}
 use Rattle.vlog_module.specs.Uses.Use.{Reads, Assigns}
 use Rattle.vlog_module.specs.WellFormed.{section_of, declared_by, Reading, wire_readings, assigned_by, started_by, Scope, IsAllowed}
-use Rattle.net_extract.specs.Fabric.{Fabric}
-use Rattle.net_extract.specs.Outputs.{Output}
-use Rattle.net_extract.specs.Drivers.{Rule, is_driven}
-use Rattle.net_extract.specs.Drivers.Rule.{pin_bit, constant, input, table_entry, majority_of, register_bit, read_bit, copied}
-use Rattle.net_extract.proofs.Within.{All-single}
+use Rattle.fabric_model.specs.Fabric.{Fabric}
+use Rattle.fabric_model.specs.Outputs.{Output}
+use Rattle.fabric_model.specs.Drivers.{Rule, is_driven}
+use Rattle.fabric_model.specs.Drivers.Rule.{pin_bit, constant, input, table_entry, majority_of, register_bit, read_bit, copied}
+use Rattle.fabric_model.proofs.Within.{All-single}
 use Rattle.fabric_module.specs.Names.{output_name, register_name}
 use Rattle.fabric_module.specs.Rights.{output_atom}
 use Rattle.fabric_module.specs.Written.{output_assign}

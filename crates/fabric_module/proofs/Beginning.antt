@@ -7,20 +7,20 @@ use Rattle.std.proofs.lemmas.List.Sums.{fold-append}
 use Rattle.std.proofs.lemmas.List.Elements.{All-head, All-tail}
 use Rattle.std.proofs.Math.Seq.{get_or-append_seam}
 use Rattle.shared_lemmas.proofs.Bytes.{bytes_eq-same}
-use Rattle.place_search.specs.Places.{gathered_below}
+use Rattle.index_search.specs.Places.{gathered_below}
 use Rattle.bit_plane.specs.BitList.{word_of}
 use Rattle.vlog_module.specs.declared.item.Item.{Item}
-use Rattle.vlog_module.specs.declared.item.Item.TheVariants.{Register as RegisterItem, Word, Memory, Wire, Assign, Flip, FlipAtOnce, SetAtOnce, Read, ReadNarrow, Write, WriteNarrow, Start}
-use Rattle.vlog_plan.specs.Run.{input_start, register_start, word_start, memory_start, start_step, start}
-use Rattle.net_extract.specs.declared.register.Register.{Register}
-use Rattle.net_extract.specs.declared.ram.RamCell.{RamCell}
-use Rattle.net_extract.specs.Tiles.{each_below}
-use Rattle.net_extract.specs.Fabric.{Fabric, numbered_from, numbered, inputs_of}
-use Rattle.net_extract.proofs.Apart.{apart-numbered}
-use Rattle.net_extract.specs.Steps.{Entry, start_state, IsFirst}
+use Rattle.vlog_module.specs.declared.item.Item.TheVariants.{Register as RegisterItem, Word, Memory, Wire, Assign, FlipFlop, AsyncFlipFlop, AsyncReset, Read, ReadNarrow, Write, WriteNarrow, Start}
+use Rattle.vlog_semantics.specs.Run.{input_start, register_start, word_start, memory_start, start_step, start}
+use Rattle.fabric_model.specs.declared.register.Register.{Register}
+use Rattle.fabric_model.specs.declared.ram.RamCell.{RamCell}
+use Rattle.fabric_model.specs.Tiles.{each_below}
+use Rattle.fabric_model.specs.Fabric.{Fabric, numbered_from, numbered, inputs_of}
+use Rattle.fabric_model.proofs.Apart.{apart-numbered}
+use Rattle.fabric_model.specs.Steps.{Entry, start_state, IsFirst}
 use Rattle.graph_order.specs.Wiring.{IsWriteOrder}
-use Rattle.net_extract.specs.Wiring.{wiring_of}
-use Rattle.net_extract.proofs.OneValue.{IsWithin}
+use Rattle.fabric_model.specs.Wiring.{wiring_of}
+use Rattle.fabric_model.proofs.OneValue.{IsWithin}
 use Rattle.fabric_module.specs.Names.{port_name, register_name, read_name, memory_name}
 use Rattle.fabric_module.specs.Written.{register_item, read_register, ram_memory, start_item, start_items, items_of, module_of}
 use Rattle.fabric_module.specs.Matching.{HasValues, Matches}
@@ -88,9 +88,9 @@ register-none (Word name start) away = refl
 register-none (Memory name) away = refl
 register-none (Wire name right) away = refl
 register-none (Assign name value) away = refl
-register-none (Flip falling clock enable reset set target lut) away = refl
-register-none (FlipAtOnce falling clock reset set target enable lut) away = refl
-register-none (SetAtOnce reset set target) away = refl
+register-none (FlipFlop falling clock enable reset set target lut) away = refl
+register-none (AsyncFlipFlop falling clock reset set target enable lut) away = refl
+register-none (AsyncReset reset set target) away = refl
 register-none (Read falling clock clock_enable enable target memory address) away = refl
 register-none (ReadNarrow falling clock clock_enable enable target memory address shift pattern) away = refl
 register-none (Write falling clock clock_enable enable memory address mask bits) away = refl
@@ -103,9 +103,9 @@ word-none (Word name start) away = absurd cc
 word-none (Memory name) away = refl
 word-none (Wire name right) away = refl
 word-none (Assign name value) away = refl
-word-none (Flip falling clock enable reset set target lut) away = refl
-word-none (FlipAtOnce falling clock reset set target enable lut) away = refl
-word-none (SetAtOnce reset set target) away = refl
+word-none (FlipFlop falling clock enable reset set target lut) away = refl
+word-none (AsyncFlipFlop falling clock reset set target enable lut) away = refl
+word-none (AsyncReset reset set target) away = refl
 word-none (Read falling clock clock_enable enable target memory address) away = refl
 word-none (ReadNarrow falling clock clock_enable enable target memory address shift pattern) away = refl
 word-none (Write falling clock clock_enable enable memory address mask bits) away = refl
@@ -118,9 +118,9 @@ memory-none (Word name start) away = refl
 memory-none (Memory name) away = absurd cc
 memory-none (Wire name right) away = refl
 memory-none (Assign name value) away = refl
-memory-none (Flip falling clock enable reset set target lut) away = refl
-memory-none (FlipAtOnce falling clock reset set target enable lut) away = refl
-memory-none (SetAtOnce reset set target) away = refl
+memory-none (FlipFlop falling clock enable reset set target lut) away = refl
+memory-none (AsyncFlipFlop falling clock reset set target enable lut) away = refl
+memory-none (AsyncReset reset set target) away = refl
 memory-none (Read falling clock clock_enable enable target memory address) away = refl
 memory-none (ReadNarrow falling clock clock_enable enable target memory address shift pattern) away = refl
 memory-none (Write falling clock clock_enable enable memory address mask bits) away = refl
@@ -133,9 +133,9 @@ start-skips (Word name start) away given = refl
 start-skips (Memory name) away given = refl
 start-skips (Wire name right) away given = refl
 start-skips (Assign name value) away given = refl
-start-skips (Flip falling clock enable reset set target lut) away given = refl
-start-skips (FlipAtOnce falling clock reset set target enable lut) away given = refl
-start-skips (SetAtOnce reset set target) away given = refl
+start-skips (FlipFlop falling clock enable reset set target lut) away given = refl
+start-skips (AsyncFlipFlop falling clock reset set target enable lut) away given = refl
+start-skips (AsyncReset reset set target) away given = refl
 start-skips (Read falling clock clock_enable enable target memory address) away given = refl
 start-skips (ReadNarrow falling clock clock_enable enable target memory address shift pattern) away given = refl
 start-skips (Write falling clock clock_enable enable memory address mask bits) away given = refl

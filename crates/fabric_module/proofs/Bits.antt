@@ -9,9 +9,9 @@ use Rattle.bit_plane.specs.BitList.{bit_value, word_of, word_bits}
 use Rattle.bit_plane.specs.Rows.{row_from}
 use Rattle.bit_plane.proofs.Made.{length-row_from, get_or-row_from}
 use Rattle.bit_plane.proofs.Words.{get_or-word_bits, test-bit_value, word_of-lt, bit_value-le}
-use Rattle.vlog_plan.specs.Values.{bit_of, number_of, majority}
-use Rattle.vlog_plan.specs.Run.{masked}
-use Rattle.net_extract.specs.Values.{majority as two_of}
+use Rattle.vlog_semantics.specs.Values.{bit_of, number_of, majority}
+use Rattle.vlog_semantics.specs.Run.{masked}
+use Rattle.fabric_model.specs.Values.{majority as two_of}
 use Rattle.std.specs.Int.{w16}
 use Rattle.ice_image.proofs.Spread.{same-row}
 

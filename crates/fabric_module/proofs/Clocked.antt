@@ -8,29 +8,29 @@ use Rattle.std.proofs.Math.ListN.{get_or-map}
 use Rattle.shared_lemmas.proofs.Lists.{map-every}
 use Rattle.shared_lemmas.proofs.Bytes.{bytes_eq-same}
 use Rattle.bit_plane.specs.BitList.{word_of}
-use Rattle.rams_narrow.specs.Narrow.{share}
+use Rattle.narrow_words.specs.Narrow.{share}
 use Rattle.vlog_module.specs.declared.atoms.Atom.{Atom}
 use Rattle.vlog_module.specs.declared.atoms.Atom.TheVariants.{Bit, Whole}
 use Rattle.vlog_module.specs.declared.item.Item.{Item}
-use Rattle.vlog_module.specs.declared.item.Item.TheVariants.{Register as RegisterItem, Word, Memory, Wire, Assign, Flip, FlipAtOnce, SetAtOnce, Read, ReadNarrow, Write, WriteNarrow, Start}
+use Rattle.vlog_module.specs.declared.item.Item.TheVariants.{Register as RegisterItem, Word, Memory, Wire, Assign, FlipFlop, AsyncFlipFlop, AsyncReset, Read, ReadNarrow, Write, WriteNarrow, Start}
 use Rattle.vlog_module.specs.Maps.{value_in}
 use Rattle.vlog_module.specs.Parts.{Parts}
-use Rattle.vlog_plan.specs.declared.event.Event.{Event as ModuleEvent}
-use Rattle.vlog_plan.specs.Entries.{Entry as ModuleEntry}
-use Rattle.vlog_plan.specs.Values.{number_of, atom_value, atoms_value, lut_value}
-use Rattle.vlog_plan.specs.Run.{Put, readable, is_enabled, taken_from, put_at, put_given, put_given_word, masked, moved_down, moved_up}
-use Rattle.vlog_plan.specs.Run.{next_bit as next_of_flip, next_word, next_put}
-use Rattle.net_extract.specs.declared.register.Register.{Register}
-use Rattle.net_extract.specs.declared.ram.RamCell.{RamCell}
-use Rattle.net_extract.specs.Fabric.{Fabric}
-use Rattle.net_extract.specs.Drivers.{is_driven}
-use Rattle.net_extract.specs.Drivers.Rule.{table_entry}
-use Rattle.net_extract.specs.Values.{State, input_value, input_or_0, input_or_1, bit_in, is_connected, IsConsistent}
-use Rattle.net_extract.specs.Values.{lut_value as table_value}
-use Rattle.net_extract.specs.declared.register.Table.{Table}
-use Rattle.net_extract.specs.Rams.{data_bit}
-use Rattle.net_extract.specs.Steps.{has_edge, next_bit, word_address, high_part, word_at, masked_bit, written_data, written, shown, next_words, next_register, bit_after, words_after, read_after}
-use Rattle.net_extract.proofs.OneValue.{IsWithin, each_below-length, each_below-at}
+use Rattle.vlog_semantics.specs.declared.event.Event.{Event as ModuleEvent}
+use Rattle.vlog_semantics.specs.Entries.{Entry as ModuleEntry}
+use Rattle.vlog_semantics.specs.Values.{number_of, atom_value, atoms_value, lut_value}
+use Rattle.vlog_semantics.specs.Run.{Put, readable, is_enabled, taken_from, put_at, put_given, put_given_word, masked, moved_down, moved_up}
+use Rattle.vlog_semantics.specs.Run.{next_bit as next_of_flip, next_word, next_put}
+use Rattle.fabric_model.specs.declared.register.Register.{Register}
+use Rattle.fabric_model.specs.declared.ram.RamCell.{RamCell}
+use Rattle.fabric_model.specs.Fabric.{Fabric}
+use Rattle.fabric_model.specs.Drivers.{is_driven}
+use Rattle.fabric_model.specs.Drivers.Rule.{table_entry}
+use Rattle.fabric_model.specs.Values.{State, input_value, input_or_0, input_or_1, bit_in, is_connected, IsConsistent}
+use Rattle.fabric_model.specs.Values.{lut_value as table_value}
+use Rattle.fabric_model.specs.declared.register.LutTable.{LutTable}
+use Rattle.fabric_model.specs.Rams.{data_bit}
+use Rattle.fabric_model.specs.Steps.{has_edge, next_bit, word_address, high_part, word_at, masked_bit, written_data, written, shown, next_words, next_register, bit_after, words_after, read_after}
+use Rattle.fabric_model.proofs.OneValue.{IsWithin, each_below-length, each_below-at}
 use Rattle.fabric_module.specs.Names.{register_name, read_name, memory_name}
 use Rattle.fabric_module.specs.Rights.{input_atom, right_of, atom_or_0, atom_or_1, port_atoms, lut_of, setting_wire, pattern_of, shift_atom, shift_atoms, data_atoms}
 use Rattle.fabric_module.specs.Written.{clocked, clock_name, items_by, read_item, write_item}
@@ -52,9 +52,9 @@ bit-none m before event (Word name start) away = refl
 bit-none m before event (Memory name) away = refl
 bit-none m before event (Wire name right) away = refl
 bit-none m before event (Assign name value) away = refl
-bit-none m before event (Flip falling clock enable reset set target lut) away = absurd cc
-bit-none m before event (FlipAtOnce falling clock reset set target enable lut) away = absurd cc
-bit-none m before event (SetAtOnce reset set target) away = absurd cc
+bit-none m before event (FlipFlop falling clock enable reset set target lut) away = absurd cc
+bit-none m before event (AsyncFlipFlop falling clock reset set target enable lut) away = absurd cc
+bit-none m before event (AsyncReset reset set target) away = absurd cc
 bit-none m before event (Read falling clock clock_enable enable target memory address) away = refl
 bit-none m before event (ReadNarrow falling clock clock_enable enable target memory address shift pattern) away = refl
 bit-none m before event (Write falling clock clock_enable enable memory address mask bits) away = refl
@@ -67,9 +67,9 @@ word-none m before event (Word name start) away = refl
 word-none m before event (Memory name) away = refl
 word-none m before event (Wire name right) away = refl
 word-none m before event (Assign name value) away = refl
-word-none m before event (Flip falling clock enable reset set target lut) away = refl
-word-none m before event (FlipAtOnce falling clock reset set target enable lut) away = refl
-word-none m before event (SetAtOnce reset set target) away = refl
+word-none m before event (FlipFlop falling clock enable reset set target lut) away = refl
+word-none m before event (AsyncFlipFlop falling clock reset set target enable lut) away = refl
+word-none m before event (AsyncReset reset set target) away = refl
 word-none m before event (Read falling clock clock_enable enable target memory address) away = absurd cc
 word-none m before event (ReadNarrow falling clock clock_enable enable target memory address shift pattern) away = absurd cc
 word-none m before event (Write falling clock clock_enable enable memory address mask bits) away = refl
@@ -82,9 +82,9 @@ put-none m before event (Word name start) away = refl
 put-none m before event (Memory name) away = refl
 put-none m before event (Wire name right) away = refl
 put-none m before event (Assign name value) away = refl
-put-none m before event (Flip falling clock enable reset set target lut) away = refl
-put-none m before event (FlipAtOnce falling clock reset set target enable lut) away = refl
-put-none m before event (SetAtOnce reset set target) away = refl
+put-none m before event (FlipFlop falling clock enable reset set target lut) away = refl
+put-none m before event (AsyncFlipFlop falling clock reset set target enable lut) away = refl
+put-none m before event (AsyncReset reset set target) away = refl
 put-none m before event (Read falling clock clock_enable enable target memory address) away = refl
 put-none m before event (ReadNarrow falling clock clock_enable enable target memory address shift pattern) away = refl
 put-none m before event (Write falling clock clock_enable enable memory address mask bits) away = absurd cc
@@ -211,9 +211,9 @@ module _ (m : Parts) (fabric : Fabric) (before : ModuleEntry) (event : ModuleEve
 -- ---- choices
 
 -- a register whose reset doesn't act at once, or is 0
-waits-choice : (at_once reset edge enable new made old : Bool) → (at_once && reset) ≡ false
+waits-choice : (is_async reset edge enable new made old : Bool) → (is_async && reset) ≡ false
     → (if edge && enable then (if reset then new else made) else old)
-    ≡ (if edge then (if at_once then (if reset then new else if not enable then old else made) else (if not enable then old else if reset then new else made)) else old)
+    ≡ (if edge then (if is_async then (if reset then new else if not enable then old else made) else (if not enable then old else if reset then new else made)) else old)
 waits-choice true true edge enable new made old away = absurd cc
 waits-choice true false true true new made old away = refl
 waits-choice true false true false new made old away = refl
@@ -240,7 +240,7 @@ module _ (m : Parts) (fabric : Fabric) (within : IsWithin fabric) (state : State
   input-value : (stated : Bool) (net : Option ℕ) → atom_value (readable before) (input_atom fabric stated net) ≡ input_value (is_connected fabric) (bit_in v) stated net
   input-value stated net = atom-value fabric within state pins v is (is_driven fabric) (readable before) gives stated net (λ n found connected. connected)
 
-  table-same : (table : Table) → IsPlaceIn fabric (table_entry table) → lut_value (readable before) (lut_of fabric table) ≡ table_value (is_connected fabric) pins (bit_in v) table
+  table-same : (table : LutTable) → IsPlaceIn fabric (table_entry table) → lut_value (readable before) (lut_of fabric table) ≡ table_value (is_connected fabric) pins (bit_in v) table
   unfolding right_of
   table-same table there = table-written fabric within state pins v is (is_driven fabric) (readable before) gives table there (λ n reads connected. connected)
 
@@ -269,7 +269,7 @@ module _ (m : Parts) (fabric : Fabric) (within : IsWithin fabric) (state : State
         | inl unset ↦
             ap (λ wire. register_by m fabric before event register wire clock old) unset.none
             ∙ (rw (ticks, input-value true register.cen, input-value false register.sr, table-same register.table there)
-            (waits-choice register.at_once reset edge enable register.«set» made old unset.idle))
+            (waits-choice register.is_async reset edge enable register.«set» made old unset.idle))
         | inr by ↦
             let is_set = by.1 in
             ap (λ wire. register_by m fabric before event register wire clock old) is_set.found

@@ -7,19 +7,19 @@ use Rattle.vlog_module.specs.declared.sort.Sort.{Sort}
 use Rattle.vlog_module.specs.declared.sort.Sort.TheVariants as sort
 use Rattle.vlog_module.specs.declared.item.Item.{Item}
 use Rattle.vlog_module.specs.WellFormed.{is_read_unless, Scope, IsAllowed}
-use Rattle.net_extract.specs.declared.register.Register.{Register}
-use Rattle.net_extract.specs.declared.ram.RamCell.{RamCell}
-use Rattle.net_extract.specs.Joins.{class_of}
-use Rattle.net_extract.specs.Fabric.{Fabric}
-use Rattle.net_extract.specs.Outputs.{Output, outputs_of}
-use Rattle.net_extract.proofs.Apart.{All-every}
-use Rattle.net_extract.specs.Drivers.{is_driven}
-use Rattle.net_extract.specs.Clocks.{ClockEnd, LeadsTo, clock_end}
-use Rattle.net_extract.specs.Clocks.ClockEnd.{at_pin, undriven, logic}
+use Rattle.fabric_model.specs.declared.register.Register.{Register}
+use Rattle.fabric_model.specs.declared.ram.RamCell.{RamCell}
+use Rattle.fabric_model.specs.Joins.{class_of}
+use Rattle.fabric_model.specs.Fabric.{Fabric}
+use Rattle.fabric_model.specs.Outputs.{Output, outputs_of}
+use Rattle.fabric_model.proofs.Apart.{All-every}
+use Rattle.fabric_model.specs.Drivers.{is_driven}
+use Rattle.fabric_model.specs.Clocks.{ClockEnd, LeadsTo, clock_end}
+use Rattle.fabric_model.specs.Clocks.ClockEnd.{at_pin, undriven, logic}
 use Rattle.graph_order.specs.Wiring.{IsWriteOrder}
-use Rattle.net_extract.specs.Wiring.{wiring_of}
-use Rattle.net_extract.proofs.Chains.{clock_end-leads}
-use Rattle.net_extract.proofs.OneValue.{IsWithin}
+use Rattle.fabric_model.specs.Wiring.{wiring_of}
+use Rattle.fabric_model.proofs.Chains.{clock_end-leads}
+use Rattle.fabric_model.proofs.OneValue.{IsWithin}
 use Rattle.fabric_module.specs.Names.{output_name, register_name, read_name, memory_name}
 use Rattle.fabric_module.specs.Rights.{input_name, setting_wire}
 use Rattle.fabric_module.specs.Written.{end_name, clock_name, clocked, output_assign, register_items, read_item, read_items, write_item, write_items}

@@ -11,9 +11,9 @@ use Rattle.vlog_module.specs.declared.item.Item.{Item}
 use Rattle.vlog_module.specs.Uses.{uses_of}
 use Rattle.vlog_module.specs.WellFormed.{assigned_by, is_assigned, IsComplete}
 use Rattle.vlog_module.specs.declared.modules.Port.{Port}
-use Rattle.net_extract.specs.Fabric.{Fabric}
-use Rattle.net_extract.specs.Outputs.{Output, outputs_of}
-use Rattle.net_extract.proofs.OneValue.{filter-has}
+use Rattle.fabric_model.specs.Fabric.{Fabric}
+use Rattle.fabric_model.specs.Outputs.{Output, outputs_of}
+use Rattle.fabric_model.proofs.OneValue.{filter-has}
 use Rattle.fabric_module.specs.Names.{output_name}
 use Rattle.fabric_module.specs.Written.{output_assign}
 use Rattle.fabric_module.proofs.Ports.{ports_of, output_port, outputs-ports}

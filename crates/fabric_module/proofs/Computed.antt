@@ -3,9 +3,9 @@ use Rattle.std.proofs.Common.{◌≡◌, ℕ, Bool, true, false, List, [], ◌�
 use Rattle.std.specs.Prelude.{All, Option, Some, None, filter, flat_map, bytes_eq, ◌&&◌, if◌then◌else◌}
 use Rattle.shared_lemmas.proofs.Lists.{map-same}
 use Rattle.vlog_module.specs.declared.item.Item.{Item}
-use Rattle.vlog_plan.specs.Named.{names_of, values_of}
-use Rattle.net_extract.specs.Fabric.{numbered}
-use Rattle.net_extract.proofs.Apart.{apart-numbered}
+use Rattle.vlog_semantics.specs.Named.{names_of, values_of}
+use Rattle.fabric_model.specs.Fabric.{numbered}
+use Rattle.fabric_model.proofs.Apart.{apart-numbered}
 use Rattle.fabric_module.specs.Matching.{HasValues}
 use Rattle.fabric_module.proofs.Lists.{NamesDiffer, Apart, flat_map-numbered, entries-are, made-names, made-values}
 use Rattle.fabric_module.proofs.Sections.{is_in, fold-section}

@@ -9,48 +9,48 @@ use Rattle.std.proofs.lemmas.List.Elements.{All-nil, All-cons, All-head, All-tai
 use Rattle.shared_lemmas.proofs.Lists.{All-both}
 use Rattle.shared_lemmas.proofs.Bytes.{bytes_eq-apart, bytes_eq-same}
 use Rattle.bit_plane.proofs.Words.{bit_value-le}
-use Rattle.place_search.proofs.Gathered.{All-gathered_below}
+use Rattle.index_search.proofs.Gathered.{All-gathered_below}
 use Rattle.plane_map.specs.declared.device.DeviceName.{DeviceName}
-use Rattle.plane_map.specs.declared.device.DeviceName.TheVariants.{L384, K1, K8}
+use Rattle.plane_map.specs.declared.device.DeviceName.TheVariants.{Lp384, Hx1k, Hx8k}
 use Rattle.plane_map.specs.declared.tile.TileKind.TheVariants.{Io, Logic, RamB, RamT}
 use Rattle.plane_map.specs.Layout.{kind_of, grid_width, grid_height}
 use Rattle.ice_image.specs.Configuration.{Configuration}
 use Rattle.chipdb_lines.specs.Statements.{is_kind_there}
 use Rattle.chipdb_reader.specs.Database.{Database}
-use Rattle.place_search.specs.Places.{gathered_below}
-use Rattle.net_extract.specs.declared.cell.Lc.{Lc}
-use Rattle.net_extract.specs.declared.lut_inputs.LutInputs.{LutInputs}
+use Rattle.index_search.specs.Places.{gathered_below}
+use Rattle.fabric_model.specs.declared.cell.LogicCell.{LogicCell}
+use Rattle.fabric_model.specs.declared.lut_inputs.LutInputs.{LutInputs}
 use Rattle.vlog_module.specs.declared.modules.Port.{Port}
-use Rattle.net_extract.specs.declared.driver.ClockUser.TheVariants.{Input, Output}
-use Rattle.net_extract.specs.declared.register.Register.{Register}
-use Rattle.net_extract.specs.declared.register.Source.{Source}
-use Rattle.net_extract.specs.declared.register.Source.TheVariants.{Net}
-use Rattle.net_extract.specs.Luts.{inputs_read}
-use Rattle.net_extract.specs.Registers.{table_of, register_of, registers_of, pin_source, table_as, pin_register, pin_registers_of}
-use Rattle.net_extract.specs.On.{is_function_on}
-use Rattle.net_extract.specs.Nets.{ending_in}
-use Rattle.net_extract.specs.declared.ram.RamCell.{RamCell}
-use Rattle.net_extract.specs.declared.pin.Pin.{Pin}
-use Rattle.net_extract.specs.declared.pin.GlobalNet.{GlobalNet}
-use Rattle.net_extract.specs.declared.pin.GlobalFrom.{GlobalFrom}
-use Rattle.net_extract.specs.declared.pin.GlobalFrom.TheVariants.{Pad, Fabout}
-use Rattle.net_extract.specs.declared.driver.Driver.{Driver}
-use Rattle.net_extract.specs.Tiles.{over_grid}
-use Rattle.net_extract.specs.Cells.{cell_bits, cell_with, used_cell, cells_at, cells_of}
-use Rattle.net_extract.specs.Rams.{mode_of, first_data_bit, is_ram_used, ram_at, rams_of, start_word, start_words}
-use Rattle.net_extract.specs.Pins.{pintype_of, is_port, is_input_read, pin_with, port_at, pins_of, is_registered, is_tri_state, place_among}
-use Rattle.net_extract.specs.Fabric.{Fabric, numbered, inputs_of, fabric_with}
-use Rattle.net_extract.specs.Drivers.{Rule, Drive, drives_if, pin_drives, output_rule, back_drives, lut_drives, drives_by, flip_driver, flip_drives, lout_drives, carry_drives, set_drives, read_data_rule, ram_drive, ram_drives, global_rule, global_drives, buffer_drives, pin_register_driver, pin_register_drives, drives_of}
-use Rattle.net_extract.specs.Drivers.Rule.{pin_bit, constant, table_entry, majority_of, register_bit, read_bit, copied}
-use Rattle.net_extract.proofs.OneValue.{each_below-length, filter-has}
-use Rattle.net_extract.proofs.Within.{All-flat_map, All-item_if, All-if, All-unless, All-single, All-over_tiles, All-numbered}
+use Rattle.fabric_model.specs.declared.driver.ClockUser.TheVariants.{Input, Output}
+use Rattle.fabric_model.specs.declared.register.Register.{Register}
+use Rattle.fabric_model.specs.declared.register.LutSource.{LutSource}
+use Rattle.fabric_model.specs.declared.register.LutSource.TheVariants.{Net}
+use Rattle.fabric_model.specs.Luts.{inputs_read}
+use Rattle.fabric_model.specs.Registers.{table_of, register_of, registers_of, pin_source, table_as, pin_register, pin_registers_of}
+use Rattle.fabric_model.specs.On.{is_function_on}
+use Rattle.fabric_model.specs.Nets.{ending_in}
+use Rattle.fabric_model.specs.declared.ram.RamCell.{RamCell}
+use Rattle.fabric_model.specs.declared.pin.Pin.{Pin}
+use Rattle.fabric_model.specs.declared.pin.GlobalNet.{GlobalNet}
+use Rattle.fabric_model.specs.declared.pin.GlobalFrom.{GlobalFrom}
+use Rattle.fabric_model.specs.declared.pin.GlobalFrom.TheVariants.{Pad, Fabout}
+use Rattle.fabric_model.specs.declared.driver.Driver.{Driver}
+use Rattle.fabric_model.specs.Tiles.{over_grid}
+use Rattle.fabric_model.specs.Cells.{cell_bits, cell_with, used_cell, cells_at, cells_of}
+use Rattle.fabric_model.specs.Rams.{mode_of, first_data_bit, is_ram_used, ram_at, rams_of, start_word, start_words}
+use Rattle.fabric_model.specs.Pins.{pintype_of, is_port, is_input_read, pin_with, port_at, pins_of, is_registered, is_tri_state, place_among}
+use Rattle.fabric_model.specs.Fabric.{Fabric, numbered, inputs_of, fabric_with}
+use Rattle.fabric_model.specs.Drivers.{Rule, Drive, drives_if, pin_drives, output_rule, back_drives, lut_drives, drives_by, flip_driver, flip_drives, lout_drives, carry_drives, set_drives, read_data_rule, ram_drive, ram_drives, global_rule, global_drives, buffer_drives, pin_register_driver, pin_register_drives, drives_of}
+use Rattle.fabric_model.specs.Drivers.Rule.{pin_bit, constant, table_entry, majority_of, register_bit, read_bit, copied}
+use Rattle.fabric_model.proofs.OneValue.{each_below-length, filter-has}
+use Rattle.fabric_model.proofs.Within.{All-flat_map, All-item_if, All-if, All-unless, All-single, All-over_tiles, All-numbered}
 use Rattle.fabric_module.specs.Names.{two_numbers, three_numbers, port_name, enable_name, user_prefix, user_number, register_name, read_name, memory_name}
 use Rattle.fabric_module.specs.Written.{port_of, enable_ports, pin_ports}
 use Rattle.fabric_module.proofs.Lists.{NamesDiffer, Apart, places-below}
 use Rattle.fabric_module.proofs.Ports.{port_label}
 use Rattle.fabric_module.proofs.Rights.{IsSourceThere, IsPlaceIn, output_rule-good}
 use Rattle.fabric_module.proofs.Beginning.{IsStarted, IsPorted}
-use Rattle.net_extract.proofs.Apart.{AreApart, All-every, apart-item_if, apart-filter, apart-append, apart-weaker, apart-map, apart-flat_map, apart-gathered, apart-over_tiles}
+use Rattle.fabric_model.proofs.Apart.{AreApart, All-every, apart-item_if, apart-filter, apart-append, apart-weaker, apart-map, apart-flat_map, apart-gathered, apart-over_tiles}
 use Rattle.fabric_module.proofs.Apart.{IsSmall, two-same, three-same, three-tail}
 
 -- ---- lists
@@ -71,14 +71,14 @@ few-small : (n : ℕ) → n < 34 → IsSmall n
 few-small n few = omega arith
 
 width-few : (device : DeviceName) (x : ℕ) → x < grid_width device → x < 34
-width-few L384 x within = omega arith
-width-few K1 x within = omega arith
-width-few K8 x within = omega arith
+width-few Lp384 x within = omega arith
+width-few Hx1k x within = omega arith
+width-few Hx8k x within = omega arith
 
 height-few : (device : DeviceName) (y : ℕ) → y < grid_height device → y < 34
-height-few L384 y within = omega arith
-height-few K1 y within = omega arith
-height-few K8 y within = omega arith
+height-few Lp384 y within = omega arith
+height-few Hx1k y within = omega arith
+height-few Hx8k y within = omega arith
 
 -- ---- names
 
@@ -91,7 +91,7 @@ pin-numbers : (a b : Pin) → port_name a ≡ port_name b → three_numbers a.x 
 unfolding port_name
 pin-numbers a b same = cc
 
-cell-numbers : (reads : LutInputs) (a b : Lc) → register_name (register_of reads a) ≡ register_name (register_of reads b) → three_numbers a.x a.y a.i ≡ three_numbers b.x b.y b.i
+cell-numbers : (reads : LutInputs) (a b : LogicCell) → register_name (register_of reads a) ≡ register_name (register_of reads b) → three_numbers a.x a.y a.i ≡ three_numbers b.x b.y b.i
 unfolding register_name register_of
 cell-numbers reads a b same = cc
 
@@ -106,7 +106,7 @@ memory-numbers a b same = cc
 unfoldable pub PinSmall : Pin → Type 0
 PinSmall pin = AreSmall pin.x pin.y pin.n
 
-unfoldable pub CellSmall : Lc → Type 0
+unfoldable pub CellSmall : LogicCell → Type 0
 CellSmall lc = AreSmall lc.x lc.y lc.i
 
 unfoldable pub RamSmall : RamCell → Type 0
@@ -116,7 +116,7 @@ pin-places : (a b : Pin) → PinSmall a → PinSmall b → port_name a ≡ port_
 unfolding PinSmall
 pin-places a b of_a of_b same = three-same a.x a.y a.n b.x b.y b.n of_a.first of_a.second of_a.third of_b.first of_b.second of_b.third (pin-numbers a b same)
 
-cell-places : (reads : LutInputs) (a b : Lc) → CellSmall a → CellSmall b → register_name (register_of reads a) ≡ register_name (register_of reads b) → (a.x ≡ b.x) × (a.y ≡ b.y) × (a.i ≡ b.i)
+cell-places : (reads : LutInputs) (a b : LogicCell) → CellSmall a → CellSmall b → register_name (register_of reads a) ≡ register_name (register_of reads b) → (a.x ≡ b.x) × (a.y ≡ b.y) × (a.i ≡ b.i)
 unfolding CellSmall
 cell-places reads a b of_a of_b same = three-same a.x a.y a.i b.x b.y b.i of_a.first of_a.second of_a.third of_b.first of_b.second of_b.third (cell-numbers reads a b same)
 
@@ -252,7 +252,7 @@ module _ (db : Database) (image : Configuration) where
   cells-apart : (reads : LutInputs) → Apart (λ lc. register_name (register_of reads lc)) (cells_of db image)
   unfolding cells_of cells_at
   cells-apart reads =
-      let name = λ (lc : Lc). register_name (register_of reads lc) in
+      let name = λ (lc : LogicCell). register_name (register_of reads lc) in
       apart-over_tiles (NamesDiffer name) CellSmall (λ lc. lc.x) (λ lc. lc.y)
       (λ a b of_a of_b other. bytes_eq-apart (name a) (name b) (λ same. other (cell-places reads a b of_a of_b same).0))
       (λ a b of_a of_b other. bytes_eq-apart (name a) (name b) (λ same. other (cell-places reads a b of_a of_b same).1))
@@ -287,7 +287,7 @@ module _ (db : Database) (image : Configuration) where
       (λ same. let never : true ≡ false = sym (bytes_eq-same (port_name a) (port_name b) (pin-label_same inputs a b same)) ∙ away in absurd cc))
       (filter is_registered (pins_of db image)) (apart-filter (NamesDiffer port_name) is_registered (pins_of db image) pins-apart))
 
-  flip-no_pin : (reads : LutInputs) (inputs : List Pin) (lc : Lc) (pin : Pin) → NamesDiffer register_name (register_of reads lc) (pin_register db image inputs pin)
+  flip-no_pin : (reads : LutInputs) (inputs : List Pin) (lc : LogicCell) (pin : Pin) → NamesDiffer register_name (register_of reads lc) (pin_register db image inputs pin)
   unfolding register_name register_of pin_register
   flip-no_pin reads inputs lc pin = flip-no_label (three_numbers lc.x lc.y lc.i) pin.x pin.y pin.n pin.output
 
@@ -383,16 +383,16 @@ module _ (db : Database) (image : Configuration) where
 -- ---- drivers and tables name what is there
 
 -- the inputs of a cell are nets
-pub cell-sources : (fabric : Fabric) (reads : LutInputs) (lc : Lc) → All (IsSourceThere fabric) (table_of reads lc).ins
+pub cell-sources : (fabric : Fabric) (reads : LutInputs) (lc : LogicCell) → All (IsSourceThere fabric) (table_of reads lc).ins
 cell-sources fabric reads lc =
     let ins = inputs_read reads lc.lut lc.ins in
     All-map (IsSourceThere fabric) Net ins (All-every (λ net. IsSourceThere fabric (Net net)) (λ net. tt) ins)
 
-register-sources : (fabric : Fabric) (reads : LutInputs) (lc : Lc) → All (IsSourceThere fabric) (register_of reads lc).table.ins
+register-sources : (fabric : Fabric) (reads : LutInputs) (lc : LogicCell) → All (IsSourceThere fabric) (register_of reads lc).table.ins
 unfolding register_of
 register-sources fabric reads lc = cell-sources fabric reads lc
 
-flips-sources : (fabric : Fabric) (reads : LutInputs) (lcs : List Lc) → All (λ register. All (IsSourceThere fabric) register.table.ins) (registers_of reads lcs)
+flips-sources : (fabric : Fabric) (reads : LutInputs) (lcs : List LogicCell) → All (λ register. All (IsSourceThere fabric) register.table.ins) (registers_of reads lcs)
 unfolding registers_of
 flips-sources fabric reads lcs =
     All-map (λ register. All (IsSourceThere fabric) register.table.ins) (register_of reads) (filter (λ lc. lc.flip) lcs)
@@ -428,7 +428,7 @@ pin_source-there fabric pin there =
           rw away (place-found (inputs_of fabric) pin (filter-has (λ other. not other.output) fabric.pins pin there input))
     ]
 
-table_as-there : (fabric : Fabric) (source : Source) → IsSourceThere fabric source → All (IsSourceThere fabric) (table_as source).ins
+table_as-there : (fabric : Fabric) (source : LutSource) → IsSourceThere fabric source → All (IsSourceThere fabric) (table_as source).ins
 table_as-there fabric source there =
     All-cons (IsSourceThere fabric) source (Net None ∷ Net None ∷ Net None ∷ []) there
     (All-cons (IsSourceThere fabric) (Net None) (Net None ∷ Net None ∷ []) tt

@@ -12,10 +12,10 @@ use Rattle.vlog_module.specs.Names.{IsName}
 use Rattle.vlog_module.specs.Uses.{uses_of, used_name}
 use Rattle.vlog_module.specs.Uses.Use.{Declares}
 use Rattle.vlog_module.specs.WellFormed.{section_of, port_sort, Scope, scope_of, is_known, is_first, IsInRange, IsShaped, IsAllowed}
-use Rattle.vlog_plan.specs.Named.{names_of}
-use Rattle.net_extract.proofs.Within.{All-single}
-use Rattle.net_extract.specs.Fabric.{Fabric}
-use Rattle.net_extract.proofs.Apart.{All-every}
+use Rattle.vlog_semantics.specs.Named.{names_of}
+use Rattle.fabric_model.proofs.Within.{All-single}
+use Rattle.fabric_model.specs.Fabric.{Fabric}
+use Rattle.fabric_model.proofs.Apart.{All-every}
 use Rattle.fabric_module.specs.Names.{register_name, read_name, memory_name}
 use Rattle.fabric_module.specs.Written.{register_item, read_register, ram_memory}
 use Rattle.fabric_module.proofs.Lists.{Apart, names-absent, map-map}

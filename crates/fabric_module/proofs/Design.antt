@@ -9,24 +9,24 @@ use Rattle.chipdb_reader.specs.Database.{Database}
 use Rattle.chipdb_reader.specs.Fit.{IsFit}
 use Rattle.vlog_module.specs.Names.{IsName}
 use Rattle.vlog_module.specs.WellFormed.{IsModule}
-use Rattle.vlog_plan.specs.Entries.{Entry as ModuleEntry}
-use Rattle.vlog_plan.specs.Run.{module_run}
-use Rattle.net_extract.specs.declared.pin.GlobalNet.{GlobalNet}
-use Rattle.net_extract.specs.declared.pin.Pin.{Pin}
-use Rattle.net_extract.specs.declared.register.Register.{Register}
-use Rattle.net_extract.specs.Rams.{rams_of}
-use Rattle.net_extract.specs.Outputs.{outputs_of}
-use Rattle.net_extract.specs.Fabric.{inputs_of, fabric_with, fabric_of}
-use Rattle.net_extract.specs.declared.lut_inputs.LutInputs.{LutInputs}
-use Rattle.net_extract.specs.Steps.{Event, Entry, IsRun}
+use Rattle.vlog_semantics.specs.Entries.{Entry as ModuleEntry}
+use Rattle.vlog_semantics.specs.Run.{module_run}
+use Rattle.fabric_model.specs.declared.pin.GlobalNet.{GlobalNet}
+use Rattle.fabric_model.specs.declared.pin.Pin.{Pin}
+use Rattle.fabric_model.specs.declared.register.Register.{Register}
+use Rattle.fabric_model.specs.Rams.{rams_of}
+use Rattle.fabric_model.specs.Outputs.{outputs_of}
+use Rattle.fabric_model.specs.Fabric.{inputs_of, fabric_with, fabric_of}
+use Rattle.fabric_model.specs.declared.lut_inputs.LutInputs.{LutInputs}
+use Rattle.fabric_model.specs.Steps.{Event, Entry, IsRun}
 use Rattle.graph_order.specs.Wiring.{IsWriteOrder}
-use Rattle.net_extract.specs.Wiring.{wiring_of}
-use Rattle.net_extract.specs.Faults.{design_fault}
-use Rattle.net_extract.proofs.Within.{fabric-within}
-use Rattle.net_extract.proofs.Taken.{design-taken}
-use Rattle.net_extract.proofs.Runs.{fabric-placed}
-use Rattle.net_extract.proofs.Paired.{pairs-give}
-use Rattle.net_extract.proofs.Alike.{RegistersAlike, register-field, registers-alike, OutputsAlike, outputs-with, driven-with, run-with}
+use Rattle.fabric_model.specs.Wiring.{wiring_of}
+use Rattle.fabric_model.specs.Faults.{design_fault}
+use Rattle.fabric_model.proofs.Within.{fabric-within}
+use Rattle.fabric_model.proofs.Taken.{design-taken}
+use Rattle.fabric_model.proofs.Runs.{fabric-placed}
+use Rattle.fabric_model.proofs.Paired.{pairs-give}
+use Rattle.fabric_model.proofs.Alike.{RegistersAlike, register-field, registers-alike, OutputsAlike, outputs-with, driven-with, run-with}
 use Rattle.fabric_module.specs.Names.{three_numbers, port_name, enable_name, output_name, user_prefix, user_number, register_name, read_name, memory_name}
 use Rattle.fabric_module.specs.Written.{module_of}
 use Rattle.fabric_module.specs.Matching.{HasValues, HasWires, Matches, module_event}

@@ -11,21 +11,21 @@ use Rattle.plane_map.specs.declared.device.DeviceName.{DeviceName}
 use Rattle.bit_plane.specs.BitList.{word_of}
 use Rattle.vlog_module.specs.Maps.{value_in}
 use Rattle.vlog_module.specs.Parts.{Parts}
-use Rattle.vlog_plan.specs.Entries.{Entry as ModuleEntry}
-use Rattle.vlog_plan.specs.Run.{readable, next_bit, next_word, next_put, put_given, put_given_word, register_step, word_step, memory_step, with_input, changed, is_same_bit, input_bit, followed, run_from, start, module_run}
-use Rattle.vlog_plan.proofs.Entering.{names-input, values-input}
-use Rattle.net_extract.specs.declared.register.Register.{Register}
-use Rattle.net_extract.specs.declared.ram.RamCell.{RamCell}
-use Rattle.net_extract.specs.Fabric.{Fabric, numbered, inputs_of}
-use Rattle.net_extract.specs.Drivers.{is_driven}
-use Rattle.net_extract.specs.Values.{State, bit_in, is_connected}
-use Rattle.net_extract.specs.Steps.{has_edge, bit_after, words_after, read_after, state_after, settled_state, Event, Entry, IsEntry, Follows, FollowEach, IsRun}
+use Rattle.vlog_semantics.specs.Entries.{Entry as ModuleEntry}
+use Rattle.vlog_semantics.specs.Run.{readable, next_bit, next_word, next_put, put_given, put_given_word, register_step, word_step, memory_step, with_input, changed, is_same_bit, input_bit, followed, run_from, start, module_run}
+use Rattle.vlog_semantics.proofs.Entering.{names-input, values-input}
+use Rattle.fabric_model.specs.declared.register.Register.{Register}
+use Rattle.fabric_model.specs.declared.ram.RamCell.{RamCell}
+use Rattle.fabric_model.specs.Fabric.{Fabric, numbered, inputs_of}
+use Rattle.fabric_model.specs.Drivers.{is_driven}
+use Rattle.fabric_model.specs.Values.{State, bit_in, is_connected}
+use Rattle.fabric_model.specs.Steps.{has_edge, bit_after, words_after, read_after, state_after, settled_state, Event, Entry, IsEntry, Follows, FollowEach, IsRun}
 use Rattle.graph_order.specs.Wiring.{IsWriteOrder}
-use Rattle.net_extract.specs.Wiring.{wiring_of}
-use Rattle.net_extract.specs.Faults.{fabric_fault}
-use Rattle.net_extract.proofs.OneValue.{IsWithin}
-use Rattle.net_extract.proofs.Within.{All-numbered}
-use Rattle.net_extract.proofs.Runs.{IsPlaced, IsClocked, clock_bit, register-good, read-good, write-good, entry-one, state-clocked, first-settled, follows-settled}
+use Rattle.fabric_model.specs.Wiring.{wiring_of}
+use Rattle.fabric_model.specs.Faults.{fabric_fault}
+use Rattle.fabric_model.proofs.OneValue.{IsWithin}
+use Rattle.fabric_model.proofs.Within.{All-numbered}
+use Rattle.fabric_model.proofs.Runs.{IsPlaced, IsClocked, clock_bit, register-good, read-good, write-good, entry-one, state-clocked, first-settled, follows-settled}
 use Rattle.fabric_module.specs.Names.{port_name, register_name, read_name, memory_name}
 use Rattle.fabric_module.specs.Rights.{setting_wire}
 use Rattle.fabric_module.specs.Written.{clock_name, register_items, read_item, read_items, write_item, write_items, items_of, module_of}

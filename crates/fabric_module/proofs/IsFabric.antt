@@ -1,8 +1,8 @@
 -- The module that is written for a database and an image is their fabric.
 use Rattle.ice_image.specs.Configuration.{Configuration}
 use Rattle.chipdb_reader.specs.Database.{Database}
-use Rattle.net_extract.specs.declared.lut_inputs.LutInputs.{LutInputs}
-use Rattle.net_extract.proofs.Alike.{design-run}
+use Rattle.fabric_model.specs.declared.lut_inputs.LutInputs.{LutInputs}
+use Rattle.fabric_model.proofs.Alike.{design-run}
 use Rattle.fabric_module.specs.Law.{ModuleIsFabric}
 use Rattle.fabric_module.proofs.Design.{design-is-module, design-well_formed}
 

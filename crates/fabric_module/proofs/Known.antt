@@ -11,11 +11,11 @@ use Rattle.vlog_module.specs.declared.sort.Sort.{Sort}
 use Rattle.vlog_module.specs.declared.sort.Sort.TheVariants as sort
 use Rattle.vlog_module.specs.Names.{IsName}
 use Rattle.vlog_module.specs.WellFormed.{port_sort, Scope}
-use Rattle.vlog_plan.specs.Named.{names_of}
-use Rattle.net_extract.specs.declared.ram.RamCell.{RamCell}
+use Rattle.vlog_semantics.specs.Named.{names_of}
+use Rattle.fabric_model.specs.declared.ram.RamCell.{RamCell}
 use Rattle.vlog_module.specs.declared.modules.Port.{Port}
-use Rattle.net_extract.specs.Fabric.{Fabric, inputs_of}
-use Rattle.net_extract.specs.Outputs.{outputs_of}
+use Rattle.fabric_model.specs.Fabric.{Fabric, inputs_of}
+use Rattle.fabric_model.specs.Outputs.{outputs_of}
 use Rattle.graph_order.specs.Wiring.{has}
 use Rattle.graph_order.proofs.OneOrder.{has-none, has-cases}
 use Rattle.fabric_module.specs.Names.{port_name, output_name, register_name, read_name, memory_name, wire_name}

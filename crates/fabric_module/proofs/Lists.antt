@@ -7,11 +7,11 @@ use Rattle.std.proofs.lemmas.List.Elements.{All-nil, All-cons, All-head, All-tai
 use Rattle.std.proofs.Math.Seq.{get_or-append_seam}
 use Rattle.shared_lemmas.proofs.Bytes.{same_bytes, bytes_eq-same}
 use Rattle.vlog_module.specs.Maps.{value_in}
-use Rattle.vlog_plan.specs.Named.{names_of, values_of}
-use Rattle.net_extract.specs.Fabric.{numbered_from, numbered}
-use Rattle.net_extract.proofs.Apart.{AreApart}
-use Rattle.net_extract.proofs.Within.{All-numbered}
-use Rattle.net_extract.proofs.Settling.{numbered-read}
+use Rattle.vlog_semantics.specs.Named.{names_of, values_of}
+use Rattle.fabric_model.specs.Fabric.{numbered_from, numbered}
+use Rattle.fabric_model.proofs.Apart.{AreApart}
+use Rattle.fabric_model.proofs.Within.{All-numbered}
+use Rattle.fabric_model.proofs.Settling.{numbered-read}
 
 -- ---- names
 

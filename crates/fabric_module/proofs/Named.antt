@@ -8,11 +8,11 @@ use Rattle.std.proofs.lemmas.Str.Parse.{tells_digits}
 use Rattle.std.proofs.lemmas.List.Folds.{list_all-append}
 use Rattle.std.proofs.lemmas.List.Elements.{All-head, All-tail}
 use Rattle.vlog_module.specs.Names.{is_name_byte, reserved_words, is_name, IsName}
-use Rattle.net_extract.specs.declared.driver.ClockUser.{ClockUser}
-use Rattle.net_extract.specs.declared.driver.ClockUser.TheVariants.{Cell, Input, Output, Read, Write}
-use Rattle.net_extract.specs.declared.register.Register.{Register}
-use Rattle.net_extract.specs.declared.ram.RamCell.{RamCell}
-use Rattle.net_extract.specs.declared.pin.Pin.{Pin}
+use Rattle.fabric_model.specs.declared.driver.ClockUser.{ClockUser}
+use Rattle.fabric_model.specs.declared.driver.ClockUser.TheVariants.{Cell, Input, Output, Read, Write}
+use Rattle.fabric_model.specs.declared.register.Register.{Register}
+use Rattle.fabric_model.specs.declared.ram.RamCell.{RamCell}
+use Rattle.fabric_model.specs.declared.pin.Pin.{Pin}
 use Rattle.fabric_module.specs.Names.{two_numbers, three_numbers, port_name, enable_name, user_prefix, user_number, register_name, read_name, memory_name, wire_name}
 use Rattle.fabric_module.proofs.Lists.{Apart}
 use Rattle.fabric_module.proofs.Apart.{IsSmall, number-digits}

@@ -10,9 +10,9 @@ use Rattle.bit_plane.specs.Rows.{row_from}
 use Rattle.bit_plane.proofs.Made.{length-row_from, get_or-row_from}
 use Rattle.bit_plane.proofs.Words.{word_of-lt}
 use Rattle.bit_plane.proofs.Parts.{bit_at-high}
-use Rattle.rams_narrow.specs.Narrow.{share, put_bit, got_bit}
-use Rattle.vlog_plan.specs.Values.{number_of}
-use Rattle.vlog_plan.specs.Run.{masked, moved_down, moved_up}
+use Rattle.narrow_words.specs.Narrow.{share, put_bit, got_bit}
+use Rattle.vlog_semantics.specs.Values.{number_of}
+use Rattle.vlog_semantics.specs.Run.{masked, moved_down, moved_up}
 use Rattle.fabric_module.specs.Rights.{pattern_of}
 use Rattle.fabric_module.proofs.Bits.{bit_at-word_of, number_of-word_of, masked-same}
 

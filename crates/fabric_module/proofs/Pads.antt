@@ -4,7 +4,7 @@ use Rattle.std.specs.Prelude.{All, Contains, Option, Some, None, not, codes, ◌
 use Rattle.std.proofs.lemmas.Bool.{cases_Bool, eqb-true, and_from, or_left}
 use Rattle.std.proofs.lemmas.List.Elements.{All-nil, All-head, All-tail, All-map}
 use Rattle.plane_map.proofs.Grids.{kind_of-inside}
-use Rattle.place_search.proofs.Gathered.{All-gathered_below, Contains-gathered_below}
+use Rattle.index_search.proofs.Gathered.{All-gathered_below, Contains-gathered_below}
 use Rattle.shared_lemmas.proofs.Tests.{first_true}
 use Rattle.plane_map.specs.Devices.{is_same_device}
 use Rattle.plane_map.proofs.Devices.{one-device}
@@ -18,22 +18,22 @@ use Rattle.chipdb_reader.specs.declared.items.PinXy.{PinXy}
 use Rattle.chipdb_reader.specs.Database.{Database}
 use Rattle.chipdb_reader.specs.Lookups.{pin_of, pad_of}
 use Rattle.chipdb_reader.specs.Fit.{IsFit, IsGlobalPin}
-use Rattle.place_search.specs.Places.{gathered_below}
-use Rattle.place_search.proofs.Places.{any_below-at}
-use Rattle.net_extract.specs.declared.pin.Pin.{Pin}
-use Rattle.net_extract.specs.declared.pin.GlobalNet.{GlobalNet}
-use Rattle.net_extract.specs.declared.pin.GlobalFrom.{GlobalFrom}
-use Rattle.net_extract.specs.declared.pin.GlobalFrom.TheVariants.{Pad, Fabout}
-use Rattle.net_extract.specs.Tiles.{over_grid, at_kind}
-use Rattle.net_extract.specs.On.{is_function_on}
-use Rattle.net_extract.specs.Nets.{is_some_read}
-use Rattle.net_extract.specs.Pins.{pintype_of, has_no_output, has_tri_state_output, has_plain_input, is_plain_input, is_registered_input, is_output_pin, is_port, is_input_read, place_among, io_net, pin_with, port_at, pins_of, global_pad, global_source, global_fabout, source_of_global, global_nets, nets_from, globals_of, is_pin_at, is_global_pad, is_refused_with}
-use Rattle.net_extract.specs.Fabric.{inputs_of, fabric_with}
-use Rattle.net_extract.specs.declared.lut_inputs.LutInputs.{LutInputs}
-use Rattle.net_extract.specs.Faults.{Fault, device_faults, pin_fault_at, pin_faults}
-use Rattle.net_extract.proofs.OneValue.{filter-has}
-use Rattle.net_extract.proofs.Taken.{IsTaken, gathered_below-empty, item_if-none}
-use Rattle.net_extract.proofs.Runs.{contains-over_grid}
+use Rattle.index_search.specs.Places.{gathered_below}
+use Rattle.index_search.proofs.Places.{any_below-at}
+use Rattle.fabric_model.specs.declared.pin.Pin.{Pin}
+use Rattle.fabric_model.specs.declared.pin.GlobalNet.{GlobalNet}
+use Rattle.fabric_model.specs.declared.pin.GlobalFrom.{GlobalFrom}
+use Rattle.fabric_model.specs.declared.pin.GlobalFrom.TheVariants.{Pad, Fabout}
+use Rattle.fabric_model.specs.Tiles.{over_grid, at_kind}
+use Rattle.fabric_model.specs.On.{is_function_on}
+use Rattle.fabric_model.specs.Nets.{is_some_read}
+use Rattle.fabric_model.specs.Pins.{pintype_of, has_no_output, has_tri_state_output, has_plain_input, is_plain_input, is_registered_input, is_output_pin, is_port, is_input_read, place_among, io_net, pin_with, port_at, pins_of, global_pad, global_source, global_fabout, source_of_global, global_nets, nets_from, globals_of, is_pin_at, is_global_pad, is_refused_with}
+use Rattle.fabric_model.specs.Fabric.{inputs_of, fabric_with}
+use Rattle.fabric_model.specs.declared.lut_inputs.LutInputs.{LutInputs}
+use Rattle.fabric_model.specs.Faults.{Fault, device_faults, pin_fault_at, pin_faults}
+use Rattle.fabric_model.proofs.OneValue.{filter-has}
+use Rattle.fabric_model.proofs.Taken.{IsTaken, gathered_below-empty, item_if-none}
+use Rattle.fabric_model.proofs.Runs.{contains-over_grid}
 use Rattle.fabric_module.proofs.Configured.{place-found, IsPadIn}
 
 -- ---- tests and places

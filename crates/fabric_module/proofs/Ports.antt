@@ -4,14 +4,14 @@ use Rattle.std.specs.Prelude.{All, filter, flat_map, bytes_eq, codes, not, ◌&&
 use Rattle.std.proofs.lemmas.Bool.{cases_Bool}
 use Rattle.std.proofs.lemmas.List.Elements.{All-nil, All-cons, All-head, All-tail, All-map}
 use Rattle.vlog_module.specs.declared.modules.Port.{Port}
-use Rattle.vlog_plan.specs.Run.{input_start, output_start}
-use Rattle.net_extract.specs.declared.register.Register.{Register}
-use Rattle.net_extract.specs.declared.pin.Pin.{Pin}
-use Rattle.net_extract.specs.Pins.{is_tri_state_kind}
-use Rattle.net_extract.specs.Fabric.{Fabric}
-use Rattle.net_extract.specs.Outputs.{Output, pin_outputs, outputs_of}
-use Rattle.net_extract.proofs.Apart.{All-every, apart-filter}
-use Rattle.net_extract.proofs.Within.{All-flat_map, All-if, All-single}
+use Rattle.vlog_semantics.specs.Run.{input_start, output_start}
+use Rattle.fabric_model.specs.declared.register.Register.{Register}
+use Rattle.fabric_model.specs.declared.pin.Pin.{Pin}
+use Rattle.fabric_model.specs.Pins.{is_tri_state_kind}
+use Rattle.fabric_model.specs.Fabric.{Fabric}
+use Rattle.fabric_model.specs.Outputs.{Output, pin_outputs, outputs_of}
+use Rattle.fabric_model.proofs.Apart.{All-every, apart-filter}
+use Rattle.fabric_model.proofs.Within.{All-flat_map, All-if, All-single}
 use Rattle.fabric_module.specs.Names.{three_numbers, port_name, enable_name, output_name}
 use Rattle.fabric_module.specs.Written.{port_of, enable_ports, pin_ports}
 use Rattle.fabric_module.proofs.Lists.{NamesDiffer, Apart, map-map}

@@ -7,11 +7,11 @@ use Rattle.shared_lemmas.proofs.Bytes.{bytes_eq-same}
 use Rattle.vlog_module.specs.Uses.{Use, right_uses}
 use Rattle.vlog_module.specs.WellFormed.{Reading, read_by, is_unless, is_read_unless, wire_readings}
 use Rattle.vlog_module.specs.WellFormed.Reading.{plainly, unless}
-use Rattle.net_extract.specs.declared.register.Register.{Register}
-use Rattle.net_extract.specs.declared.pin.Pin.{Pin}
-use Rattle.net_extract.specs.Fabric.{Fabric, inputs_of}
-use Rattle.net_extract.specs.Drivers.{Drive, drives_of, is_driver_of, drivers_of, is_driven}
-use Rattle.net_extract.proofs.Within.{All-flat_map, All-single}
+use Rattle.fabric_model.specs.declared.register.Register.{Register}
+use Rattle.fabric_model.specs.declared.pin.Pin.{Pin}
+use Rattle.fabric_model.specs.Fabric.{Fabric, inputs_of}
+use Rattle.fabric_model.specs.Drivers.{Drive, drives_of, is_driver_of, drivers_of, is_driven}
+use Rattle.fabric_model.proofs.Within.{All-flat_map, All-single}
 use Rattle.fabric_module.specs.Names.{port_name, register_name, wire_name}
 use Rattle.fabric_module.specs.Rights.{input_name, setting_wire, right_by, class_right}
 use Rattle.fabric_module.specs.Written.{class_wire}

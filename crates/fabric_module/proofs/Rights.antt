@@ -7,32 +7,32 @@ use Rattle.bit_plane.specs.BitList.{word_of}
 use Rattle.vlog_module.specs.declared.atoms.Atom.{Atom}
 use Rattle.vlog_module.specs.declared.atoms.Atom.TheVariants.{Bit, Whole, Part}
 use Rattle.vlog_module.specs.Maps.{value_in}
-use Rattle.vlog_plan.specs.Values.{Readable, atom_value, right_value}
-use Rattle.net_extract.specs.declared.register.Source.{Source}
-use Rattle.net_extract.specs.declared.register.Source.TheVariants.{Net, Pin as SourcePin}
-use Rattle.net_extract.specs.declared.register.Table.{Table}
-use Rattle.net_extract.specs.declared.register.Register.{Register}
-use Rattle.net_extract.specs.Joins.{class_of}
-use Rattle.net_extract.specs.Fabric.{Fabric, numbered, inputs_of}
-use Rattle.net_extract.specs.declared.pin.Pin.{Pin}
-use Rattle.net_extract.specs.Pins.{is_registered, is_tri_state}
-use Rattle.net_extract.specs.Outputs.{Output, enable_outputs, pin_outputs, outputs_of}
-use Rattle.net_extract.specs.Drivers.{Rule, Drive, is_output_register, register_rule, output_rule, drives_of, drivers_of, is_driven, nets_read}
-use Rattle.net_extract.specs.Drivers.Rule.{pin_bit, constant, input, table_entry, majority_of, register_bit, read_bit, copied}
-use Rattle.net_extract.specs.Values.{State, input_value, input_or_0, source_value, table_input, lut_value, settled_bit, value_of, bit_in, is_connected, IsConsistent}
+use Rattle.vlog_semantics.specs.Values.{Readable, atom_value, right_value}
+use Rattle.fabric_model.specs.declared.register.LutSource.{LutSource}
+use Rattle.fabric_model.specs.declared.register.LutSource.TheVariants.{Net, Pin as SourcePin}
+use Rattle.fabric_model.specs.declared.register.LutTable.{LutTable}
+use Rattle.fabric_model.specs.declared.register.Register.{Register}
+use Rattle.fabric_model.specs.Joins.{class_of}
+use Rattle.fabric_model.specs.Fabric.{Fabric, numbered, inputs_of}
+use Rattle.fabric_model.specs.declared.pin.Pin.{Pin}
+use Rattle.fabric_model.specs.Pins.{is_registered, is_tri_state}
+use Rattle.fabric_model.specs.Outputs.{Output, enable_outputs, pin_outputs, outputs_of}
+use Rattle.fabric_model.specs.Drivers.{Rule, Drive, is_output_register, register_rule, output_rule, drives_of, drivers_of, is_driven, nets_read}
+use Rattle.fabric_model.specs.Drivers.Rule.{pin_bit, constant, input, table_entry, majority_of, register_bit, read_bit, copied}
+use Rattle.fabric_model.specs.Values.{State, input_value, input_or_0, source_value, table_input, lut_value, settled_bit, value_of, bit_in, is_connected, IsConsistent}
 use Rattle.graph_order.specs.Wiring.{has, depends}
-use Rattle.net_extract.specs.Wiring.{wiring_of}
-use Rattle.net_extract.proofs.Apart.{All-every}
-use Rattle.net_extract.proofs.Within.{HoldsOf, find-holds, All-flat_map, All-if, All-single}
-use Rattle.net_extract.proofs.Joins.{class_of-class}
-use Rattle.net_extract.proofs.Facts.{has-left, has-right, has-some, has-source}
-use Rattle.net_extract.proofs.OneValue.{IsWithin, first-driver, first-is, first-class, first-reads, net-bit, class_bit, class-still}
+use Rattle.fabric_model.specs.Wiring.{wiring_of}
+use Rattle.fabric_model.proofs.Apart.{All-every}
+use Rattle.fabric_model.proofs.Within.{HoldsOf, find-holds, All-flat_map, All-if, All-single}
+use Rattle.fabric_model.proofs.Joins.{class_of-class}
+use Rattle.fabric_model.proofs.Facts.{has-left, has-right, has-some, has-source}
+use Rattle.fabric_model.proofs.OneValue.{IsWithin, first-driver, first-is, first-class, first-reads, net-bit, class_bit, class-still}
 use Rattle.fabric_module.specs.Names.{register_name, wire_name}
 use Rattle.fabric_module.specs.Rights.{input_atom, atom_or_0, input_name, read_at, source_atom, table_atom, driven_wire, setting_wire, register_right, right_alone, right_of, right_by, class_right}
 use Rattle.fabric_module.proofs.Bits.{bit_of-word_of, table-entry, majority-same}
 
 -- the pin that an input of a table reads is one of the fabric's
-abbrev pub IsSourceThere : Fabric → Source → Type 0
+abbrev pub IsSourceThere : Fabric → LutSource → Type 0
 IsSourceThere fabric (Net net) = Unit {0}
 IsSourceThere fabric (SourcePin place) = place < length (inputs_of fabric)
 
@@ -79,7 +79,7 @@ outputs-ruled fabric =
     (All-single (λ (output : Output). IsOutputRule fabric output.rule) (record { pin = pin; enable = true; rule = input true pin.enable }) tt))) (filter (λ pin. pin.output) fabric.pins))
 
 -- so each input of a table is
-pub source-there : (fabric : Fabric) (ins : List Source) (k : ℕ) → All (IsSourceThere fabric) ins → IsSourceThere fabric (get_or ins k (Net None))
+pub source-there : (fabric : Fabric) (ins : List LutSource) (k : ℕ) → All (IsSourceThere fabric) ins → IsSourceThere fabric (get_or ins k (Net None))
 source-there fabric [] k all = tt
 source-there fabric (source ∷ ins) zero all = All-head (IsSourceThere fabric) source ins all
 source-there fabric (source ∷ ins) (suc k) all = source-there fabric ins k (All-tail (IsSourceThere fabric) source ins all)
@@ -110,12 +110,12 @@ right-unless from register None = refl
 -- the reset of a register doesn't act at once, or is 0
 pub record IsUnset (fabric : Fabric) (v : List Bool) (register : Register) : Type 0 where
   pub none : setting_wire fabric register ≡ None
-  pub idle : (register.at_once && input_or_0 (is_connected fabric) (bit_in v) register.sr) ≡ false
+  pub idle : (register.is_async && input_or_0 (is_connected fabric) (bit_in v) register.sr) ≡ false
 
 -- or it acts at once and has the value of this wire
 pub record IsSetBy (fabric : Fabric) (v : List Bool) (from : Readable) (register : Register) (wire : List ℕ) : Type 0 where
   pub found : setting_wire fabric register ≡ Some wire
-  pub acts : register.at_once ≡ true
+  pub acts : register.is_async ≡ true
   pub value : atom_value from (Whole wire) ≡ input_or_0 (is_connected fabric) (bit_in v) register.sr
 
 module _ (fabric : Fabric) (within : IsWithin fabric) (state : State) (pins v : List Bool) (is : IsConsistent fabric state pins v) where
@@ -148,18 +148,18 @@ module _ (fabric : Fabric) (within : IsWithin fabric) (state : State) (pins v : 
 
     -- ---- tables
 
-    source-value : (source : Source) → IsSourceThere fabric source → ((n : ℕ) → source ≡ Net (Some n) → is_connected fabric n ≡ true → wired (class_of fabric.joins n) ≡ true)
+    source-value : (source : LutSource) → IsSourceThere fabric source → ((n : ℕ) → source ≡ Net (Some n) → is_connected fabric n ≡ true → wired (class_of fabric.joins n) ≡ true)
         → atom_value from (source_atom fabric source) ≡ source_value (is_connected fabric) pins (bit_in v) source
     source-value (Net net) there wires = atom-value false net (λ n found. wires n (ap Net found))
     source-value (SourcePin place) there wires = rw (gives.pin place there) refl
 
-    table-value : (table : Table) (k : ℕ) → IsPlaceIn fabric (table_entry table) → ReadsWired (table_entry table)
+    table-value : (table : LutTable) (k : ℕ) → IsPlaceIn fabric (table_entry table) → ReadsWired (table_entry table)
         → atom_value from (table_atom fabric table k) ≡ table_input (is_connected fabric) pins (bit_in v) table k
     unfolding nets_read
     table-value table k there wires =
         source-value (get_or table.ins k (Net None)) (source-there fabric table.ins k there) (λ n found. wires n (has-source table.ins k n found))
 
-    pub table-written : (table : Table) → IsPlaceIn fabric (table_entry table) → ReadsWired (table_entry table)
+    pub table-written : (table : LutTable) → IsPlaceIn fabric (table_entry table) → ReadsWired (table_entry table)
         → right_value from (right_of fabric (table_entry table)) ≡ lut_value (is_connected fabric) pins (bit_in v) table
     unfolding right_of lut_value
     table-written table there wires =
@@ -201,7 +201,7 @@ module _ (fabric : Fabric) (within : IsWithin fabric) (state : State) (pins v : 
         → IsUnset fabric v register ⊎ ((wire : List ℕ) × IsSetBy fabric v from register wire)
     unfolding nets_read
     setting place register wires =
-        elim (cases_Bool register.at_once) [
+        elim (cases_Bool register.is_async) [
           | inl acts ↦
               elim (driven-value register.sr (λ n found. wires n (rw acts (has-some register.sr n found)))) [
                 | inl away ↦ inl (record { none = rw acts away.0; idle = rw (acts, away.1) refl })

@@ -3,14 +3,14 @@ use Rattle.std.proofs.Common.{◌≡◌, ℕ, Bool, false, List, [], ◌∷◌, 
 use Rattle.std.specs.Prelude.{All, Option, Some, None, filter, flat_map, ◌==◌, if◌then◌else◌}
 use Rattle.std.proofs.lemmas.Bool.{cases_Bool}
 use Rattle.std.proofs.lemmas.List.Elements.{All-nil, All-cons, All-head, All-tail, All-append, filter-append}
-use Rattle.place_search.proofs.Gathered.{All-gathered_below}
+use Rattle.index_search.proofs.Gathered.{All-gathered_below}
 use Rattle.vlog_module.specs.declared.item.Item.{Item}
 use Rattle.vlog_module.specs.WellFormed.{section_of}
-use Rattle.net_extract.specs.declared.register.Register.{Register}
-use Rattle.net_extract.specs.declared.ram.RamCell.{RamCell}
-use Rattle.net_extract.specs.Fabric.{Fabric, numbered}
-use Rattle.net_extract.specs.Outputs.{outputs_of}
-use Rattle.net_extract.proofs.Within.{All-single}
+use Rattle.fabric_model.specs.declared.register.Register.{Register}
+use Rattle.fabric_model.specs.declared.ram.RamCell.{RamCell}
+use Rattle.fabric_model.specs.Fabric.{Fabric, numbered}
+use Rattle.fabric_model.specs.Outputs.{outputs_of}
+use Rattle.fabric_model.proofs.Within.{All-single}
 use Rattle.fabric_module.specs.Rights.{setting_wire}
 use Rattle.fabric_module.specs.Written.{clocked, clock_name, register_item, read_register, ram_memory, class_wire, output_assign, items_by, register_items, read_item, read_items, write_item, write_items, start_item, start_items, items_of}
 

@@ -12,26 +12,26 @@ use Rattle.shared_lemmas.proofs.Lists.{map-same, map-every}
 use Rattle.shared_lemmas.proofs.Bytes.{same_bytes, bytes_eq-same}
 use Rattle.bit_plane.specs.BitList.{word_of}
 use Rattle.vlog_module.specs.declared.atoms.Atom.TheVariants.{Whole}
-use Rattle.vlog_module.specs.declared.item.Item.TheVariants.{Register as RegisterItem, Word, Memory, Wire, Assign, Flip, FlipAtOnce, SetAtOnce, Read, ReadNarrow, Write, WriteNarrow, Start}
+use Rattle.vlog_module.specs.declared.item.Item.TheVariants.{Register as RegisterItem, Word, Memory, Wire, Assign, FlipFlop, AsyncFlipFlop, AsyncReset, Read, ReadNarrow, Write, WriteNarrow, Start}
 use Rattle.vlog_module.specs.Maps.{value_in}
-use Rattle.vlog_plan.specs.Named.{names_of, values_of}
-use Rattle.vlog_plan.specs.Values.{Readable, atom_value, right_value}
-use Rattle.vlog_plan.specs.Run.{output_start, wire_step, settle_step, output_step, settled}
-use Rattle.net_extract.specs.declared.register.Register.{Register}
-use Rattle.net_extract.specs.Fabric.{Fabric, numbered, inputs_of}
-use Rattle.net_extract.specs.Outputs.{Output, outputs_of}
-use Rattle.net_extract.proofs.Apart.{apart-numbered}
-use Rattle.net_extract.specs.Drivers.{Rule, Drive, drives_of, is_driven}
-use Rattle.net_extract.specs.Drivers.Rule.{pin_bit, constant, input, table_entry, majority_of, register_bit, read_bit, copied}
-use Rattle.net_extract.specs.Values.{State, settled_bit, value_of, bit_in, is_connected, IsConsistent}
-use Rattle.net_extract.specs.Steps.{Entry, settled_bits, settled_state, output_values, IsEntry}
+use Rattle.vlog_semantics.specs.Named.{names_of, values_of}
+use Rattle.vlog_semantics.specs.Values.{Readable, atom_value, right_value}
+use Rattle.vlog_semantics.specs.Run.{output_start, wire_step, settle_step, output_step, settled}
+use Rattle.fabric_model.specs.declared.register.Register.{Register}
+use Rattle.fabric_model.specs.Fabric.{Fabric, numbered, inputs_of}
+use Rattle.fabric_model.specs.Outputs.{Output, outputs_of}
+use Rattle.fabric_model.proofs.Apart.{apart-numbered}
+use Rattle.fabric_model.specs.Drivers.{Rule, Drive, drives_of, is_driven}
+use Rattle.fabric_model.specs.Drivers.Rule.{pin_bit, constant, input, table_entry, majority_of, register_bit, read_bit, copied}
+use Rattle.fabric_model.specs.Values.{State, settled_bit, value_of, bit_in, is_connected, IsConsistent}
+use Rattle.fabric_model.specs.Steps.{Entry, settled_bits, settled_state, output_values, IsEntry}
 use Rattle.graph_order.specs.Wiring.{has, IsWriteOrder}
-use Rattle.net_extract.specs.Wiring.{wiring_of}
+use Rattle.fabric_model.specs.Wiring.{wiring_of}
 use Rattle.graph_order.proofs.OneOrder.{has-none, has-first, has-cases, Continues, order-continues}
 use Rattle.graph_order.proofs.OneOrder.Continues.{whole, next}
-use Rattle.net_extract.proofs.Facts.{has-left, has-right}
-use Rattle.net_extract.proofs.Settling.{numbered-read, consistent-unsettled, settled-twice}
-use Rattle.net_extract.proofs.OneValue.{IsWithin, driven-is, count-is, driven-below}
+use Rattle.fabric_model.proofs.Facts.{has-left, has-right}
+use Rattle.fabric_model.proofs.Settling.{numbered-read, consistent-unsettled, settled-twice}
+use Rattle.fabric_model.proofs.OneValue.{IsWithin, driven-is, count-is, driven-below}
 use Rattle.fabric_module.specs.Names.{port_name, output_name, register_name, read_name, memory_name, wire_name}
 use Rattle.fabric_module.specs.Rights.{output_atom, input_name, read_at, setting_wire, class_right}
 use Rattle.fabric_module.specs.Written.{class_wire, output_assign, items_by, register_items, items_of, module_of}
@@ -112,9 +112,9 @@ wire-skips known words (Word name start) away given = refl
 wire-skips known words (Memory name) away given = refl
 wire-skips known words (Wire name right) away given = absurd cc
 wire-skips known words (Assign name value) away given = refl
-wire-skips known words (Flip falling clock enable reset set target lut) away given = refl
-wire-skips known words (FlipAtOnce falling clock reset set target enable lut) away given = refl
-wire-skips known words (SetAtOnce reset set target) away given = refl
+wire-skips known words (FlipFlop falling clock enable reset set target lut) away given = refl
+wire-skips known words (AsyncFlipFlop falling clock reset set target enable lut) away given = refl
+wire-skips known words (AsyncReset reset set target) away given = refl
 wire-skips known words (Read falling clock clock_enable enable target memory address) away given = refl
 wire-skips known words (ReadNarrow falling clock clock_enable enable target memory address shift pattern) away given = refl
 wire-skips known words (Write falling clock clock_enable enable memory address mask bits) away given = refl
@@ -127,9 +127,9 @@ output-skips from (Word name start) away given = refl
 output-skips from (Memory name) away given = refl
 output-skips from (Wire name right) away given = refl
 output-skips from (Assign name value) away given = absurd cc
-output-skips from (Flip falling clock enable reset set target lut) away given = refl
-output-skips from (FlipAtOnce falling clock reset set target enable lut) away given = refl
-output-skips from (SetAtOnce reset set target) away given = refl
+output-skips from (FlipFlop falling clock enable reset set target lut) away given = refl
+output-skips from (AsyncFlipFlop falling clock reset set target enable lut) away given = refl
+output-skips from (AsyncReset reset set target) away given = refl
 output-skips from (Read falling clock clock_enable enable target memory address) away given = refl
 output-skips from (ReadNarrow falling clock clock_enable enable target memory address shift pattern) away given = refl
 output-skips from (Write falling clock clock_enable enable memory address mask bits) away given = refl
@@ -142,9 +142,9 @@ settle-skips from (Word name start) away given = refl
 settle-skips from (Memory name) away given = refl
 settle-skips from (Wire name right) away given = refl
 settle-skips from (Assign name value) away given = refl
-settle-skips from (Flip falling clock enable reset set target lut) away given = absurd cc
-settle-skips from (FlipAtOnce falling clock reset set target enable lut) away given = absurd cc
-settle-skips from (SetAtOnce reset set target) away given = absurd cc
+settle-skips from (FlipFlop falling clock enable reset set target lut) away given = absurd cc
+settle-skips from (AsyncFlipFlop falling clock reset set target enable lut) away given = absurd cc
+settle-skips from (AsyncReset reset set target) away given = absurd cc
 settle-skips from (Read falling clock clock_enable enable target memory address) away given = refl
 settle-skips from (ReadNarrow falling clock clock_enable enable target memory address shift pattern) away given = refl
 settle-skips from (Write falling clock clock_enable enable memory address mask bits) away given = refl

@@ -3,7 +3,7 @@ use Rattle.std.proofs.Common.{◌≡◌, ℕ, zero, suc, ◌-◌, ◌^◌, ◌<�
 use Rattle.std.specs.Prelude.{All, Option, Some, None, not, filter, flat_map, if◌then◌else◌}
 use Rattle.std.proofs.lemmas.List.{length-map}
 use Rattle.std.proofs.lemmas.List.Elements.{All-nil, All-head, All-tail, All-append, All-map, All-weaker, All-filter}
-use Rattle.place_search.proofs.Gathered.{All-gathered_below}
+use Rattle.index_search.proofs.Gathered.{All-gathered_below}
 use Rattle.plane_map.specs.declared.tile.TileKind.TheVariants.{Logic, RamB}
 use Rattle.ice_image.specs.Configuration.{Configuration}
 use Rattle.bit_plane.specs.BitList.{word_of}
@@ -14,25 +14,25 @@ use Rattle.vlog_module.specs.declared.atoms.Atom.{Atom}
 use Rattle.vlog_module.specs.declared.atoms.Atom.TheVariants.{Bit, Whole, Part}
 use Rattle.vlog_module.specs.Names.{IsName}
 use Rattle.vlog_module.specs.WellFormed.{IsRight}
-use Rattle.net_extract.specs.declared.cell.Lc.{Lc}
-use Rattle.net_extract.specs.declared.lut_inputs.LutInputs.{LutInputs}
-use Rattle.net_extract.specs.declared.register.Table.{Table}
-use Rattle.net_extract.specs.declared.register.Register.{Register}
-use Rattle.net_extract.specs.Registers.{table_of, register_of, registers_of, pin_register, pin_registers_of}
-use Rattle.net_extract.specs.declared.driver.ClockUser.TheVariants.{Input, Output}
-use Rattle.net_extract.specs.declared.ram.RamCell.{RamCell}
-use Rattle.net_extract.specs.declared.pin.Pin.{Pin}
-use Rattle.net_extract.specs.declared.pin.GlobalFrom.{GlobalFrom}
-use Rattle.net_extract.specs.declared.pin.GlobalFrom.TheVariants.{Pad, Fabout}
-use Rattle.net_extract.specs.declared.driver.Driver.{Driver}
-use Rattle.net_extract.specs.Cells.{cell_bit, entry_bits, cell_bits, cell_with, used_cell, cells_at, cells_of}
-use Rattle.net_extract.specs.Rams.{first_data_bit, is_ram_used, ram_at, rams_of, start_word, start_words}
-use Rattle.net_extract.specs.Pins.{pins_of, is_registered}
-use Rattle.net_extract.specs.Fabric.{Fabric, numbered, inputs_of, fabric_with}
-use Rattle.net_extract.specs.Drivers.{Rule, Drive, drives_if, pin_drives, output_rule, back_drives, lut_drives, drives_by, flip_driver, flip_drives, lout_drives, carry_drives, set_drives, read_data_rule, ram_drive, ram_drives, global_rule, global_drives, buffer_drives, pin_register_driver, pin_register_drives, drives_of, is_driver_of, drivers_of}
-use Rattle.net_extract.specs.Drivers.Rule.{pin_bit, constant, input, table_entry, majority_of, register_bit, read_bit, copied}
-use Rattle.net_extract.proofs.Within.{All-flat_map, All-item_if, All-if, All-unless, All-single, All-over_tiles}
-use Rattle.net_extract.proofs.Apart.{All-every}
+use Rattle.fabric_model.specs.declared.cell.LogicCell.{LogicCell}
+use Rattle.fabric_model.specs.declared.lut_inputs.LutInputs.{LutInputs}
+use Rattle.fabric_model.specs.declared.register.LutTable.{LutTable}
+use Rattle.fabric_model.specs.declared.register.Register.{Register}
+use Rattle.fabric_model.specs.Registers.{table_of, register_of, registers_of, pin_register, pin_registers_of}
+use Rattle.fabric_model.specs.declared.driver.ClockUser.TheVariants.{Input, Output}
+use Rattle.fabric_model.specs.declared.ram.RamCell.{RamCell}
+use Rattle.fabric_model.specs.declared.pin.Pin.{Pin}
+use Rattle.fabric_model.specs.declared.pin.GlobalFrom.{GlobalFrom}
+use Rattle.fabric_model.specs.declared.pin.GlobalFrom.TheVariants.{Pad, Fabout}
+use Rattle.fabric_model.specs.declared.driver.Driver.{Driver}
+use Rattle.fabric_model.specs.Cells.{cell_bit, entry_bits, cell_bits, cell_with, used_cell, cells_at, cells_of}
+use Rattle.fabric_model.specs.Rams.{first_data_bit, is_ram_used, ram_at, rams_of, start_word, start_words}
+use Rattle.fabric_model.specs.Pins.{pins_of, is_registered}
+use Rattle.fabric_model.specs.Fabric.{Fabric, numbered, inputs_of, fabric_with}
+use Rattle.fabric_model.specs.Drivers.{Rule, Drive, drives_if, pin_drives, output_rule, back_drives, lut_drives, drives_by, flip_driver, flip_drives, lout_drives, carry_drives, set_drives, read_data_rule, ram_drive, ram_drives, global_rule, global_drives, buffer_drives, pin_register_driver, pin_register_drives, drives_of, is_driver_of, drivers_of}
+use Rattle.fabric_model.specs.Drivers.Rule.{pin_bit, constant, input, table_entry, majority_of, register_bit, read_bit, copied}
+use Rattle.fabric_model.proofs.Within.{All-flat_map, All-item_if, All-if, All-unless, All-single, All-over_tiles}
+use Rattle.fabric_model.proofs.Apart.{All-every}
 use Rattle.fabric_module.specs.Names.{user_number, register_name, read_name, memory_name}
 use Rattle.fabric_module.specs.Rights.{input_atom, atom_or_0, setting_wire, register_right, right_alone, right_of, right_by, class_right}
 use Rattle.fabric_module.specs.Written.{pin_ports}
@@ -73,7 +73,7 @@ module _ (fabric : Fabric) (tables : All (λ lc. lc.lut < 65536) fabric.lcs) whe
   unfolding right_of
   input-right stated net = alone-right (input_atom fabric stated net)
 
-  table-right : (table : Table) → table.word < 65536 → IsRight (right_of fabric (table_entry table))
+  table-right : (table : LutTable) → table.word < 65536 → IsRight (right_of fabric (table_entry table))
   unfolding right_of
   table-right table small = (small, refl)
 
@@ -117,7 +117,7 @@ module _ (fabric : Fabric) (tables : All (λ lc. lc.lut < 65536) fabric.lcs) whe
   any-right given each [] = All-nil IsDriveRight
   any-right given each (x ∷ parts) = All-append IsDriveRight (given x) (flat_map given parts) (each x) (any-right given each parts)
 
-  cells-right : (given : Lc → List Drive) → ((lc : Lc) → lc.lut < 65536 → All IsDriveRight (given lc)) → (lcs : List Lc) → All (λ lc. lc.lut < 65536) lcs → All IsDriveRight (flat_map given lcs)
+  cells-right : (given : LogicCell → List Drive) → ((lc : LogicCell) → lc.lut < 65536 → All IsDriveRight (given lc)) → (lcs : List LogicCell) → All (λ lc. lc.lut < 65536) lcs → All IsDriveRight (flat_map given lcs)
   cells-right given each lcs all = All-flat_map IsDriveRight given lcs (All-weaker (λ lc. lc.lut < 65536) (λ lc. All IsDriveRight (given lc)) each lcs all)
 
   then-right : (first second : List Drive) → All IsDriveRight first → All IsDriveRight second → All IsDriveRight (first ++ second)
@@ -187,7 +187,7 @@ module _ (db : Database) (image : Configuration) where
       (λ pin small. each-port (λ port. IsName (port_label port)) pin (port-named pin small.first small.second small.third) (enable-named pin small.first small.second small.third))
       (pins_of db image) (pins-small db image))
 
-  register-name : (reads : LutInputs) (lc : Lc) → CellSmall lc → IsName (register_name (register_of reads lc))
+  register-name : (reads : LutInputs) (lc : LogicCell) → CellSmall lc → IsName (register_name (register_of reads lc))
   unfolding CellSmall register_of
   register-name reads lc small = register-named (register_of reads lc) small.first small.second small.third
 
@@ -212,7 +212,7 @@ module _ (db : Database) (image : Configuration) where
       (λ x y left low. All-gathered_below (λ lc. lc.lut < 65536) 8 (used_cell db image x y)
       (λ i few. All-item_if (λ lc. lc.lut < 65536) _ (cell_with db image x y i (cell_bits db image x y i)) (table-small x y i (cell_bits db image x y i))))
 
-  register-small : (reads : LutInputs) (lc : Lc) → lc.lut < 65536 → (register_of reads lc).table.word < 65536
+  register-small : (reads : LutInputs) (lc : LogicCell) → lc.lut < 65536 → (register_of reads lc).table.word < 65536
   unfolding register_of
   register-small reads lc small = small
 

@@ -5,16 +5,16 @@ use Rattle.std.specs.List.{list_any}
 use Rattle.std.proofs.lemmas.Bool.{cases_Bool, eqb-true, and_left, and_right}
 use Rattle.std.proofs.lemmas.List.Sums.{fold-append}
 use Rattle.std.proofs.lemmas.List.Elements.{All-nil, All-cons, All-head, All-tail, All-append, All-weaker}
-use Rattle.place_search.proofs.Gathered.{All-gathered_below}
-use Rattle.place_search.specs.Places.{gathered_below}
+use Rattle.index_search.proofs.Gathered.{All-gathered_below}
+use Rattle.index_search.specs.Places.{gathered_below}
 use Rattle.bit_plane.specs.BitList.{word_of}
 use Rattle.vlog_module.specs.declared.sort.Sort.TheVariants as sort
 use Rattle.vlog_module.specs.Uses.Use.{Starts}
 use Rattle.vlog_module.specs.WellFormed.{Scope, IsAllowed}
-use Rattle.net_extract.specs.declared.ram.RamCell.{RamCell}
-use Rattle.net_extract.specs.Fabric.{Fabric}
-use Rattle.net_extract.specs.Tiles.{each_below}
-use Rattle.net_extract.proofs.Within.{All-single}
+use Rattle.fabric_model.specs.declared.ram.RamCell.{RamCell}
+use Rattle.fabric_model.specs.Fabric.{Fabric}
+use Rattle.fabric_model.specs.Tiles.{each_below}
+use Rattle.fabric_model.proofs.Within.{All-single}
 use Rattle.fabric_module.specs.Names.{memory_name}
 use Rattle.fabric_module.specs.Written.{start_item, start_items}
 use Rattle.fabric_module.proofs.Lists.{Apart}

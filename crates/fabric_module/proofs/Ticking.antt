@@ -5,24 +5,24 @@ use Rattle.std.proofs.lemmas.List.{length-map, length-take-le}
 use Rattle.std.proofs.lemmas.Grind.{flat_map-append}
 use Rattle.std.proofs.lemmas.Bool.{cases_Bool, and_from}
 use Rattle.std.proofs.lemmas.List.Elements.{All-nil, All-cons, All-append}
-use Rattle.place_search.proofs.Gathered.{All-gathered_below}
-use Rattle.rams_narrow.specs.Narrow.{share}
-use Rattle.net_extract.specs.Rams.{data_bit}
-use Rattle.net_extract.proofs.OneValue.{each_below-length}
-use Rattle.net_extract.proofs.Within.{All-single}
+use Rattle.index_search.proofs.Gathered.{All-gathered_below}
+use Rattle.narrow_words.specs.Narrow.{share}
+use Rattle.fabric_model.specs.Rams.{data_bit}
+use Rattle.fabric_model.proofs.OneValue.{each_below-length}
+use Rattle.fabric_model.proofs.Within.{All-single}
 use Rattle.vlog_module.specs.declared.sort.Sort.{Sort}
 use Rattle.vlog_module.specs.declared.sort.Sort.TheVariants as sort
 use Rattle.vlog_module.specs.declared.atoms.Atom.{Atom}
 use Rattle.vlog_module.specs.declared.item.Item.{Item}
-use Rattle.vlog_module.specs.declared.item.Item.TheVariants.{SetAtOnce, Read, ReadNarrow, Write, WriteNarrow}
+use Rattle.vlog_module.specs.declared.item.Item.TheVariants.{AsyncReset, Read, ReadNarrow, Write, WriteNarrow}
 use Rattle.vlog_module.specs.Uses.{Use, atom_uses, atoms_uses, lut_uses, uses_of}
-use Rattle.vlog_module.specs.Uses.Use.{Reads, ReadsBit, Takes, Assigns, AssignsAtOnce}
+use Rattle.vlog_module.specs.Uses.Use.{Reads, ReadsBit, Takes, Assigns, AssignsAsync}
 use Rattle.vlog_module.specs.WellFormed.{section_of, declared_by, wire_readings, assigned_by, started_by, sort_in, is_sort, is_read_unless, Scope, IsAllowed}
-use Rattle.net_extract.specs.declared.register.Register.{Register}
-use Rattle.net_extract.specs.declared.ram.RamCell.{RamCell}
-use Rattle.net_extract.specs.Fabric.{Fabric}
-use Rattle.net_extract.specs.Drivers.{is_driven}
-use Rattle.net_extract.specs.Drivers.Rule.{table_entry}
+use Rattle.fabric_model.specs.declared.register.Register.{Register}
+use Rattle.fabric_model.specs.declared.ram.RamCell.{RamCell}
+use Rattle.fabric_model.specs.Fabric.{Fabric}
+use Rattle.fabric_model.specs.Drivers.{is_driven}
+use Rattle.fabric_model.specs.Drivers.Rule.{table_entry}
 use Rattle.fabric_module.specs.Names.{register_name, read_name, memory_name}
 use Rattle.fabric_module.specs.Rights.{input_atom, atom_or_0, atom_or_1, port_atoms, lut_of, pattern_of, shift_atom, shift_atoms, data_atoms}
 use Rattle.fabric_module.specs.Written.{flip_item, at_once_item, items_by, read_item, write_item}
@@ -51,7 +51,7 @@ way_of None None = None
 abbrev pub item_in : Fabric → Register → Way → Item
 item_in fabric register (waits clock) = flip_item fabric register clock
 item_in fabric register (acts wire clock) = at_once_item fabric register wire clock
-item_in fabric register (sets wire) = SetAtOnce wire register.«set» (register_name register)
+item_in fabric register (sets wire) = AsyncReset wire register.«set» (register_name register)
 
 -- an item that may be missing
 abbrev pub optional : {W : Type 0} → Option W → (W → Item) → List Item
@@ -98,9 +98,9 @@ module _ (fabric : Fabric) (scope : Scope) (knows : Knows fabric scope (is_drive
     assigns-fine : IsFine scope (Assigns sort.Register (register_name register))
     assigns-fine = record { named = there.named; in_range = tt; known = rw (there.declared) refl; first = unassigned scope.assigned (register_name register) away }
 
-    at_once-fine : (wire : List ℕ) → is_read_unless scope.read wire register.«set» (register_name register) ≡ true
-        → IsFine scope (AssignsAtOnce wire register.«set» (register_name register))
-    at_once-fine wire well = record {
+    is_async-fine : (wire : List ℕ) → is_read_unless scope.read wire register.«set» (register_name register) ≡ true
+        → IsFine scope (AssignsAsync wire register.«set» (register_name register))
+    is_async-fine wire well = record {
       named = there.named;
       in_range = tt;
       known = and_from (is_sort sort.Register (sort_in scope.declared (register_name register))) (is_read_unless scope.read wire register.«set» (register_name register))
@@ -118,27 +118,27 @@ module _ (fabric : Fabric) (scope : Scope) (knows : Knows fabric scope (is_drive
         (All-append (IsFine scope) enable reset (input-fine true register.cen) (input-fine false register.sr))
         (All-cons (IsFine scope) (Assigns sort.Register (register_name register)) (lut_uses (lut_of fabric register.table)) assigns-fine of_table)))
 
-    at_once-allowed : (wire clock : List ℕ) → IsWay scope register (acts wire clock) → IsAllowed scope (at_once_item fabric register wire clock)
-    at_once-allowed wire clock is =
+    is_async-allowed : (wire clock : List ℕ) → IsWay scope register (acts wire clock) → IsAllowed scope (at_once_item fabric register wire clock)
+    is_async-allowed wire clock is =
         let enable = atom_uses (atom_or_1 fabric register.cen) in
-        let assigns = AssignsAtOnce wire register.«set» (register_name register) in
+        let assigns = AssignsAsync wire register.«set» (register_name register) in
         let rest = enable ++ lut_uses (lut_of fabric register.table) in
         fine-allowed scope (at_once_item fabric register wire clock) (few, refl) low
         (All-cons (IsFine scope) (Takes sort.Input clock) (Takes sort.Wire wire ∷ assigns ∷ rest) (takes-fine clock is.0)
         (All-cons (IsFine scope) (Takes sort.Wire wire) (assigns ∷ rest) (takes-wire wire is.1)
-        (All-cons (IsFine scope) assigns rest (at_once-fine wire is.2)
+        (All-cons (IsFine scope) assigns rest (is_async-fine wire is.2)
         (All-append (IsFine scope) enable (lut_uses (lut_of fabric register.table)) (input-fine true register.cen) of_table))))
 
-    set-allowed : (wire : List ℕ) → IsWay scope register (sets wire) → IsAllowed scope (SetAtOnce wire register.«set» (register_name register))
+    set-allowed : (wire : List ℕ) → IsWay scope register (sets wire) → IsAllowed scope (AsyncReset wire register.«set» (register_name register))
     set-allowed wire is =
-        let assigns = AssignsAtOnce wire register.«set» (register_name register) in
-        fine-allowed scope (SetAtOnce wire register.«set» (register_name register)) tt low
-        (All-cons (IsFine scope) (Takes sort.Wire wire) (assigns ∷ []) (takes-wire wire is.0) (All-single (IsFine scope) assigns (at_once-fine wire is.1)))
+        let assigns = AssignsAsync wire register.«set» (register_name register) in
+        fine-allowed scope (AsyncReset wire register.«set» (register_name register)) tt low
+        (All-cons (IsFine scope) (Takes sort.Wire wire) (assigns ∷ []) (takes-wire wire is.0) (All-single (IsFine scope) assigns (is_async-fine wire is.1)))
 
     -- a register, in each way
     pub register-allowed : (way : Way) → IsWay scope register way → IsAllowed scope (item_in fabric register way)
     register-allowed (waits clock) is = flip-allowed clock is
-    register-allowed (acts wire clock) is = at_once-allowed wire clock is
+    register-allowed (acts wire clock) is = is_async-allowed wire clock is
     register-allowed (sets wire) is = set-allowed wire is
 
   -- ---- narrow words

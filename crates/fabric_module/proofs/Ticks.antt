@@ -6,25 +6,25 @@ use Rattle.shared_lemmas.proofs.Bytes.{bytes_eq-same}
 use Rattle.plane_map.specs.declared.device.DeviceName.{DeviceName}
 use Rattle.vlog_module.specs.Maps.{value_in}
 use Rattle.vlog_module.specs.declared.modules.Port.{Port}
-use Rattle.vlog_plan.specs.declared.event.Event.{Event as ModuleEvent}
-use Rattle.vlog_plan.specs.Named.{names_of}
-use Rattle.vlog_plan.specs.Numbered.{numbered as counted}
-use Rattle.vlog_plan.specs.Run.{input_names, pin_of, is_pin, is_edge, is_same_bit}
-use Rattle.net_extract.specs.declared.pin.Pin.{Pin}
-use Rattle.net_extract.specs.Fabric.{Fabric, inputs_of}
-use Rattle.net_extract.specs.Drivers.{Rule, is_driven}
-use Rattle.net_extract.specs.Drivers.Rule.{pin_bit, constant, input, table_entry, majority_of, register_bit, read_bit, copied}
-use Rattle.net_extract.specs.Values.{bit_in}
-use Rattle.net_extract.specs.Steps.{has_edge, Event, Entry, IsEntry, Follows}
-use Rattle.net_extract.specs.Clocks.{ClockEnd, LeadsTo, turn_by, clock_end}
-use Rattle.net_extract.specs.Clocks.ClockEnd.{at_pin, undriven, logic}
-use Rattle.net_extract.specs.Clocks.Turn.{ends}
-use Rattle.net_extract.specs.Clocks.LeadsTo.{ends_here, goes_on}
-use Rattle.net_extract.specs.Faults.{fabric_fault}
-use Rattle.net_extract.proofs.OneValue.{IsWithin, first-driver, first-is}
-use Rattle.net_extract.proofs.Chains.{turn-still, turn-first, clock_end-leads}
-use Rattle.net_extract.proofs.Taken.{taken-order}
-use Rattle.net_extract.proofs.Runs.{IsPlaced, IsClockEnd, IsClocked, end_bit, clock-bit, clock_bit-is}
+use Rattle.vlog_semantics.specs.declared.event.Event.{Event as ModuleEvent}
+use Rattle.vlog_semantics.specs.Named.{names_of}
+use Rattle.vlog_semantics.specs.Numbered.{numbered as counted}
+use Rattle.vlog_semantics.specs.Run.{input_names, pin_of, is_pin, is_edge, is_same_bit}
+use Rattle.fabric_model.specs.declared.pin.Pin.{Pin}
+use Rattle.fabric_model.specs.Fabric.{Fabric, inputs_of}
+use Rattle.fabric_model.specs.Drivers.{Rule, is_driven}
+use Rattle.fabric_model.specs.Drivers.Rule.{pin_bit, constant, input, table_entry, majority_of, register_bit, read_bit, copied}
+use Rattle.fabric_model.specs.Values.{bit_in}
+use Rattle.fabric_model.specs.Steps.{has_edge, Event, Entry, IsEntry, Follows}
+use Rattle.fabric_model.specs.Clocks.{ClockEnd, LeadsTo, turn_by, clock_end}
+use Rattle.fabric_model.specs.Clocks.ClockEnd.{at_pin, undriven, logic}
+use Rattle.fabric_model.specs.Clocks.Turn.{ends}
+use Rattle.fabric_model.specs.Clocks.LeadsTo.{ends_here, goes_on}
+use Rattle.fabric_model.specs.Faults.{fabric_fault}
+use Rattle.fabric_model.proofs.OneValue.{IsWithin, first-driver, first-is}
+use Rattle.fabric_model.proofs.Chains.{turn-still, turn-first, clock_end-leads}
+use Rattle.fabric_model.proofs.Taken.{taken-order}
+use Rattle.fabric_model.proofs.Runs.{IsPlaced, IsClockEnd, IsClocked, end_bit, clock-bit, clock_bit-is}
 use Rattle.fabric_module.specs.Names.{port_name}
 use Rattle.fabric_module.specs.Rights.{input_name}
 use Rattle.fabric_module.specs.Written.{end_name, clock_name, pin_ports}

@@ -13,18 +13,18 @@ use Rattle.vlog_module.specs.Names.{IsName}
 use Rattle.vlog_module.specs.Uses.{Use, used_name, atom_uses, atoms_uses, lut_uses, right_uses, uses_of}
 use Rattle.vlog_module.specs.Uses.Use.{Reads, ReadsBit, Takes, Chooses}
 use Rattle.vlog_module.specs.WellFormed.{section_of, Scope, is_known, is_first, IsInRange, IsShaped, IsAllowed}
-use Rattle.net_extract.specs.declared.register.Source.{Source}
-use Rattle.net_extract.specs.declared.register.Source.TheVariants.{Net, Pin as SourcePin}
-use Rattle.net_extract.specs.declared.register.Table.{Table}
-use Rattle.net_extract.specs.declared.register.Register.{Register}
-use Rattle.net_extract.specs.Joins.{class_of}
-use Rattle.net_extract.specs.Fabric.{Fabric, inputs_of}
-use Rattle.net_extract.specs.Drivers.{Rule, nets_read}
-use Rattle.net_extract.specs.Drivers.Rule.{pin_bit, constant, input, table_entry, majority_of, register_bit, read_bit, copied}
-use Rattle.net_extract.specs.Values.{is_connected}
+use Rattle.fabric_model.specs.declared.register.LutSource.{LutSource}
+use Rattle.fabric_model.specs.declared.register.LutSource.TheVariants.{Net, Pin as SourcePin}
+use Rattle.fabric_model.specs.declared.register.LutTable.{LutTable}
+use Rattle.fabric_model.specs.declared.register.Register.{Register}
+use Rattle.fabric_model.specs.Joins.{class_of}
+use Rattle.fabric_model.specs.Fabric.{Fabric, inputs_of}
+use Rattle.fabric_model.specs.Drivers.{Rule, nets_read}
+use Rattle.fabric_model.specs.Drivers.Rule.{pin_bit, constant, input, table_entry, majority_of, register_bit, read_bit, copied}
+use Rattle.fabric_model.specs.Values.{is_connected}
 use Rattle.graph_order.specs.Wiring.{has}
-use Rattle.net_extract.proofs.Within.{All-single}
-use Rattle.net_extract.proofs.Facts.{has-left, has-right, has-some, has-source}
+use Rattle.fabric_model.proofs.Within.{All-single}
+use Rattle.fabric_model.proofs.Facts.{has-left, has-right, has-some, has-source}
 use Rattle.fabric_module.specs.Names.{register_name, wire_name}
 use Rattle.fabric_module.specs.Rights.{input_atom, atom_or_0, port_atoms, input_name, read_at, source_atom, table_atom, lut_of, driven_wire, setting_wire, register_right, right_alone, right_of}
 use Rattle.fabric_module.proofs.Lists.{value_in-front, item-there}
@@ -102,7 +102,7 @@ module _ (fabric : Fabric) (wired : ℕ → Bool) where
       → (class : ℕ) × (wire ≡ wire_name class) × (wired class ≡ true)
   unfolding nets_read
   setting-class place register wire wires is =
-      elim (cases_Bool register.at_once) [
+      elim (cases_Bool register.is_async) [
         | inl acts ↦ driven-class register.sr wire (λ n found. wires n (rw acts (has-some register.sr n found))) (rw acts at is)
         | inr waits ↦ let never : None ≡ Some wire = rw waits at is in absurd cc
       ]
@@ -135,18 +135,18 @@ module _ (fabric : Fabric) (wired : ℕ → Bool) where
     alone-uses (Whole name) = refl
     alone-uses (Part name k) = refl
 
-    source-fine : (source : Source) → IsSourceThere fabric source → ((n : ℕ) → source ≡ Net (Some n) → is_connected fabric n ≡ true → wired (class_of fabric.joins n) ≡ true)
+    source-fine : (source : LutSource) → IsSourceThere fabric source → ((n : ℕ) → source ≡ Net (Some n) → is_connected fabric n ≡ true → wired (class_of fabric.joins n) ≡ true)
         → All P (atom_uses (source_atom fabric source))
     source-fine (Net net) there wires = atom-fine false net (λ n found. wires n (ap Net found))
     source-fine (SourcePin place) there wires = All-single P (Reads (input_name fabric place)) (allows.input place there)
 
-    table_atom-fine : (table : Table) (k : ℕ) → IsPlaceIn fabric (table_entry table) → ReadsWired (table_entry table) → All P (atom_uses (table_atom fabric table k))
+    table_atom-fine : (table : LutTable) (k : ℕ) → IsPlaceIn fabric (table_entry table) → ReadsWired (table_entry table) → All P (atom_uses (table_atom fabric table k))
     unfolding nets_read
     table_atom-fine table k there wires =
         source-fine (get_or table.ins k (Net None)) (source-there fabric table.ins k there) (λ n found. wires n (has-source table.ins k n found))
 
     -- a table
-    pub table-fine : (table : Table) → IsPlaceIn fabric (table_entry table) → ReadsWired (table_entry table) → All P (lut_uses (lut_of fabric table))
+    pub table-fine : (table : LutTable) → IsPlaceIn fabric (table_entry table) → ReadsWired (table_entry table) → All P (lut_uses (lut_of fabric table))
     table-fine table there wires =
         let uses = λ (k : ℕ). atom_uses (table_atom fabric table k) in
         All-append P (atoms_uses (table_atom fabric table 1 ∷ table_atom fabric table 2 ∷ table_atom fabric table 3 ∷ [])) (uses 0)

@@ -9,16 +9,16 @@ use Rattle.vlog_module.specs.declared.sort.Sort.TheVariants as sort
 use Rattle.vlog_module.specs.declared.item.Item.{Item}
 use Rattle.vlog_module.specs.Names.{IsName}
 use Rattle.vlog_module.specs.WellFormed.{wire_readings, Scope, scope_of, IsRight, IsComplete, IsModule}
-use Rattle.net_extract.specs.declared.ram.RamCell.{RamCell}
-use Rattle.net_extract.specs.Fabric.{Fabric, numbered}
-use Rattle.net_extract.specs.Outputs.{outputs_of}
-use Rattle.net_extract.proofs.Apart.{apart-numbered, All-every}
-use Rattle.net_extract.specs.Drivers.{is_driven}
+use Rattle.fabric_model.specs.declared.ram.RamCell.{RamCell}
+use Rattle.fabric_model.specs.Fabric.{Fabric, numbered}
+use Rattle.fabric_model.specs.Outputs.{outputs_of}
+use Rattle.fabric_model.proofs.Apart.{apart-numbered, All-every}
+use Rattle.fabric_model.specs.Drivers.{is_driven}
 use Rattle.graph_order.specs.Wiring.{has, IsWriteOrder}
-use Rattle.net_extract.specs.Wiring.{wiring_of}
+use Rattle.fabric_model.specs.Wiring.{wiring_of}
 use Rattle.graph_order.proofs.OneOrder.{order-continues}
-use Rattle.net_extract.proofs.OneValue.{IsWithin, driven-is, count-is, driven-below}
-use Rattle.net_extract.proofs.Within.{All-numbered}
+use Rattle.fabric_model.proofs.OneValue.{IsWithin, driven-is, count-is, driven-below}
+use Rattle.fabric_model.proofs.Within.{All-numbered}
 use Rattle.fabric_module.specs.Names.{output_name, memory_name, wire_name}
 use Rattle.fabric_module.specs.Rights.{class_right}
 use Rattle.fabric_module.specs.Written.{register_item, read_register, ram_memory, class_wire, output_assign, register_items, read_items, write_items, start_items, items_of, module_of}

@@ -16,16 +16,16 @@ use Rattle.vlog_module.specs.declared.item.Right.TheVariants.{Bit as RightBit, W
 use Rattle.vlog_module.specs.Uses.{Use, atom_uses, atoms_uses, right_uses}
 use Rattle.vlog_module.specs.Uses.Use.{Declares, Reads, ReadsBit, Takes, Chooses}
 use Rattle.vlog_module.specs.WellFormed.{declared_by, assigned_by, started_by, Scope, IsRight, IsAllowed}
-use Rattle.vlog_plan.specs.Named.{names_of}
-use Rattle.net_extract.specs.Fabric.{Fabric}
-use Rattle.net_extract.specs.Joins.{class_of}
-use Rattle.net_extract.specs.Drivers.{is_driven}
+use Rattle.vlog_semantics.specs.Named.{names_of}
+use Rattle.fabric_model.specs.Fabric.{Fabric}
+use Rattle.fabric_model.specs.Joins.{class_of}
+use Rattle.fabric_model.specs.Drivers.{is_driven}
 use Rattle.graph_order.specs.Wiring.{has, IsReady}
-use Rattle.net_extract.specs.Wiring.{wiring_of}
+use Rattle.fabric_model.specs.Wiring.{wiring_of}
 use Rattle.graph_order.proofs.OneOrder.{has-first, has-cases, has-other, Continues}
 use Rattle.graph_order.proofs.OneOrder.Continues.{whole, next}
-use Rattle.net_extract.proofs.OneValue.{IsWithin, first-driver, first-is, first-reads, driven-is, driven-below}
-use Rattle.net_extract.proofs.Within.{All-single}
+use Rattle.fabric_model.proofs.OneValue.{IsWithin, first-driver, first-is, first-reads, driven-is, driven-below}
+use Rattle.fabric_model.proofs.Within.{All-single}
 use Rattle.fabric_module.specs.Names.{wire_name}
 use Rattle.fabric_module.specs.Rights.{right_by, class_right}
 use Rattle.fabric_module.specs.Written.{class_wire}

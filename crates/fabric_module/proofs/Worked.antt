@@ -2,28 +2,28 @@
 use Rattle.std.proofs.Common.{◌≡◌, [], ◌∷◌, ◌++◌, refl, true, false}
 use Rattle.std.specs.Prelude.{codes, Some, None, replicate}
 use Rattle.std.specs.Fmt.{digits}
-use Rattle.place_search.specs.Places.{any_below, least_below, gathered_below}
+use Rattle.index_search.specs.Places.{any_below, least_below, gathered_below}
 use Rattle.bit_plane.specs.BitList.{word_bits, word_of}
 use Rattle.vlog_module.specs.declared.atoms.Atom.TheVariants.{Bit, Whole}
-use Rattle.vlog_module.specs.declared.item.Item.TheVariants.{Register as RegisterItem, Wire, Assign, Flip, FlipAtOnce, SetAtOnce, Read, ReadNarrow, Write, WriteNarrow}
+use Rattle.vlog_module.specs.declared.item.Item.TheVariants.{Register as RegisterItem, Wire, Assign, FlipFlop, AsyncFlipFlop, AsyncReset, Read, ReadNarrow, Write, WriteNarrow}
 use Rattle.vlog_module.specs.declared.item.Right.TheVariants.{Whole as RightWhole, Lut as RightLut, Choose}
-use Rattle.net_extract.specs.declared.cell.Lc.{Lc}
-use Rattle.net_extract.specs.declared.lut_inputs.LutInputs.TheVariants as read
-use Rattle.net_extract.specs.declared.ram.RamCell.{RamCell}
-use Rattle.net_extract.specs.declared.pin.Pin.{Pin}
-use Rattle.net_extract.specs.declared.pin.PinKind.TheVariants.{Plain, Registered, TriState}
-use Rattle.net_extract.specs.declared.driver.ClockUser.TheVariants.{Input as InputUser, Output as OutputUser}
-use Rattle.net_extract.specs.declared.register.Source.{Source}
-use Rattle.net_extract.specs.declared.register.Source.TheVariants.{Net, Pin as SourcePin}
-use Rattle.net_extract.specs.declared.register.Table.{Table}
-use Rattle.net_extract.specs.declared.register.Register.{Register}
-use Rattle.net_extract.specs.Outputs.{outputs_of}
-use Rattle.net_extract.specs.Luts.{uses_input}
-use Rattle.net_extract.specs.Registers.{register_of}
-use Rattle.net_extract.specs.Fabric.{Fabric, numbered_from}
-use Rattle.net_extract.specs.Joins.{is_joined, class_of}
-use Rattle.net_extract.specs.Drivers.{drives_of, drivers_of, is_driven}
-use Rattle.net_extract.specs.Clocks.{turn_at, end_within, clock_end}
+use Rattle.fabric_model.specs.declared.cell.LogicCell.{LogicCell}
+use Rattle.fabric_model.specs.declared.lut_inputs.LutInputs.TheVariants as read
+use Rattle.fabric_model.specs.declared.ram.RamCell.{RamCell}
+use Rattle.fabric_model.specs.declared.pin.Pin.{Pin}
+use Rattle.fabric_model.specs.declared.pin.PinKind.TheVariants.{Plain, Registered, TriState}
+use Rattle.fabric_model.specs.declared.driver.ClockUser.TheVariants.{Input as InputUser, Output as OutputUser}
+use Rattle.fabric_model.specs.declared.register.LutSource.{LutSource}
+use Rattle.fabric_model.specs.declared.register.LutSource.TheVariants.{Net, Pin as SourcePin}
+use Rattle.fabric_model.specs.declared.register.LutTable.{LutTable}
+use Rattle.fabric_model.specs.declared.register.Register.{Register}
+use Rattle.fabric_model.specs.Outputs.{outputs_of}
+use Rattle.fabric_model.specs.Luts.{uses_input}
+use Rattle.fabric_model.specs.Registers.{register_of}
+use Rattle.fabric_model.specs.Fabric.{Fabric, numbered_from}
+use Rattle.fabric_model.specs.Joins.{is_joined, class_of}
+use Rattle.fabric_model.specs.Drivers.{drives_of, drivers_of, is_driven}
+use Rattle.fabric_model.specs.Clocks.{turn_at, end_within, clock_end}
 use Rattle.fabric_module.specs.Names.{two_numbers, three_numbers, port_name, enable_name, register_name, read_name, memory_name, wire_name}
 use Rattle.fabric_module.specs.Rights.{input_atom, right_of, class_right}
 use Rattle.fabric_module.specs.Written.{clock_name, register_items, write_items, read_items, items_of, module_of}
@@ -36,7 +36,7 @@ input_pin = record { x = 0; y = 1; n = 0; kind = Plain; output = false; back = f
 abbrev output_pin : Pin
 output_pin = record { x = 0; y = 2; n = 0; kind = Plain; output = true; back = false; din = None; dout = Some 3; enable = None }
 
-abbrev inverter : Lc
+abbrev inverter : LogicCell
 inverter = record {
   x = 1;
   y = 1;
@@ -45,7 +45,7 @@ inverter = record {
   carry = false;
   flip = false;
   «set» = false;
-  at_once = false;
+  is_async = false;
   neg = false;
   ins = Some 1 ∷ None ∷ None ∷ None ∷ [];
   out = Some 2;
@@ -88,7 +88,7 @@ inverting_module = refl
 
 -- ---- the same LUT with its own value at in_2, which it doesn't use
 
-abbrev feeding : Lc
+abbrev feeding : LogicCell
 feeding = record inverter { ins = Some 1 ∷ None ∷ Some 2 ∷ None ∷ [] }
 
 all_written : class_right (record inverting { lcs = feeding ∷ [] }) 2
@@ -107,21 +107,21 @@ used_module = refl
 
 -- ---- a toggle at falling edges
 
-abbrev toggle : Lc
+abbrev toggle : LogicCell
 toggle = record inverter { flip = true; neg = true; ins = Some 2 ∷ None ∷ None ∷ None ∷ []; clk = Some 1 }
 
 abbrev toggling : Fabric
 toggling = record inverting { lcs = toggle ∷ []; registers = register_of read.All toggle ∷ [] }
 
 toggle_items : register_items toggling (register_of read.All toggle) ≡
-    Flip true (codes "io_0_1_0") (Bit true) (Bit false) false (codes "ff_1_1_0")
+    FlipFlop true (codes "io_0_1_0") (Bit true) (Bit false) false (codes "ff_1_1_0")
     (record { word = 21845; ins = Whole (codes "n_2") ∷ Bit false ∷ Bit false ∷ Bit false ∷ [] }) ∷ []
 unfolding outputs_of digits any_below least_below gathered_below word_of register_of numbered_from is_joined class_of drives_of drivers_of is_driven turn_at end_within clock_end two_numbers three_numbers port_name register_name read_name memory_name wire_name input_atom right_of class_right clock_name items_of module_of
 toggle_items = refl
 
 -- what its LUT doesn't use is 0 too
 used_items : register_items toggling (register_of read.Used (record toggle { ins = Some 2 ∷ Some 0 ∷ Some 1 ∷ Some 3 ∷ [] })) ≡
-    Flip true (codes "io_0_1_0") (Bit true) (Bit false) false (codes "ff_1_1_0")
+    FlipFlop true (codes "io_0_1_0") (Bit true) (Bit false) false (codes "ff_1_1_0")
     (record { word = 21845; ins = Whole (codes "n_2") ∷ Bit false ∷ Bit false ∷ Bit false ∷ [] }) ∷ []
 unfolding uses_input word_bits outputs_of digits any_below least_below gathered_below word_of register_of numbered_from is_joined class_of drives_of drivers_of is_driven turn_at end_within clock_end two_numbers three_numbers port_name register_name read_name memory_name wire_name input_atom right_of class_right clock_name items_of module_of
 used_items = refl
@@ -133,14 +133,14 @@ still_items = refl
 
 -- ---- a toggle whose reset acts at once
 
-abbrev setting : Lc
-setting = record toggle { «set» = true; at_once = true; sr = Some 0 }
+abbrev setting : LogicCell
+setting = record toggle { «set» = true; is_async = true; sr = Some 0 }
 
 abbrev resetting : Fabric
 resetting = record inverting { lcs = setting ∷ []; registers = register_of read.All setting ∷ [] }
 
 setting_items : register_items resetting (register_of read.All setting) ≡
-    FlipAtOnce true (codes "io_0_1_0") (codes "n_0") true (codes "ff_1_1_0") (Bit true)
+    AsyncFlipFlop true (codes "io_0_1_0") (codes "n_0") true (codes "ff_1_1_0") (Bit true)
     (record { word = 21845; ins = Whole (codes "n_2") ∷ Bit false ∷ Bit false ∷ Bit false ∷ [] }) ∷ []
 unfolding outputs_of digits any_below least_below gathered_below word_of register_of numbered_from is_joined class_of drives_of drivers_of is_driven turn_at end_within clock_end two_numbers three_numbers port_name register_name read_name memory_name wire_name input_atom right_of class_right clock_name items_of module_of
 setting_items = refl
@@ -150,13 +150,13 @@ unfolding outputs_of digits any_below least_below gathered_below word_of registe
 setting_wires = refl
 
 -- without a clock it is set alone
-clockless_items : register_items resetting (register_of read.All (record setting { clk = None })) ≡ SetAtOnce (codes "n_0") true (codes "ff_1_1_0") ∷ []
+clockless_items : register_items resetting (register_of read.All (record setting { clk = None })) ≡ AsyncReset (codes "n_0") true (codes "ff_1_1_0") ∷ []
 unfolding outputs_of digits any_below least_below gathered_below word_of register_of numbered_from is_joined class_of drives_of drivers_of is_driven turn_at end_within clock_end two_numbers three_numbers port_name register_name read_name memory_name wire_name input_atom right_of class_right clock_name items_of module_of
 clockless_items = refl
 
 -- a reset without a driver never acts
 undriven_items : register_items resetting (register_of read.All (record setting { sr = Some 9 })) ≡
-    Flip true (codes "io_0_1_0") (Bit true) (Bit false) true (codes "ff_1_1_0")
+    FlipFlop true (codes "io_0_1_0") (Bit true) (Bit false) true (codes "ff_1_1_0")
     (record { word = 21845; ins = Whole (codes "n_2") ∷ Bit false ∷ Bit false ∷ Bit false ∷ [] }) ∷ []
 unfolding outputs_of digits any_below least_below gathered_below word_of register_of numbered_from is_joined class_of drives_of drivers_of is_driven turn_at end_within clock_end two_numbers three_numbers port_name register_name read_name memory_name wire_name input_atom right_of class_right clock_name items_of module_of
 undriven_items = refl
@@ -220,7 +220,7 @@ narrow_read = refl
 
 -- ---- a registered output pin, a registered input pin and an output that can be switched off
 
-abbrev pin_table : Source → Table
+abbrev pin_table : LutSource → LutTable
 pin_table source = record { word = 43690; ins = source ∷ Net None ∷ Net None ∷ Net None ∷ [] }
 
 abbrev output_register : Register
@@ -234,7 +234,7 @@ output_register = record {
   cen = None;
   sr = None;
   «set» = false;
-  at_once = false;
+  is_async = false;
   table = pin_table (Net (Some 3));
 }
 
@@ -263,8 +263,8 @@ registering_module : module_of registering (0 ∷ 1 ∷ 2 ∷ 3 ∷ 4 ∷ []) (c
       ∷ Assign (codes "io_0_2_0") (Whole (codes "po_0_2_0"))
       ∷ Assign (codes "io_0_4_0") (Whole (codes "n_3"))
       ∷ Assign (codes "io_0_4_0_en") (Whole (codes "n_2"))
-      ∷ Flip false (codes "io_0_1_0") (Bit true) (Bit false) false (codes "po_0_2_0") (record { word = 43690; ins = Whole (codes "n_3") ∷ Bit false ∷ Bit false ∷ Bit false ∷ [] })
-      ∷ Flip true (codes "io_0_1_0") (Bit true) (Bit false) false (codes "pi_0_3_0") (record { word = 43690; ins = Whole (codes "io_0_3_0") ∷ Bit false ∷ Bit false ∷ Bit false ∷ [] })
+      ∷ FlipFlop false (codes "io_0_1_0") (Bit true) (Bit false) false (codes "po_0_2_0") (record { word = 43690; ins = Whole (codes "n_3") ∷ Bit false ∷ Bit false ∷ Bit false ∷ [] })
+      ∷ FlipFlop true (codes "io_0_1_0") (Bit true) (Bit false) false (codes "pi_0_3_0") (record { word = 43690; ins = Whole (codes "io_0_3_0") ∷ Bit false ∷ Bit false ∷ Bit false ∷ [] })
       ∷ [];
 }
 unfolding outputs_of digits any_below least_below gathered_below word_of register_of numbered_from is_joined class_of drives_of drivers_of is_driven turn_at end_within clock_end two_numbers three_numbers port_name enable_name register_name read_name memory_name wire_name input_atom right_of class_right clock_name items_of module_of

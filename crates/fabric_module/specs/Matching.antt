@@ -2,15 +2,15 @@
 use Rattle.std.specs.Prelude.{◌≡◌, ℕ, Bool, true, List, map, Some, Contains}
 use Rattle.bit_plane.specs.BitList.{word_of}
 use Rattle.vlog_module.specs.Maps.{value_in}
-use Rattle.vlog_plan.specs.Named.{names_of, values_of}
-use Rattle.vlog_plan.specs.declared.event.Event.{Event as ModuleEvent}
-use Rattle.vlog_plan.specs.Entries.{Entry as ModuleEntry}
-use Rattle.net_extract.specs.declared.pin.Pin.{Pin}
-use Rattle.net_extract.specs.Fabric.{Fabric, inputs_of}
-use Rattle.net_extract.specs.Outputs.{Output, outputs_of}
-use Rattle.net_extract.specs.Drivers.{is_driven}
-use Rattle.net_extract.specs.Values.{bit_in}
-use Rattle.net_extract.specs.Steps.{Event, Entry}
+use Rattle.vlog_semantics.specs.Named.{names_of, values_of}
+use Rattle.vlog_semantics.specs.declared.event.Event.{Event as ModuleEvent}
+use Rattle.vlog_semantics.specs.Entries.{Entry as ModuleEntry}
+use Rattle.fabric_model.specs.declared.pin.Pin.{Pin}
+use Rattle.fabric_model.specs.Fabric.{Fabric, inputs_of}
+use Rattle.fabric_model.specs.Outputs.{Output, outputs_of}
+use Rattle.fabric_model.specs.Drivers.{is_driven}
+use Rattle.fabric_model.specs.Values.{bit_in}
+use Rattle.fabric_model.specs.Steps.{Event, Entry}
 use Rattle.fabric_module.specs.Names.{port_name, output_name, register_name, read_name, memory_name, wire_name}
 
 -- exactly these names have values, in this order, and the values are these

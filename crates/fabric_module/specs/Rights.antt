@@ -1,22 +1,22 @@
 -- What is written for inputs, and the right-hand sides that are written for drivers.
 use Rattle.std.specs.Prelude.{ℕ, ◌+◌, ◌/◌, nat_lt, Bool, true, false, List, [], ◌∷◌, map, get_or, Option, Some, None, if◌then◌else◌}
-use Rattle.rams_narrow.specs.Narrow.{share}
+use Rattle.narrow_words.specs.Narrow.{share}
 use Rattle.vlog_module.specs.declared.atoms.Atom.{Atom}
 use Rattle.vlog_module.specs.declared.atoms.Atom.TheVariants.{Bit, Whole, Part}
 use Rattle.vlog_module.specs.declared.item.Lut.{Lut}
 use Rattle.vlog_module.specs.declared.item.Right.{Right}
 use Rattle.vlog_module.specs.declared.item.Right.TheVariants.{Bit as RightBit, Whole as RightWhole, Part as RightPart, Lut as RightLut, Majority, Choose}
-use Rattle.net_extract.specs.declared.register.Source.{Source}
-use Rattle.net_extract.specs.declared.register.Source.TheVariants.{Net, Pin as SourcePin}
-use Rattle.net_extract.specs.declared.register.Table.{Table}
-use Rattle.net_extract.specs.declared.register.Register.{Register}
-use Rattle.net_extract.specs.Tiles.{each_below}
-use Rattle.net_extract.specs.Rams.{data_bit}
-use Rattle.net_extract.specs.Joins.{class_of}
-use Rattle.net_extract.specs.Fabric.{Fabric, inputs_of}
-use Rattle.net_extract.specs.Drivers.{Rule, Drive, drivers_of}
-use Rattle.net_extract.specs.Drivers.Rule.{pin_bit, constant, input, table_entry, majority_of, register_bit, read_bit, copied}
-use Rattle.net_extract.specs.Values.{is_connected}
+use Rattle.fabric_model.specs.declared.register.LutSource.{LutSource}
+use Rattle.fabric_model.specs.declared.register.LutSource.TheVariants.{Net, Pin as SourcePin}
+use Rattle.fabric_model.specs.declared.register.LutTable.{LutTable}
+use Rattle.fabric_model.specs.declared.register.Register.{Register}
+use Rattle.fabric_model.specs.Tiles.{each_below}
+use Rattle.fabric_model.specs.Rams.{data_bit}
+use Rattle.fabric_model.specs.Joins.{class_of}
+use Rattle.fabric_model.specs.Fabric.{Fabric, inputs_of}
+use Rattle.fabric_model.specs.Drivers.{Rule, Drive, drivers_of}
+use Rattle.fabric_model.specs.Drivers.Rule.{pin_bit, constant, input, table_entry, majority_of, register_bit, read_bit, copied}
+use Rattle.fabric_model.specs.Values.{is_connected}
 use Rattle.fabric_module.specs.Names.{port_name, register_name, read_name, wire_name}
 
 -- ---- atoms
@@ -51,16 +51,16 @@ read_at fabric place = get_or (map read_name fabric.rams) place []
 -- ---- tables
 
 -- what an input of a table reads: a net, or an input pin
-abbrev pub source_atom : Fabric → Source → Atom
+abbrev pub source_atom : Fabric → LutSource → Atom
 source_atom fabric (Net net) = atom_or_0 fabric net
 source_atom fabric (SourcePin place) = Whole (input_name fabric place)
 
 -- input k of a table
-abbrev pub table_atom : Fabric → Table → ℕ → Atom
+abbrev pub table_atom : Fabric → LutTable → ℕ → Atom
 table_atom fabric table k = source_atom fabric (get_or table.ins k (Net None))
 
 -- a table with its four inputs, in_0 first
-abbrev pub lut_of : Fabric → Table → Lut
+abbrev pub lut_of : Fabric → LutTable → Lut
 lut_of fabric table = record {
   word = table.word;
   ins = table_atom fabric table 0 ∷ table_atom fabric table 1 ∷ table_atom fabric table 2 ∷ table_atom fabric table 3 ∷ [];
@@ -75,7 +75,7 @@ driven_wire fabric (Some net) = if is_connected fabric net then Some (wire_name 
 
 -- the wire of a register's asynchronous set or reset; none if that is synchronous or unconnected
 abbrev pub setting_wire : Fabric → Register → Option (List ℕ)
-setting_wire fabric register = if register.at_once then driven_wire fabric register.sr else None
+setting_wire fabric register = if register.is_async then driven_wire fabric register.sr else None
 
 -- the value of a register: while a wire sets or resets it asynchronously, it is the set bit, else what the register holds
 abbrev pub register_right : Register → Option (List ℕ) → Right

@@ -3,17 +3,17 @@ use Rattle.std.specs.Prelude.{ℕ, Bool, true, false, ◌==◌, List, [], ◌∷
 use Rattle.bit_plane.specs.BitList.{word_of}
 use Rattle.vlog_module.specs.Parts.{Parts}
 use Rattle.vlog_module.specs.declared.item.Item.{Item}
-use Rattle.vlog_module.specs.declared.item.Item.TheVariants.{Register as RegisterItem, Word, Memory, Wire, Assign, Flip, FlipAtOnce, SetAtOnce, Read, ReadNarrow, Write, WriteNarrow, Start}
+use Rattle.vlog_module.specs.declared.item.Item.TheVariants.{Register as RegisterItem, Word, Memory, Wire, Assign, FlipFlop, AsyncFlipFlop, AsyncReset, Read, ReadNarrow, Write, WriteNarrow, Start}
 use Rattle.vlog_module.specs.declared.modules.Port.{Port}
-use Rattle.net_extract.specs.declared.register.Register.{Register}
-use Rattle.net_extract.specs.declared.ram.RamCell.{RamCell}
-use Rattle.net_extract.specs.declared.pin.Pin.{Pin}
-use Rattle.net_extract.specs.Tiles.{each_below}
-use Rattle.net_extract.specs.Pins.{is_tri_state}
-use Rattle.net_extract.specs.Fabric.{Fabric, numbered}
-use Rattle.net_extract.specs.Outputs.{Output, outputs_of}
-use Rattle.net_extract.specs.Clocks.{ClockEnd, clock_end}
-use Rattle.net_extract.specs.Clocks.ClockEnd.{at_pin, undriven, logic}
+use Rattle.fabric_model.specs.declared.register.Register.{Register}
+use Rattle.fabric_model.specs.declared.ram.RamCell.{RamCell}
+use Rattle.fabric_model.specs.declared.pin.Pin.{Pin}
+use Rattle.fabric_model.specs.Tiles.{each_below}
+use Rattle.fabric_model.specs.Pins.{is_tri_state}
+use Rattle.fabric_model.specs.Fabric.{Fabric, numbered}
+use Rattle.fabric_model.specs.Outputs.{Output, outputs_of}
+use Rattle.fabric_model.specs.Clocks.{ClockEnd, clock_end}
+use Rattle.fabric_model.specs.Clocks.ClockEnd.{at_pin, undriven, logic}
 use Rattle.fabric_module.specs.Names.{port_name, enable_name, output_name, register_name, read_name, memory_name, wire_name}
 use Rattle.fabric_module.specs.Rights.{atom_or_0, atom_or_1, port_atoms, lut_of, input_name, setting_wire, pattern_of, shift_atoms, data_atoms, output_atom, class_right}
 
@@ -70,18 +70,18 @@ output_assign fabric output = Assign (output_name output) (output_atom fabric ou
 -- a register with a synchronous set or reset: its clock enable, its set or reset, and its LUT
 abbrev pub flip_item : Fabric → Register → List ℕ → Item
 flip_item fabric register clock =
-    Flip register.neg clock (atom_or_1 fabric register.cen) (atom_or_0 fabric register.sr) register.«set» (register_name register)
+    FlipFlop register.neg clock (atom_or_1 fabric register.cen) (atom_or_0 fabric register.sr) register.«set» (register_name register)
     (lut_of fabric register.table)
 
 -- a register with an asynchronous set or reset, and a clock
 abbrev pub at_once_item : Fabric → Register → List ℕ → List ℕ → Item
 at_once_item fabric register wire clock =
-    FlipAtOnce register.neg clock wire register.«set» (register_name register) (atom_or_1 fabric register.cen) (lut_of fabric register.table)
+    AsyncFlipFlop register.neg clock wire register.«set» (register_name register) (atom_or_1 fabric register.cen) (lut_of fabric register.table)
 
 -- what a register is written as, by the wire of its asynchronous set or reset and by its clock, each of which may be missing
 abbrev pub items_by : Fabric → Register → Option (List ℕ) → Option (List ℕ) → List Item
 items_by fabric register (Some wire) (Some clock) = at_once_item fabric register wire clock ∷ []
-items_by fabric register (Some wire) None = SetAtOnce wire register.«set» (register_name register) ∷ []
+items_by fabric register (Some wire) None = AsyncReset wire register.«set» (register_name register) ∷ []
 items_by fabric register None (Some clock) = flip_item fabric register clock ∷ []
 items_by fabric register None None = []
 

@@ -3,7 +3,7 @@ ghost use Rattle.std.specs.Prelude.{◌≡◌, ◌≤◌, ◌+◌, ◌++◌, len
 ghost use Rattle.fabric_module.specs.Names.{two_numbers, three_numbers, port_name, enable_name, user_prefix, user_number, register_name, read_name, memory_name, wire_name};
 
 use crate::text::Text;
-use net_extract::{ClockUser, Pin, RamCell, Register};
+use fabric_model::{ClockUser, Pin, RamCell, Register};
 use std::alloc::{AllocError, Global};
 use vlog_module::Name;
 

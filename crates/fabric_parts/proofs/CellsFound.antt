@@ -1,8 +1,8 @@
 -- Nets that are set.
 use Rattle.std.proofs.Common.{◌≡◌, ℕ, Bool, true, false, [], ◌∷◌, refl, ap}
 use Rattle.std.specs.Prelude.{Option, Some, None, if◌then◌else◌}
-use Rattle.net_extract.specs.Cells.{set_with}
-use Rattle.net_extract.specs.declared.cell.CarrySet.{CarrySet}
+use Rattle.fabric_model.specs.Cells.{set_with}
+use Rattle.fabric_model.specs.declared.cell.CarrySet.{CarrySet}
 
 pub set-missing : (x y : ℕ) (on : Bool) (net : Option ℕ) → None ≡ net → [] ≡ (if on then set_with x y net else [])
 set-missing x y true None is = refl

@@ -3,20 +3,20 @@ use Rattle.std.proofs.Common.{◌≡◌, ℕ, List, ap, sym, ◌∙◌}
 use Rattle.std.specs.Prelude.{All, Option, Some}
 use Rattle.std.specs.List.{flat_map}
 use Rattle.std.proofs.lemmas.List.Elements.{All-weaker}
-use Rattle.place_search.proofs.Gathered.{All-gathered_below}
-use Rattle.place_search.specs.Places.{gathered_below, or_else}
+use Rattle.index_search.proofs.Gathered.{All-gathered_below}
+use Rattle.index_search.specs.Places.{gathered_below, or_else}
 use Rattle.plane_map.specs.declared.tile.TileKind.TheVariants.{Io}
 use Rattle.ice_image.specs.Configuration.{Configuration}
 use Rattle.ice_image.specs.declared.any.AnyImage.{AnyImage}
 use Rattle.chipdb_reader.specs.Database.{Database}
 use Rattle.chipdb_reader.specs.declared.items.TileXy8.{TileXy8}
-use Rattle.net_extract.specs.declared.pin.Pin.{Pin}
-use Rattle.net_extract.specs.Pins.{is_input_read, is_port, pin_with, pins_of, pintype_of, port_at}
-use Rattle.net_extract.specs.Faults.{Fault, pins_fault, pll_faults, pin_faults}
-use Rattle.net_extract.specs.Tiles.{first_of}
-use Rattle.net_extract.specs.TilesOfKind.{HasTile, tiles_of}
-use Rattle.net_extract.proofs.InOrder.{over_tiles-listed}
-use Rattle.net_extract.proofs.Within.{All-flat_map, All-item_if}
+use Rattle.fabric_model.specs.declared.pin.Pin.{Pin}
+use Rattle.fabric_model.specs.Pins.{is_input_read, is_port, pin_with, pins_of, pintype_of, port_at}
+use Rattle.fabric_model.specs.Faults.{Fault, pins_fault, pll_faults, pin_faults}
+use Rattle.fabric_model.specs.Tiles.{first_of}
+use Rattle.fabric_model.specs.TilesOfKind.{HasTile, tiles_of}
+use Rattle.fabric_model.proofs.InOrder.{over_tiles-listed}
+use Rattle.fabric_model.proofs.Within.{All-flat_map, All-item_if}
 use Rattle.fabric_parts.specs.PinFaults.{pll_at, pin_faults_in}
 
 pub pins_listed : (db : Database) (image : Configuration) (tiles : List TileXy8) → tiles ≡ tiles_of image.layout.device Io

@@ -3,20 +3,20 @@ use Rattle.std.proofs.Common.{◌≡◌, ℕ, ◌+◌, ◌<◌, Bool, List, [], 
 use Rattle.std.specs.Prelude.{Option, Some, None, filter, if◌then◌else◌, IfSome}
 use Rattle.std.specs.List.{flat_map}
 use Rattle.std.proofs.lemmas.Bool.{cases_Bool}
-use Rattle.place_search.specs.Places.{or_else}
+use Rattle.index_search.specs.Places.{or_else}
 use Rattle.plane_map.specs.declared.tile.TileKind.TheVariants.{RamB}
 use Rattle.ice_image.specs.Configuration.{Configuration}
 use Rattle.chipdb_reader.specs.Database.{Database}
 use Rattle.chipdb_reader.specs.Fit.{IsFit}
 use Rattle.chipdb_reader.specs.declared.items.TileXy8.{TileXy8}
-use Rattle.net_extract.specs.declared.ram.RamCell.{RamCell}
-use Rattle.net_extract.specs.Nets.{net_named}
-use Rattle.net_extract.specs.Rams.{is_ram_used, over_rams, port_net, ram_at, rams_of}
-use Rattle.net_extract.specs.Faults.{Fault, rams_fault, cascade_faults}
-use Rattle.net_extract.specs.Tiles.{first_of}
-use Rattle.net_extract.specs.TilesOfKind.{tiles_of}
-use Rattle.net_extract.proofs.InOrder.{over_tiles-listed}
-use Rattle.net_extract.proofs.Nets.{net_named-inside}
+use Rattle.fabric_model.specs.declared.ram.RamCell.{RamCell}
+use Rattle.fabric_model.specs.Nets.{net_named}
+use Rattle.fabric_model.specs.Rams.{is_ram_used, over_rams, port_net, ram_at, rams_of}
+use Rattle.fabric_model.specs.Faults.{Fault, rams_fault, cascade_faults}
+use Rattle.fabric_model.specs.Tiles.{first_of}
+use Rattle.fabric_model.specs.TilesOfKind.{tiles_of}
+use Rattle.fabric_model.proofs.InOrder.{over_tiles-listed}
+use Rattle.fabric_model.proofs.Nets.{net_named-inside}
 use Rattle.fabric_parts.specs.RamFaults.{cascade_at}
 
 -- what items that pass give

@@ -5,10 +5,10 @@ use Rattle.std.specs.List.{flat_map}
 use Rattle.std.proofs.lemmas.Bool.{cases_Bool}
 use Rattle.ice_image.specs.Configuration.{Configuration}
 use Rattle.chipdb_reader.specs.Database.{Database}
-use Rattle.net_extract.specs.declared.pin.Pin.{Pin}
-use Rattle.net_extract.specs.Tiles.{item_if}
-use Rattle.net_extract.specs.Pins.{is_registered}
-use Rattle.net_extract.specs.Registers.{pin_register, pin_registers_of}
+use Rattle.fabric_model.specs.declared.pin.Pin.{Pin}
+use Rattle.fabric_model.specs.Tiles.{item_if}
+use Rattle.fabric_model.specs.Pins.{is_registered}
+use Rattle.fabric_model.specs.Registers.{pin_register, pin_registers_of}
 
 -- what is made of items that pass
 made-listed : {A B : Type 0} (passes : A → Bool) (made : A → B) (items : List A)

@@ -1,9 +1,9 @@
 -- What gives a global its value, and pins at pads.
 use Rattle.std.proofs.Common.{◌≡◌, ℕ, ◌+◌, Bool, true, false, ◌||◌, List, [], ◌∷◌, ◌++◌, map, refl, sym, ap, ◌∙◌, append-nil, append_assoc}
 use Rattle.std.proofs.lemmas.List.{map-append}
-use Rattle.place_search.specs.Places.{gathered_below}
-use Rattle.place_search.proofs.Places.{gathered_below-more}
-use Rattle.net_extract.specs.Tiles.{item_if}
+use Rattle.index_search.specs.Places.{gathered_below}
+use Rattle.index_search.proofs.Places.{gathered_below-more}
+use Rattle.fabric_model.specs.Tiles.{item_if}
 
 -- six tests in a row, of which the first two and the last are made before the others
 pub six_tests : (a b c d e f : Bool) → ((a || (b || f)) || (c || (d || e))) ≡ (a || (b || (c || (d || (e || f)))))

@@ -7,7 +7,7 @@ use Rattle.plane_map.proofs.Words.{upper-tile}
 use Rattle.ice_image.specs.declared.any.AnyImage.{AnyImage}
 use Rattle.ice_image.specs.Either.{device_of}
 use Rattle.chipdb_reader.specs.declared.items.TileXy8.{TileXy8}
-use Rattle.net_extract.specs.TilesOfKind.{HasTile}
+use Rattle.fabric_model.specs.TilesOfKind.{HasTile}
 use Rattle.fabric_parts.specs.Rams.{HasRam}
 
 -- a lower tile of an image is that of a RAM

@@ -4,8 +4,8 @@ use Rattle.ice_image.specs.declared.any.AnyImage.{AnyImage}
 use Rattle.ice_image.specs.Either.{device_of}
 use Rattle.chipdb_reader.specs.Fit.{IsFit}
 use Rattle.chipdb_reader.specs.Kept.{Kept, database_in}
-use Rattle.net_extract.specs.declared.pin.GlobalNet.{GlobalNet}
-use Rattle.net_extract.specs.declared.pin.GlobalFrom.{GlobalFrom}
+use Rattle.fabric_model.specs.declared.pin.GlobalNet.{GlobalNet}
+use Rattle.fabric_model.specs.declared.pin.GlobalFrom.{GlobalFrom}
 
 -- a database and an image of one device
 pub record AreOneDevice (db : Kept) (image : AnyImage) : Type 0 where

@@ -3,11 +3,11 @@ use Rattle.std.specs.Prelude.{◌≡◌, ℕ, List, Option, Some, None}
 use Rattle.ice_image.specs.Configuration.{Configuration}
 use Rattle.chipdb_reader.specs.Database.{Database}
 use Rattle.chipdb_reader.specs.declared.items.TileXy8.{TileXy8}
-use Rattle.place_search.specs.Places.{gathered_below}
-use Rattle.net_extract.specs.Tiles.{item_if}
-use Rattle.net_extract.specs.Pins.{has_pll}
-use Rattle.net_extract.specs.Faults.{Fault, pin_fault_at}
-use Rattle.net_extract.specs.Faults.Fault.{pll, pin_mode}
+use Rattle.index_search.specs.Places.{gathered_below}
+use Rattle.fabric_model.specs.Tiles.{item_if}
+use Rattle.fabric_model.specs.Pins.{has_pll}
+use Rattle.fabric_model.specs.Faults.{Fault, pin_fault_at}
+use Rattle.fabric_model.specs.Faults.Fault.{pll, pin_mode}
 use Rattle.fabric_parts.specs.declared.io.fault.PinFault.{PinFault}
 use Rattle.fabric_parts.specs.declared.io.fault.PinFault.TheVariants.{Pll, PinMode, Memory}
 use Rattle.fabric_parts.specs.declared.io.refused.TypedPin.{TypedPin}

@@ -3,10 +3,10 @@ use Rattle.std.specs.Prelude.{◌≡◌, ℕ, List, Option, Some, None}
 use Rattle.ice_image.specs.Configuration.{Configuration}
 use Rattle.chipdb_reader.specs.Database.{Database}
 use Rattle.chipdb_reader.specs.declared.items.TileXy8.{TileXy8}
-use Rattle.net_extract.specs.Tiles.{item_if}
-use Rattle.net_extract.specs.Rams.{is_cascaded}
-use Rattle.net_extract.specs.Faults.{Fault}
-use Rattle.net_extract.specs.Faults.Fault.{cascade}
+use Rattle.fabric_model.specs.Tiles.{item_if}
+use Rattle.fabric_model.specs.Rams.{is_cascaded}
+use Rattle.fabric_model.specs.Faults.{Fault}
+use Rattle.fabric_model.specs.Faults.Fault.{cascade}
 use Rattle.fabric_parts.specs.declared.ram.fault.RamFault.{RamFault}
 use Rattle.fabric_parts.specs.declared.ram.fault.RamFault.TheVariants.{Cascade, Memory}
 

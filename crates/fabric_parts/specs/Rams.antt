@@ -2,7 +2,7 @@
 use Rattle.std.specs.Prelude.{ℕ, ◌+◌, ◌<◌}
 use Rattle.plane_map.specs.declared.tile.TileKind.TheVariants.{RamB, RamT}
 use Rattle.ice_image.specs.declared.any.AnyImage.{AnyImage}
-use Rattle.net_extract.specs.TilesOfKind.{HasTile}
+use Rattle.fabric_model.specs.TilesOfKind.{HasTile}
 
 -- an image has a RAM at (x, y): a lower tile there, and an upper tile above it
 pub record HasRam (image : AnyImage) (x y : ℕ) : Type 0 where

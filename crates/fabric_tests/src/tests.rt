@@ -4,7 +4,7 @@
 ghost use Rattle.std.specs.Prelude.{◌≡◌};
 ghost use Rattle.ice_image.specs.Either.{configuration_of};
 ghost use Rattle.chipdb_reader.specs.Kept.{database_in};
-ghost use Rattle.net_extract.specs.Links.{AreLinks};
+ghost use Rattle.fabric_model.specs.Links.{AreLinks};
 
 mod counts;
 mod databases;
@@ -19,11 +19,11 @@ mod rams;
 
 use chipdb_reader::{ChipDb, PinXy};
 use fabric::{Design, FabricFault, LinkEnds, design, design_with};
+use fabric_model::{Driver, GlobalNet, Links, LutInputs, Pin, RamCell, Register, links};
 use fabric_parts::{cells as find_cells, pins as find_pins, rams as find_rams};
 use fabric_wiring::{ClockEnd, Output};
 use ice_image::AnyImage;
 use modules::is_printed;
-use net_extract::{Driver, GlobalNet, Links, LutInputs, Pin, RamCell, Register, links};
 use plane_map::Place;
 use sample_images::{SampleBit, database, image_with, set_bits, set_extras};
 use std::alloc::Global;

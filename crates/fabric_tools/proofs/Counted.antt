@@ -3,18 +3,18 @@ use Rattle.std.proofs.Common.{◌≡◌, ℕ, List, refl, sym, ap, ◌∙◌}
 use Rattle.std.specs.Prelude.{Option, None, Some}
 use Rattle.ice_image.specs.Configuration.{Configuration}
 use Rattle.chipdb_reader.specs.Database.{Database}
-use Rattle.net_extract.specs.Faults.{Fault}
+use Rattle.fabric_model.specs.Faults.{Fault}
 use Rattle.fabric_parts.specs.declared.io.fault.PinFault.TheVariants as pins
 use Rattle.fabric_parts.specs.declared.ram.fault.RamFault.TheVariants as rams
-use Rattle.ice_stat.specs.declared.fault.StatFault.{StatFault}
-use Rattle.ice_stat.specs.declared.fault.StatFault.TheVariants.{Device, Pins, Rams, Memory as OutOfMemory}
-use Rattle.ice_stat.specs.Counts.{counts_of, stat_text}
-use Rattle.ice_stat.specs.Faults.{IsCause, stat_fault}
+use Rattle.image_stat.specs.declared.fault.StatFault.{StatFault}
+use Rattle.image_stat.specs.declared.fault.StatFault.TheVariants.{Device, Pins, Rams, Memory as OutOfMemory}
+use Rattle.image_stat.specs.Counts.{counts_of, stat_text}
+use Rattle.image_stat.specs.Faults.{IsCause, stat_fault}
 use Rattle.tool_run.specs.declared.tool.Stop.{Stop}
 use Rattle.tool_run.specs.declared.tool.Stop.TheVariants.{Refused, UsageError, Memory}
 use Rattle.tool_run.specs.Stops.{StopsWith}
 use Rattle.tool_run.specs.Tasks.{Done, Refused as Refuses}
-use Rattle.design_parts.specs.Faults.{StopsFor, told_fault}
+use Rattle.design_answers.specs.Faults.{StopsFor, told_fault}
 use Rattle.fabric_tools.specs.Faults.{of_counts}
 use Rattle.fabric_tools.specs.Stat.{counted, counted_with}
 

@@ -7,19 +7,19 @@ use Rattle.text_lines.specs.Words.{number_of}
 use Rattle.asc_text.specs.declared.fault.TileXy.{TileXy}
 use Rattle.ice_image.specs.Configuration.{Configuration}
 use Rattle.chipdb_reader.specs.Database.{Database}
-use Rattle.tile_bits.specs.declared.fault.ExplainFault.{ExplainFault}
-use Rattle.tile_bits.specs.Explained.{explained, explain_fault_of}
+use Rattle.image_explain.specs.declared.fault.ExplainFault.{ExplainFault}
+use Rattle.image_explain.specs.Explained.{explained, explain_fault_of}
 use Rattle.tool_run.specs.Needs.{text_of}
 use Rattle.tool_run.specs.Tasks.{Answer, Done, Refused, Task, usage_error}
-use Rattle.tool_parts.specs.Outcomes.{Manual, outcome}
-use Rattle.tool_parts.specs.Commands.{command, long_option, positional, short_option}
-use Rattle.tool_parts.specs.DesignInput.{input_answer}
-use Rattle.tool_parts.specs.Layouts.{with_layout}
+use Rattle.tool_inputs.specs.Outcomes.{Manual, outcome}
+use Rattle.tool_inputs.specs.Commands.{command, long_option, positional, short_option}
+use Rattle.tool_inputs.specs.DesignInput.{input_answer}
+use Rattle.tool_inputs.specs.Layouts.{with_layout}
 use Rattle.fabric_tools.specs.declared.request.Request.{Request}
 use Rattle.fabric_tools.specs.declared.request.TheConstants.{ICEBOX_EXPLAIN_HELP}
 use Rattle.fabric_tools.specs.Faults.{explain_fault_text}
-use Rattle.tool_parts.specs.Images.{image_limit}
-use Rattle.tool_parts.specs.Databases.{database_limit}
+use Rattle.tool_inputs.specs.Images.{image_limit}
+use Rattle.tool_inputs.specs.Databases.{database_limit}
 
 -- ---- the answer
 

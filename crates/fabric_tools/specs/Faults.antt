@@ -3,10 +3,10 @@ use Rattle.std.specs.Prelude.{ℕ, List, ◌++◌, codes, decimal}
 use Rattle.fabric.specs.declared.fault.FabricFault.{FabricFault}
 use Rattle.fabric.specs.declared.fault.FabricFault.TheVariants.{Device as DesignDevice, Memory as DesignMemory}
 use Rattle.fabric.specs.Causes.{of_pins, of_rams}
-use Rattle.ice_stat.specs.declared.fault.StatFault.{StatFault}
-use Rattle.ice_stat.specs.declared.fault.StatFault.TheVariants.{Device as CountsDevice, Pins, Rams, Memory as CountsMemory}
-use Rattle.tile_bits.specs.declared.fault.ExplainFault.{ExplainFault}
-use Rattle.tile_bits.specs.declared.fault.ExplainFault.TheVariants.{Device as OtherDevice, NoTile, Memory}
+use Rattle.image_stat.specs.declared.fault.StatFault.{StatFault}
+use Rattle.image_stat.specs.declared.fault.StatFault.TheVariants.{Device as CountsDevice, Pins, Rams, Memory as CountsMemory}
+use Rattle.image_explain.specs.declared.fault.ExplainFault.{ExplainFault}
+use Rattle.image_explain.specs.declared.fault.ExplainFault.TheVariants.{Device as OtherDevice, NoTile, Memory}
 
 -- the message if nothing is explained
 abbrev pub explain_fault_text : ExplainFault → List ℕ

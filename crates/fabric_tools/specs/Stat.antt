@@ -3,18 +3,18 @@ use Rattle.std.specs.Prelude.{ℕ, Bool, List, [], ◌∷◌, codes, is_some, Op
 use Rattle.clap.specs.Words.{App, Row, Text, first_of}
 use Rattle.ice_image.specs.Configuration.{Configuration}
 use Rattle.chipdb_reader.specs.Database.{Database}
-use Rattle.net_extract.specs.Faults.{Fault}
-use Rattle.ice_stat.specs.Counts.{counts_of, stat_text}
-use Rattle.ice_stat.specs.Faults.{stat_fault}
+use Rattle.fabric_model.specs.Faults.{Fault}
+use Rattle.image_stat.specs.Counts.{counts_of, stat_text}
+use Rattle.image_stat.specs.Faults.{stat_fault}
 use Rattle.tool_run.specs.Needs.{text_of}
 use Rattle.tool_run.specs.Tasks.{Answer, Done, Refused, Task, usage_error}
-use Rattle.tool_parts.specs.Outcomes.{Manual, outcome}
-use Rattle.tool_parts.specs.Commands.{command, long_option, positional, required}
-use Rattle.tool_parts.specs.DesignInput.{input_answer}
-use Rattle.tool_parts.specs.Layouts.{with_layout}
-use Rattle.tool_parts.specs.Images.{image_limit}
-use Rattle.tool_parts.specs.Databases.{database_limit}
-use Rattle.design_parts.specs.Faults.{design_fault_text}
+use Rattle.tool_inputs.specs.Outcomes.{Manual, outcome}
+use Rattle.tool_inputs.specs.Commands.{command, long_option, positional, required}
+use Rattle.tool_inputs.specs.DesignInput.{input_answer}
+use Rattle.tool_inputs.specs.Layouts.{with_layout}
+use Rattle.tool_inputs.specs.Images.{image_limit}
+use Rattle.tool_inputs.specs.Databases.{database_limit}
+use Rattle.design_answers.specs.Faults.{design_fault_text}
 use Rattle.fabric_tools.specs.declared.counting.Inputs.{Inputs}
 use Rattle.fabric_tools.specs.declared.counting.TheConstants.{ICEBOX_STAT_HELP}
 

@@ -7,17 +7,17 @@ ghost use Rattle.tool_run.specs.Needs.{text_of};
 ghost use Rattle.tool_run.specs.Runs.{Does};
 ghost use Rattle.tool_run.specs.Stops.{StopsWith};
 ghost use Rattle.tool_run.specs.Tasks.{Done};
-ghost use Rattle.tool_parts.specs.DesignInput.{TakesInput};
-ghost use Rattle.tool_parts.specs.Taking.{IsTaking};
+ghost use Rattle.tool_inputs.specs.DesignInput.{TakesInput};
+ghost use Rattle.tool_inputs.specs.Taking.{IsTaking};
 ghost use Rattle.fabric_tools.specs.Stat.{counted, stat_answer, stat_command, stat_outcome, stat_task_by, stat_task_for, stat_task_of};
 
 use crate::faults::stat_stop;
 use chipdb_reader::ChipDb;
 use clap::{ArgMatches, Command};
 use ice_image::AnyImage;
-use ice_stat::stat;
+use image_stat::stat;
 use std::alloc::{AllocError, Global};
-use tool_parts::{
+use tool_inputs::{
     CommandLine, DB_LIMIT, DesignInput, IMAGE_LIMIT, LAYOUT_LIMIT, Taking, Words, long_option,
     positional, required, run_tool, value, with, with_layout,
 };
@@ -81,8 +81,8 @@ pub(crate) struct Counting {
 }
 
 impl PieceTool for Counting {
-    ghost use Rattle.tool_parts.specs.DesignInput.{TakesInput, fed_input};
-    ghost use Rattle.tool_parts.specs.Taking.{IsTaking, fed_of};
+    ghost use Rattle.tool_inputs.specs.DesignInput.{TakesInput, fed_input};
+    ghost use Rattle.tool_inputs.specs.Taking.{IsTaking, fed_of};
     ghost use Rattle.fabric_tools.specs.Stat.{stat_answer};
 
     type Intake = Taking<DesignInput>;

@@ -5,8 +5,8 @@ ghost use Rattle.tool_run.specs.Needs.{text_of};
 ghost use Rattle.tool_run.specs.Runs.{Does};
 ghost use Rattle.tool_run.specs.Stops.{StopsWith};
 ghost use Rattle.tool_run.specs.Tasks.{Done};
-ghost use Rattle.tool_parts.specs.DesignInput.{TakesInput};
-ghost use Rattle.tool_parts.specs.Taking.{IsTaking};
+ghost use Rattle.tool_inputs.specs.DesignInput.{TakesInput};
+ghost use Rattle.tool_inputs.specs.Taking.{IsTaking};
 ghost use Rattle.fabric_tools.specs.Explain.{explain_answer, explain_outcome, explain_task_for, told};
 ghost use Rattle.ice_image.specs.Either.{configuration_of};
 
@@ -16,9 +16,9 @@ use asc_text::TileXy;
 use chipdb_reader::ChipDb;
 use clap::{ArgMatches, Command};
 use ice_image::AnyImage;
+use image_explain::{ExplainFault, explain};
 use std::alloc::{AllocError, Global};
-use tile_bits::{ExplainFault, explain};
-use tool_parts::{
+use tool_inputs::{
     CommandLine, DB_LIMIT, DesignInput, IMAGE_LIMIT, LAYOUT_LIMIT, Taking, Words, run_tool,
     with_layout,
 };
@@ -34,8 +34,8 @@ pub(crate) struct Explaining {
 }
 
 impl PieceTool for Explaining {
-    ghost use Rattle.tool_parts.specs.DesignInput.{TakesInput, fed_input};
-    ghost use Rattle.tool_parts.specs.Taking.{IsTaking, fed_of};
+    ghost use Rattle.tool_inputs.specs.DesignInput.{TakesInput, fed_input};
+    ghost use Rattle.tool_inputs.specs.Taking.{IsTaking, fed_of};
     ghost use Rattle.fabric_tools.specs.Explain.{explain_answer};
 
     type Intake = Taking<DesignInput>;

@@ -1,14 +1,14 @@
 // The messages for faults of explaining and of counting.
 ghost use Rattle.std.specs.Prelude.{◌≡◌};
 ghost use Rattle.tool_run.specs.Lines.{refusal_text};
-ghost use Rattle.design_parts.specs.Faults.{told_fault, StopsFor};
+ghost use Rattle.design_answers.specs.Faults.{told_fault, StopsFor};
 ghost use Rattle.fabric_tools.specs.Faults.{explain_fault_text, of_counts};
 
-use design_parts::design_stop;
+use design_answers::design_stop;
 use fabric::FabricFault;
-use ice_stat::StatFault;
-use tile_bits::ExplainFault;
-use tool_parts::whole;
+use image_explain::ExplainFault;
+use image_stat::StatFault;
+use tool_inputs::whole;
 use tool_run::{Refusal, Stop, decimal, text};
 
 /// The refusal to explain an image.

@@ -8,7 +8,7 @@ use asc_text::TileXy;
 use clap::{ArgMatches, Command};
 use std::alloc::{AllocError, Global};
 use text_lines::number;
-use tool_parts::{long_option, positional, short_option, value, with};
+use tool_inputs::{long_option, positional, short_option, value, with};
 
 /// The command line of `icebox_explain`.
 pub const ICEBOX_EXPLAIN_USAGE: &str = "icebox_explain [-t \"X Y\"] [--layout FILE] DB [IMAGE]";

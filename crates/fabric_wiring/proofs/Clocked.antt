@@ -4,22 +4,22 @@ use Rattle.std.specs.Prelude.{Option, Some, None, All, filter, flat_map, â—Œ&&â—
 use Rattle.std.proofs.lemmas.List.{take_more, map-append, append-nil}
 use Rattle.std.proofs.lemmas.List.Elements.{All-head, All-tail, filter-append}
 use Rattle.std.proofs.lemmas.Grind.{flat_map-append}
-use Rattle.place_search.proofs.Gathered.{map-gathered_below, flat_map-gathered_below}
-use Rattle.place_search.specs.Places.{gathered_below}
-use Rattle.place_search.proofs.Places.{gathered_below-none, gathered_below-same}
+use Rattle.index_search.proofs.Gathered.{map-gathered_below, flat_map-gathered_below}
+use Rattle.index_search.specs.Places.{gathered_below}
+use Rattle.index_search.proofs.Places.{gathered_below-none, gathered_below-same}
 use Rattle.plane_map.specs.Layout.{grid_width, grid_height}
 use Rattle.plane_map.specs.declared.device.DeviceName.{DeviceName}
-use Rattle.net_extract.specs.declared.register.Register.{Register}
-use Rattle.net_extract.specs.declared.ram.RamCell.{RamCell}
-use Rattle.net_extract.specs.declared.driver.ClockUser.TheVariants.{Read, Write}
-use Rattle.net_extract.specs.Fabric.{Fabric}
-use Rattle.net_extract.specs.Tiles.{over_grid, item_if, first_of}
-use Rattle.net_extract.specs.Within.{IsNetIn}
-use Rattle.net_extract.specs.Clocks.{ClockEnd, User, register_user, ram_users, users_at, users_of, clock_end}
-use Rattle.net_extract.specs.Clocks.ClockEnd.{at_pin, undriven, logic}
-use Rattle.net_extract.specs.Faults.{Fault, end_fault, user_fault, clock_faults}
-use Rattle.net_extract.specs.Faults.Fault.{clock}
-use Rattle.net_extract.specs.Links.{LinkSet, class_in}
+use Rattle.fabric_model.specs.declared.register.Register.{Register}
+use Rattle.fabric_model.specs.declared.ram.RamCell.{RamCell}
+use Rattle.fabric_model.specs.declared.driver.ClockUser.TheVariants.{Read, Write}
+use Rattle.fabric_model.specs.Fabric.{Fabric}
+use Rattle.fabric_model.specs.Tiles.{over_grid, item_if, first_of}
+use Rattle.fabric_model.specs.Within.{IsNetIn}
+use Rattle.fabric_model.specs.Clocks.{ClockEnd, User, register_user, ram_users, users_at, users_of, clock_end}
+use Rattle.fabric_model.specs.Clocks.ClockEnd.{at_pin, undriven, logic}
+use Rattle.fabric_model.specs.Faults.{Fault, end_fault, user_fault, clock_faults}
+use Rattle.fabric_model.specs.Faults.Fault.{clock}
+use Rattle.fabric_model.specs.Links.{LinkSet, class_in}
 use Rattle.fabric_wiring.specs.declared.ends.ClockEnd.{ClockEnd as KeptEnd}
 use Rattle.fabric_wiring.specs.declared.users.Unclocked.{Unclocked}
 use Rattle.fabric_wiring.specs.declared.users.ClockInput.{ClockInput}

@@ -2,14 +2,14 @@
 use Rattle.std.proofs.Common.{◌≡◌, ℕ, ◌<◌, true, false, List, [], ◌∷◌, refl, sym, ap, subst, inl, inr}
 use Rattle.std.specs.Prelude.{Contains, map, option_to_list, Option, Some, None, IfSome}
 use Rattle.std.proofs.lemmas.Bool.{cases_Bool}
-use Rattle.net_extract.specs.Fabric.{Fabric}
-use Rattle.net_extract.specs.Drivers.{Rule, Drive, drivers_of, drives_of, is_driven, nets_read}
+use Rattle.fabric_model.specs.Fabric.{Fabric}
+use Rattle.fabric_model.specs.Drivers.{Rule, Drive, drivers_of, drives_of, is_driven, nets_read}
 use Rattle.graph_order.specs.Wiring.{has}
-use Rattle.net_extract.specs.Clocks.{turn_by, turn_of, turn_at}
-use Rattle.net_extract.specs.Clocks.Turn.{goes_to}
+use Rattle.fabric_model.specs.Clocks.{turn_by, turn_of, turn_at}
+use Rattle.fabric_model.specs.Clocks.Turn.{goes_to}
 use Rattle.graph_order.proofs.OneOrder.{has-first}
-use Rattle.net_extract.proofs.OneValue.{IsWithin, first-driver, first-is, none-driven}
-use Rattle.net_extract.proofs.Chains.{goes-copied}
+use Rattle.fabric_model.proofs.OneValue.{IsWithin, first-driver, first-is, none-driven}
+use Rattle.fabric_model.proofs.Chains.{goes-copied}
 use Rattle.fabric_wiring.specs.declared.drive.Drive.{Drive as KeptDrive}
 use Rattle.fabric_wiring.specs.Drives.{drive_of}
 use Rattle.fabric_wiring.specs.DriverLists.{DriverSet, driver_in, AreDriversOf}

@@ -2,19 +2,19 @@
 use Rattle.std.proofs.Common.{◌≡◌, ℕ, ◌+◌, ◌<◌, true, false, ◌⊎◌, inl, inr, List, [], length, take, set, get_or, refl, sym, ◌∙◌, ap, subst, arith, get_or-set_same, get_or-set_other}
 use Rattle.std.proofs.lemmas.Bool.{cases_Bool, cases_eq}
 use Rattle.std.proofs.lemmas.List.{take_more}
-use Rattle.net_extract.specs.Joins.{class_of}
-use Rattle.net_extract.specs.Fabric.{Fabric}
-use Rattle.net_extract.specs.Drivers.{is_driven}
+use Rattle.fabric_model.specs.Joins.{class_of}
+use Rattle.fabric_model.specs.Fabric.{Fabric}
+use Rattle.fabric_model.specs.Drivers.{is_driven}
 use Rattle.graph_order.specs.Wiring.{has, IsReady, IsWriteOrder}
-use Rattle.net_extract.specs.Wiring.{wiring_of}
-use Rattle.net_extract.specs.Clocks.{ClockEnd, Turn, LeadsTo, turn_at, end_by}
-use Rattle.net_extract.specs.Clocks.ClockEnd.{undriven}
-use Rattle.net_extract.specs.Clocks.Turn.{ends, goes_to}
-use Rattle.net_extract.specs.Clocks.LeadsTo.{ends_here, goes_on}
-use Rattle.net_extract.proofs.Joins.{class_of-le}
+use Rattle.fabric_model.specs.Wiring.{wiring_of}
+use Rattle.fabric_model.specs.Clocks.{ClockEnd, Turn, LeadsTo, turn_at, end_by}
+use Rattle.fabric_model.specs.Clocks.ClockEnd.{undriven}
+use Rattle.fabric_model.specs.Clocks.Turn.{ends, goes_to}
+use Rattle.fabric_model.specs.Clocks.LeadsTo.{ends_here, goes_on}
+use Rattle.fabric_model.proofs.Joins.{class_of-le}
 use Rattle.graph_order.proofs.OneOrder.{has-none}
-use Rattle.net_extract.proofs.OneValue.{IsWithin, driven-is, count-is}
-use Rattle.net_extract.proofs.Chains.{leads-one, clock_end-leads, goes-reads, turn-still}
+use Rattle.fabric_model.proofs.OneValue.{IsWithin, driven-is, count-is}
+use Rattle.fabric_model.proofs.Chains.{leads-one, clock_end-leads, goes-reads, turn-still}
 use Rattle.graph_order.proofs.Lists.{has-split}
 use Rattle.fabric_wiring.specs.declared.ends.ClockEnd.{ClockEnd as KeptEnd}
 use Rattle.fabric_wiring.specs.declared.ends.ClockEnd.TheVariants.{Undriven}

@@ -3,8 +3,8 @@ use Rattle.std.proofs.Common.{◌≡◌, ℕ, zero, suc, ◌+◌, ◌<◌, Bool,
 use Rattle.std.specs.Prelude.{Some, None, find, position}
 use Rattle.std.specs.List.{position_or_len}
 use Rattle.std.proofs.lemmas.List.Quantifiers.{position-Some}
-use Rattle.net_extract.specs.Fabric.{numbered_from, numbered}
-use Rattle.net_extract.proofs.Listed.{find-position, find-no_position}
+use Rattle.fabric_model.specs.Fabric.{numbered_from, numbered}
+use Rattle.fabric_model.proofs.Listed.{find-position, find-no_position}
 
 numbered_from-length : {A : Type 0} (n : ℕ) (items : List A) → length (numbered_from n items) ≡ length items
 unfolding numbered_from

@@ -1,12 +1,12 @@
 -- What the first tile of a grid gives that gives something.
 use Rattle.std.proofs.Common.{◌≡◌, ℕ, zero, suc, ◌<◌, ◌⊎◌, inl, inr, List, [], ◌∷◌, ◌++◌, refl, sym, ◌∙◌, ap, subst, arith}
 use Rattle.std.specs.Prelude.{Option, Some, None}
-use Rattle.place_search.specs.Places.{first_below, gathered_below, or_else}
-use Rattle.place_search.proofs.Places.{first_below-none, first_below-same, first_below-first}
-use Rattle.place_search.proofs.Found.{first_below-clear}
+use Rattle.index_search.specs.Places.{first_below, gathered_below, or_else}
+use Rattle.index_search.proofs.Places.{first_below-none, first_below-same, first_below-first}
+use Rattle.index_search.proofs.Found.{first_below-clear}
 use Rattle.plane_map.specs.Layout.{grid_width, grid_height}
 use Rattle.plane_map.specs.declared.device.DeviceName.{DeviceName}
-use Rattle.net_extract.specs.Tiles.{over_grid, first_of}
+use Rattle.fabric_model.specs.Tiles.{over_grid, first_of}
 
 -- ---- the first of lists that follow one another
 

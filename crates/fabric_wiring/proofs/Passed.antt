@@ -5,12 +5,12 @@ use Rattle.std.proofs.lemmas.Bool.{cases_Bool, cases_eq, eq-eqb, eqb-true, ltb-t
 use Rattle.std.proofs.lemmas.List.{take_more, take_all, get_or-replicate, length-replicate}
 use Rattle.std.proofs.lemmas.List.Elements.{filter-append, All-get_or}
 use Rattle.std.proofs.lemmas.Option.{slice_get-get_or}
-use Rattle.net_extract.proofs.Firsts.{first_of-append, first_of-alone}
-use Rattle.place_search.proofs.Places.{gathered_below-none}
-use Rattle.net_extract.specs.Links.{LinkSet, class_in}
-use Rattle.net_extract.specs.Tiles.{first_of}
-use Rattle.net_extract.specs.Faults.{drivers_fault}
-use Rattle.net_extract.specs.Faults.Fault.{two_drivers}
+use Rattle.fabric_model.proofs.Firsts.{first_of-append, first_of-alone}
+use Rattle.index_search.proofs.Places.{gathered_below-none}
+use Rattle.fabric_model.specs.Links.{LinkSet, class_in}
+use Rattle.fabric_model.specs.Tiles.{first_of}
+use Rattle.fabric_model.specs.Faults.{drivers_fault}
+use Rattle.fabric_model.specs.Faults.Fault.{two_drivers}
 use Rattle.fabric_wiring.specs.declared.drive.Drive.{Drive as KeptDrive}
 use Rattle.fabric_wiring.specs.declared.twice.Twice.{Twice}
 use Rattle.fabric_wiring.specs.Drives.{drive_of}

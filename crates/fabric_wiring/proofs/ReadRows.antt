@@ -7,18 +7,18 @@ use Rattle.std.proofs.Math.ListN.{get_or-append}
 use Rattle.std.proofs.lemmas.Bool.{cases_lt, cases_Bool}
 use Rattle.std.proofs.lemmas.List.{map-append, append-nil, get_or_past}
 use Rattle.shared_lemmas.proofs.Lists.{map-every, flat_map-more}
-use Rattle.net_extract.specs.Joins.{class_of}
-use Rattle.net_extract.specs.Fabric.{Fabric}
-use Rattle.net_extract.specs.Drivers.{Drive, drivers_of, is_driven, nets_read}
-use Rattle.net_extract.specs.Drivers.Rule.{input, majority_of}
+use Rattle.fabric_model.specs.Joins.{class_of}
+use Rattle.fabric_model.specs.Fabric.{Fabric}
+use Rattle.fabric_model.specs.Drivers.{Drive, drivers_of, is_driven, nets_read}
+use Rattle.fabric_model.specs.Drivers.Rule.{input, majority_of}
 use Rattle.graph_order.specs.Wiring.{depends, has}
-use Rattle.net_extract.specs.Wiring.{wiring_of as wiring_of_fabric}
-use Rattle.net_extract.proofs.Joins.{class_of-le}
+use Rattle.fabric_model.specs.Wiring.{wiring_of as wiring_of_fabric}
+use Rattle.fabric_model.proofs.Joins.{class_of-le}
 use Rattle.graph_order.proofs.OneOrder.{has-none, has-first, has-behind, has-cases}
-use Rattle.net_extract.proofs.OneValue.{IsWithin, depends-driven, driven-below, none-driven, driven-is, count-is}
+use Rattle.fabric_model.proofs.OneValue.{IsWithin, depends-driven, driven-below, none-driven, driven-is, count-is}
 use Rattle.graph_order.specs.Rows.{lists_of, row_at, is_marked, wiring_of}
 use Rattle.graph_order.proofs.Rows.{lists-length}
-use Rattle.net_extract.specs.Links.{LinkSet, class_in}
+use Rattle.fabric_model.specs.Links.{LinkSet, class_in}
 use Rattle.fabric_wiring.specs.declared.drive.Drive.{Drive as KeptDrive}
 use Rattle.fabric_wiring.specs.declared.parts.Parts.{Parts}
 use Rattle.fabric_wiring.specs.Drives.{drive_of}

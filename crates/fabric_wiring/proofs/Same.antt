@@ -2,14 +2,14 @@
 use Rattle.std.proofs.Common.{◌≡◌, ℕ, ◌<◌, ◌≤◌, Bool, List, [], ◌∷◌, ◌++◌, length, map, refl, sym, ap, ◌∙◌, cond, true, false, subst, arith}
 use Rattle.std.specs.Prelude.{All, filter, ◌==◌, Contains}
 use Rattle.std.proofs.lemmas.List.Elements.{All-contains_itself, All-weaker, All-nil, All-cons, All-head, All-tail}
-use Rattle.place_search.specs.Places.{gathered_below}
-use Rattle.place_search.proofs.Places.{gathered_below-same}
-use Rattle.net_extract.specs.Links.{class_in}
-use Rattle.net_extract.specs.Fabric.{Fabric}
-use Rattle.net_extract.specs.Drivers.{Drive, drives_of, drivers_of, is_driver_of}
-use Rattle.net_extract.specs.Faults.{drivers_fault, driver_faults}
-use Rattle.net_extract.proofs.Joins.{class_of-le}
-use Rattle.net_extract.proofs.Within.{within-parts}
+use Rattle.index_search.specs.Places.{gathered_below}
+use Rattle.index_search.proofs.Places.{gathered_below-same}
+use Rattle.fabric_model.specs.Links.{class_in}
+use Rattle.fabric_model.specs.Fabric.{Fabric}
+use Rattle.fabric_model.specs.Drivers.{Drive, drives_of, drivers_of, is_driver_of}
+use Rattle.fabric_model.specs.Faults.{drivers_fault, driver_faults}
+use Rattle.fabric_model.proofs.Joins.{class_of-le}
+use Rattle.fabric_model.proofs.Within.{within-parts}
 use Rattle.fabric_wiring.specs.declared.drive.Drive.{Drive as KeptDrive}
 use Rattle.fabric_wiring.specs.declared.parts.Parts.{Parts}
 use Rattle.fabric_wiring.specs.Drives.{drive_of}

@@ -4,10 +4,10 @@ use Rattle.std.specs.Prelude.{Option, Some, None, filter, ◌&&◌, ◌==◌, na
 use Rattle.std.proofs.lemmas.Bool.{cases_Bool, eqb-true, ltb-true, lt-ltb, or_cases, or_left, or_right, and_from}
 use Rattle.std.proofs.lemmas.List.Elements.{filter-append}
 use Rattle.shared_lemmas.proofs.Tests.{first_true, second_true}
-use Rattle.place_search.specs.Places.{or_else}
+use Rattle.index_search.specs.Places.{or_else}
 use Rattle.plane_map.specs.Layout.{grid_width, grid_height}
 use Rattle.plane_map.specs.declared.device.DeviceName.{DeviceName}
-use Rattle.net_extract.specs.Tiles.{first_of}
+use Rattle.fabric_model.specs.Tiles.{first_of}
 use Rattle.fabric_wiring.specs.declared.users.Unclocked.{Unclocked}
 use Rattle.fabric_wiring.specs.First.{is_at, first_on, is_on_grid, is_before, is_before_any}
 use Rattle.fabric_wiring.proofs.Grid.{GoesBefore, first_tile, first_of-append, first_of-grid, tile-first, tile-none, first-tile, none-tile}

@@ -1,7 +1,7 @@
 -- The drivers that are kept, and when they are the drivers of a fabric.
 use Rattle.std.specs.Prelude.{◌≡◌, ℕ, ◌<◌, List, length, map, slice_get, get_or, option_and_then, option_to_list, Option, None}
-use Rattle.net_extract.specs.Fabric.{Fabric}
-use Rattle.net_extract.specs.Drivers.{drivers_of}
+use Rattle.fabric_model.specs.Fabric.{Fabric}
+use Rattle.fabric_model.specs.Drivers.{drivers_of}
 use Rattle.fabric_wiring.specs.declared.drive.Drive.{Drive as KeptDrive}
 use Rattle.fabric_wiring.specs.Drives.{drive_of}
 

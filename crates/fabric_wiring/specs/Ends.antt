@@ -1,9 +1,9 @@
 -- Where clocks come from, as it is kept.
 use Rattle.std.specs.Prelude.{◌≡◌, ℕ, ◌<◌, List, length, get_or}
-use Rattle.net_extract.specs.Joins.{class_of}
-use Rattle.net_extract.specs.Fabric.{Fabric}
-use Rattle.net_extract.specs.Clocks.{ClockEnd, clock_end}
-use Rattle.net_extract.specs.Clocks.ClockEnd.{at_pin, undriven, logic}
+use Rattle.fabric_model.specs.Joins.{class_of}
+use Rattle.fabric_model.specs.Fabric.{Fabric}
+use Rattle.fabric_model.specs.Clocks.{ClockEnd, clock_end}
+use Rattle.fabric_model.specs.Clocks.ClockEnd.{at_pin, undriven, logic}
 use Rattle.fabric_wiring.specs.declared.ends.ClockEnd.{ClockEnd as KeptEnd}
 use Rattle.fabric_wiring.specs.declared.ends.ClockEnd.TheVariants.{Pin, Undriven, Logic}
 

@@ -2,13 +2,13 @@
 use Rattle.std.specs.Prelude.{ℕ, Bool, true, false, ◌&&◌, ◌||◌, ◌==◌, nat_lt, List, [], ◌∷◌, filter, flat_map, Option, Some, None}
 use Rattle.plane_map.specs.Layout.{grid_width, grid_height}
 use Rattle.plane_map.specs.declared.device.DeviceName.{DeviceName}
-use Rattle.net_extract.specs.declared.register.Register.{Register}
-use Rattle.net_extract.specs.declared.ram.RamCell.{RamCell}
-use Rattle.net_extract.specs.declared.driver.ClockUser.TheVariants.{Read, Write}
-use Rattle.net_extract.specs.Tiles.{over_grid, item_if, first_of}
-use Rattle.net_extract.specs.Clocks.{ClockEnd}
-use Rattle.net_extract.specs.Clocks.ClockEnd.{at_pin, undriven, logic}
-use Rattle.net_extract.specs.Links.{LinkSet, class_in}
+use Rattle.fabric_model.specs.declared.register.Register.{Register}
+use Rattle.fabric_model.specs.declared.ram.RamCell.{RamCell}
+use Rattle.fabric_model.specs.declared.driver.ClockUser.TheVariants.{Read, Write}
+use Rattle.fabric_model.specs.Tiles.{over_grid, item_if, first_of}
+use Rattle.fabric_model.specs.Clocks.{ClockEnd}
+use Rattle.fabric_model.specs.Clocks.ClockEnd.{at_pin, undriven, logic}
+use Rattle.fabric_model.specs.Links.{LinkSet, class_in}
 use Rattle.fabric_wiring.specs.declared.ends.ClockEnd.{ClockEnd as KeptEnd}
 use Rattle.fabric_wiring.specs.declared.users.Unclocked.{Unclocked}
 use Rattle.fabric_wiring.specs.declared.users.ClockInput.{ClockInput}

@@ -1,5 +1,5 @@
 -- Outputs as the code keeps them.
-use Rattle.net_extract.specs.Outputs.{Output}
+use Rattle.fabric_model.specs.Outputs.{Output}
 use Rattle.fabric_wiring.specs.declared.output_pins.Output.{Output as KeptOutput}
 use Rattle.fabric_wiring.specs.Drives.{rule_of}
 

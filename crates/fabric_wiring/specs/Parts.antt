@@ -1,9 +1,9 @@
 -- When the parts that are kept are the parts of a fabric.
 use Rattle.std.specs.Prelude.{◌≡◌, ℕ, length, map}
-use Rattle.net_extract.specs.Joins.{class_of}
-use Rattle.net_extract.specs.Fabric.{Fabric, Buffer}
-use Rattle.net_extract.specs.Within.{HasNetsIn}
-use Rattle.net_extract.specs.Links.{class_in}
+use Rattle.fabric_model.specs.Joins.{class_of}
+use Rattle.fabric_model.specs.Fabric.{Fabric, Buffer}
+use Rattle.fabric_model.specs.Within.{HasNetsIn}
+use Rattle.fabric_model.specs.Links.{class_in}
 use Rattle.fabric_wiring.specs.declared.parts.Buffer.{Buffer as KeptBuffer}
 use Rattle.fabric_wiring.specs.declared.parts.Parts.{Parts}
 

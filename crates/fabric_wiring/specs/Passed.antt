@@ -1,10 +1,10 @@
 -- Drivers that are entered one after the other.
 use Rattle.std.specs.Prelude.{◌≡◌, ℕ, ◌<◌, List, [], ◌∷◌, ◌++◌, length, map, filter, slice_get, get_or, option_and_then, ◌==◌, nat_lt, if◌then◌else◌, option_to_list, Option, Some, None}
-use Rattle.place_search.specs.Places.{gathered_below}
-use Rattle.net_extract.specs.Links.{LinkSet, class_in}
-use Rattle.net_extract.specs.Tiles.{first_of}
-use Rattle.net_extract.specs.Faults.{Fault, drivers_fault}
-use Rattle.net_extract.specs.Faults.Fault.{two_drivers}
+use Rattle.index_search.specs.Places.{gathered_below}
+use Rattle.fabric_model.specs.Links.{LinkSet, class_in}
+use Rattle.fabric_model.specs.Tiles.{first_of}
+use Rattle.fabric_model.specs.Faults.{Fault, drivers_fault}
+use Rattle.fabric_model.specs.Faults.Fault.{two_drivers}
 use Rattle.fabric_wiring.specs.declared.drive.Drive.{Drive as KeptDrive}
 use Rattle.fabric_wiring.specs.declared.twice.Twice.{Twice}
 use Rattle.fabric_wiring.specs.Drives.{drive_of}

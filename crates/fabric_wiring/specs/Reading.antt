@@ -1,7 +1,7 @@
 -- The classes of joined nets that drivers read.
 use Rattle.std.specs.Prelude.{ℕ, List, [], map, Option, Some, None}
-use Rattle.net_extract.specs.Drivers.{nets_read}
-use Rattle.net_extract.specs.Links.{LinkSet, class_in}
+use Rattle.fabric_model.specs.Drivers.{nets_read}
+use Rattle.fabric_model.specs.Links.{LinkSet, class_in}
 use Rattle.fabric_wiring.specs.declared.drive.Rule.{Rule as KeptRule}
 use Rattle.fabric_wiring.specs.declared.drive.Drive.{Drive as KeptDrive}
 use Rattle.fabric_wiring.specs.Drives.{rule_of}

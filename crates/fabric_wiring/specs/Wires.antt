@@ -1,8 +1,8 @@
 -- What the classes of joined nets of a fabric read, as it is kept.
 use Rattle.std.specs.Prelude.{◌≡◌, length}
-use Rattle.net_extract.specs.Fabric.{Fabric}
+use Rattle.fabric_model.specs.Fabric.{Fabric}
 use Rattle.graph_order.specs.Alike.{AreAlike}
-use Rattle.net_extract.specs.Wiring.{wiring_of as wiring_of_fabric}
+use Rattle.fabric_model.specs.Wiring.{wiring_of as wiring_of_fabric}
 use Rattle.graph_order.specs.Rows.{wiring_of, ReadsWithin, ReadsByDriven}
 use Rattle.fabric_wiring.specs.declared.wires_type.Wires.{Wires}
 

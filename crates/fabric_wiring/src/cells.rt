@@ -1,16 +1,16 @@
 // What logic cells drive.
 ghost use Rattle.std.specs.Prelude.{◌≡◌, ◌∷◌, [], ◌++◌, map, filter, flat_map, not, OnOk};
-ghost use Rattle.net_extract.specs.Drivers.{lut_drives, lout_drives, carry_drives, set_drives};
+ghost use Rattle.fabric_model.specs.Drivers.{lut_drives, lout_drives, carry_drives, set_drives};
 ghost use Rattle.fabric_wiring.specs.Drives.{drive_of};
 
 use crate::drive::{Drive, Rule};
 use crate::push::push_if;
 use crate::registers::table_of;
-use net_extract::{CarrySet, Driver, Lc, LutInputs};
+use fabric_model::{CarrySet, Driver, LogicCell, LutInputs};
 use std::alloc::AllocError;
 
 /// Appends what a cell drives on `lutff_i/out` if it has no flip-flop.
-fn append_lut(drives: &mut Vec<Drive>, inputs: LutInputs, lc: Lc) -> Result<(), AllocError>
+fn append_lut(drives: &mut Vec<Drive>, inputs: LutInputs, lc: LogicCell) -> Result<(), AllocError>
     ensures { OnOk result (map drive_of drives.new.items ≡ map drive_of drives.old.items ++ flat_map (lut_drives inputs) (filter (λ lc. not lc.flip) (lc ∷ []))) }
 {
     if lc.flip {
@@ -29,7 +29,7 @@ fn append_lut(drives: &mut Vec<Drive>, inputs: LutInputs, lc: Lc) -> Result<(), 
 pub(crate) fn append_luts(
     drives: &mut Vec<Drive>,
     inputs: LutInputs,
-    lcs: &[Lc],
+    lcs: &[LogicCell],
 ) -> Result<(), AllocError>
     ensures { OnOk result (map drive_of drives.new.items ≡ map drive_of drives.old.items ++ flat_map (lut_drives inputs) (filter (λ lc. not lc.flip) lcs.now)) }
 {
@@ -43,12 +43,12 @@ pub(crate) fn append_luts(
 pub(crate) fn append_louts(
     drives: &mut Vec<Drive>,
     inputs: LutInputs,
-    lcs: &[Lc],
+    lcs: &[LogicCell],
 ) -> Result<(), AllocError>
     ensures { OnOk result (map drive_of drives.new.items ≡ map drive_of drives.old.items ++ flat_map (lout_drives inputs) lcs.now) }
 {
     for lc in lcs {
-        let driver = Driver::Lout {
+        let driver = Driver::LutOut {
             x: lc.x,
             y: lc.y,
             i: lc.i,
@@ -60,7 +60,7 @@ pub(crate) fn append_louts(
 }
 
 /// Appends what a cell drives on `lutff_i/cout`, its carry-out, if its carry is on.
-fn append_carry(drives: &mut Vec<Drive>, lc: Lc) -> Result<(), AllocError>
+fn append_carry(drives: &mut Vec<Drive>, lc: LogicCell) -> Result<(), AllocError>
     ensures { OnOk result (map drive_of drives.new.items ≡ map drive_of drives.old.items ++ flat_map carry_drives (filter (λ lc. lc.carry) (lc ∷ []))) }
 {
     if !lc.carry {
@@ -76,7 +76,7 @@ fn append_carry(drives: &mut Vec<Drive>, lc: Lc) -> Result<(), AllocError>
 }
 
 /// Appends what cells whose carry is on drive on `lutff_i/cout`.
-pub(crate) fn append_carries(drives: &mut Vec<Drive>, lcs: &[Lc]) -> Result<(), AllocError>
+pub(crate) fn append_carries(drives: &mut Vec<Drive>, lcs: &[LogicCell]) -> Result<(), AllocError>
     ensures { OnOk result (map drive_of drives.new.items ≡ map drive_of drives.old.items ++ flat_map carry_drives (filter (λ lc. lc.carry) lcs.now)) }
 {
     for lc in lcs {

@@ -1,6 +1,6 @@
 // Drivers, and how they make their values.
 
-use net_extract::{Driver, Register, Table};
+use fabric_model::{Driver, LutTable, Register};
 
 /// How a driver makes its value.
 #[derive(Clone, Copy, Debug, PartialEq, Eq)]
@@ -12,7 +12,7 @@ pub enum Rule {
     /// An input, which has the stated value if it is unconnected.
     Input { stated: bool, net: Option<u32> },
     /// The value of a LUT.
-    TableEntry(Table),
+    TableEntry(LutTable),
     /// The majority of three inputs.
     MajorityOf(Option<u32>, Option<u32>, Option<u32>),
     /// The value of the register with that index among the registers of the fabric.

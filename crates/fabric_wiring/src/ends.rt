@@ -1,19 +1,19 @@
 // Where the clocks of classes of joined nets come from.
 ghost use Rattle.std.specs.Prelude.{◌≡◌, ℕ, ◌<◌, length, map, option_to_list, IfOk};
-ghost use Rattle.net_extract.specs.Fabric.{Fabric};
+ghost use Rattle.fabric_model.specs.Fabric.{Fabric};
 ghost use Rattle.graph_order.specs.Wiring.{IsWriteOrder};
-ghost use Rattle.net_extract.specs.Wiring.{wiring_of};
-ghost use Rattle.net_extract.specs.Clocks.{turn_by, turn_of, end_by};
-ghost use Rattle.net_extract.specs.Clocks.Turn.{goes_to};
-ghost use Rattle.net_extract.specs.Clocks.ClockEnd.{undriven};
-ghost use Rattle.net_extract.specs.Links.{class_in};
+ghost use Rattle.fabric_model.specs.Wiring.{wiring_of};
+ghost use Rattle.fabric_model.specs.Clocks.{turn_by, turn_of, end_by};
+ghost use Rattle.fabric_model.specs.Clocks.Turn.{goes_to};
+ghost use Rattle.fabric_model.specs.Clocks.ClockEnd.{undriven};
+ghost use Rattle.fabric_model.specs.Links.{class_in};
 ghost use Rattle.fabric_wiring.specs.Drives.{rule_of, drive_of};
 ghost use Rattle.fabric_wiring.specs.Parts.{ArePartsOf};
 ghost use Rattle.fabric_wiring.specs.DriverLists.{AreDriversOf, driver_in};
 ghost use Rattle.fabric_wiring.specs.Ends.{end_of, end_in, AreEndsOf};
 
 use crate::{Drivers, Parts, Rule};
-use net_extract::Links;
+use fabric_model::Links;
 use std::alloc::{AllocError, Global};
 
 /// Where the clock chain from a class of joined nets ends. It leads from class to class, along buffers and along global networks that a

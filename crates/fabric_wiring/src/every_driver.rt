@@ -1,7 +1,7 @@
 // All drivers.
 ghost use Rattle.std.specs.Prelude.{◌≡◌, ◌++◌, map, flat_map, IfOk, OnOk};
-ghost use Rattle.net_extract.specs.Fabric.{Fabric};
-ghost use Rattle.net_extract.specs.Drivers.{drives_of, buffer_drives};
+ghost use Rattle.fabric_model.specs.Fabric.{Fabric};
+ghost use Rattle.fabric_model.specs.Drivers.{drives_of, buffer_drives};
 ghost use Rattle.fabric_wiring.specs.Drives.{drive_of};
 ghost use Rattle.fabric_wiring.specs.Parts.{buffer_of, ArePartsOf};
 
@@ -12,7 +12,7 @@ use crate::pins::{append_backs, append_globals, append_pins};
 use crate::push::push_if;
 use crate::rams::append_rams;
 use crate::registers::{append_flips, append_pin_registers};
-use net_extract::{Driver, inputs};
+use fabric_model::{Driver, inputs};
 use std::alloc::{AllocError, Global};
 
 /// Appends what buffers drive: their destinations.

@@ -1,7 +1,7 @@
 // Classes of joined nets with two drivers.
 ghost use Rattle.std.specs.Prelude.{◌≡◌};
 
-use net_extract::Driver;
+use fabric_model::Driver;
 use std::alloc::AllocError;
 
 /// Why drivers aren't taken.

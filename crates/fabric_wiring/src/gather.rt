@@ -1,8 +1,8 @@
 // Finds the drivers of a fabric.
 ghost use Rattle.std.specs.Prelude.{◌≡◌, IfOk, IfErr, OnOk, None};
-ghost use Rattle.net_extract.specs.Fabric.{Fabric};
-ghost use Rattle.net_extract.specs.Tiles.{first_of};
-ghost use Rattle.net_extract.specs.Faults.{driver_faults};
+ghost use Rattle.fabric_model.specs.Fabric.{Fabric};
+ghost use Rattle.fabric_model.specs.Tiles.{first_of};
+ghost use Rattle.fabric_model.specs.Faults.{driver_faults};
 ghost use Rattle.fabric_wiring.specs.Parts.{ArePartsOf};
 ghost use Rattle.fabric_wiring.specs.DriverLists.{AreDriversOf};
 ghost use Rattle.fabric_wiring.specs.Faults.{IsCause};

@@ -1,16 +1,16 @@
 // The outputs of a fabric.
 ghost use Rattle.std.specs.Prelude.{◌≡◌, ◌++◌, ◌&&◌, ◌==◌, map, filter, find, flat_map, position, IfOk, OnOk};
-ghost use Rattle.net_extract.specs.Pins.{is_tri_state};
-ghost use Rattle.net_extract.specs.Fabric.{Fabric, numbered};
-ghost use Rattle.net_extract.specs.Drivers.{is_output_user, is_output_register, register_rule, output_rule};
-ghost use Rattle.net_extract.specs.Outputs.{enable_outputs, pin_outputs, outputs_of};
+ghost use Rattle.fabric_model.specs.Pins.{is_tri_state};
+ghost use Rattle.fabric_model.specs.Fabric.{Fabric, numbered};
+ghost use Rattle.fabric_model.specs.Drivers.{is_output_user, is_output_register, register_rule, output_rule};
+ghost use Rattle.fabric_model.specs.Outputs.{enable_outputs, pin_outputs, outputs_of};
 ghost use Rattle.fabric_wiring.specs.Drives.{rule_of};
 ghost use Rattle.fabric_wiring.specs.Outputs.{output_of};
 ghost use Rattle.fabric_wiring.specs.Parts.{ArePartsOf};
 
 use crate::drive::Rule;
 use crate::parts::Parts;
-use net_extract::{ClockUser, Pin, PinKind, Register, place_of};
+use fabric_model::{ClockUser, Pin, PinKind, Register, place_of};
 use std::alloc::{AllocError, Global};
 
 /// An output of a pin, and how it makes its value.

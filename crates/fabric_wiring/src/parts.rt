@@ -1,6 +1,6 @@
 // The parts of a fabric.
 
-use net_extract::{CarrySet, GlobalNet, Lc, Links, LutInputs, Pin, RamCell, Register};
+use fabric_model::{CarrySet, GlobalNet, Links, LogicCell, LutInputs, Pin, RamCell, Register};
 
 /// A buffer that is on: its index among the buffers of the database, and its two nets.
 #[derive(Clone, Copy, Debug, PartialEq, Eq)]
@@ -24,7 +24,7 @@ pub struct Parts {
     /// Which inputs the LUTs of the cells read.
     pub lut_inputs: LutInputs,
     /// The used cells.
-    pub lcs: Vec<Lc>,
+    pub lcs: Vec<LogicCell>,
     /// The registers: the flip-flops of the cells, then the registers of pins.
     pub registers: Vec<Register>,
     /// The carry inputs that are set.

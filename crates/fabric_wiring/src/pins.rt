@@ -1,13 +1,13 @@
 // What pins and global networks drive.
 ghost use Rattle.std.specs.Prelude.{◌≡◌, ◌∷◌, [], ◌++◌, map, filter, flat_map, IfOk, OnOk};
-ghost use Rattle.net_extract.specs.Fabric.{numbered};
-ghost use Rattle.net_extract.specs.Drivers.{pin_drives, back_drives, global_rule, global_drives};
+ghost use Rattle.fabric_model.specs.Fabric.{numbered};
+ghost use Rattle.fabric_model.specs.Drivers.{pin_drives, back_drives, global_rule, global_drives};
 ghost use Rattle.fabric_wiring.specs.Drives.{drive_of, rule_of};
 
 use crate::drive::{Drive, Rule};
 use crate::output_pins::output_rule;
 use crate::push::push_if;
-use net_extract::{Driver, GlobalFrom, GlobalNet, Pin, Register, place_among, place_of};
+use fabric_model::{Driver, GlobalFrom, GlobalNet, Pin, Register, place_among, place_of};
 use std::alloc::AllocError;
 
 /// Appends what an input pin drives, given its index: nothing if it has a register.
@@ -42,7 +42,7 @@ fn append_back(drives: &mut Vec<Drive>, registers: &[Register], pin: Pin) -> Res
     if !pin.back {
         return Ok(());
     }
-    let driver = Driver::Back {
+    let driver = Driver::Readback {
         x: pin.x,
         y: pin.y,
         n: pin.n,

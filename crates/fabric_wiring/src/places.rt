@@ -1,7 +1,7 @@
 // The driver of each class of joined nets.
 ghost use Rattle.std.specs.Prelude.{◌≡◌, ℕ, ◌<◌, ◌≤◌, List, length, slice_get, get_or, option_and_then, option_to_list, All, IfOk, IfErr, OnOk, None, replicate};
-ghost use Rattle.net_extract.specs.Links.{class_in};
-ghost use Rattle.net_extract.specs.Tiles.{first_of};
+ghost use Rattle.fabric_model.specs.Links.{class_in};
+ghost use Rattle.fabric_model.specs.Tiles.{first_of};
 ghost use Rattle.fabric_wiring.specs.declared.drive.Drive.{Drive as KeptDrive};
 ghost use Rattle.fabric_wiring.specs.Faults.{IsCause};
 ghost use Rattle.fabric_wiring.specs.Passed.{ArePassed, and_driver, drivers_in, faults_in, IsDriveIn};
@@ -9,7 +9,7 @@ ghost use Rattle.fabric_wiring.specs.Passed.{ArePassed, and_driver, drivers_in, 
 use crate::drive::Drive;
 use crate::fault::DriverFault;
 use crate::twice::{Twice, lesser};
-use net_extract::{Links, place_of};
+use fabric_model::{Links, place_of};
 use std::alloc::{AllocError, Global};
 
 /// The driver with an index, or `None` if there is no index or no driver with it.

@@ -1,10 +1,10 @@
 // One more driver.
 ghost use Rattle.std.specs.Prelude.{◌≡◌, ◌++◌, map, OnOk};
-ghost use Rattle.net_extract.specs.Drivers.{drives_if};
+ghost use Rattle.fabric_model.specs.Drivers.{drives_if};
 ghost use Rattle.fabric_wiring.specs.Drives.{drive_of, rule_of};
 
 use crate::drive::{Drive, Rule};
-use net_extract::Driver;
+use fabric_model::Driver;
 use std::alloc::AllocError;
 
 /// Appends a driver of a net, if there is the net.

@@ -1,14 +1,14 @@
 // What RAMs drive.
 ghost use Rattle.std.specs.Prelude.{◌≡◌, ◌++◌, ◌%◌, ◌==◌, map, flat_map, OnOk};
-ghost use Rattle.rams_narrow.specs.Narrow.{share};
-ghost use Rattle.net_extract.specs.Rams.{first_data_bit};
-ghost use Rattle.net_extract.specs.Fabric.{numbered};
-ghost use Rattle.net_extract.specs.Drivers.{ram_drives, read_data_rule};
+ghost use Rattle.narrow_words.specs.Narrow.{share};
+ghost use Rattle.fabric_model.specs.Rams.{first_data_bit};
+ghost use Rattle.fabric_model.specs.Fabric.{numbered};
+ghost use Rattle.fabric_model.specs.Drivers.{ram_drives, read_data_rule};
 ghost use Rattle.fabric_wiring.specs.Drives.{drive_of, rule_of};
 
 use crate::drive::{Drive, Rule};
 use crate::push::push_if;
-use net_extract::{Driver, RamCell, place_of};
+use fabric_model::{Driver, RamCell, place_of};
 use std::alloc::AllocError;
 
 /// The least port bit at which a mode has data.

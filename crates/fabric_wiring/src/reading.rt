@@ -1,10 +1,10 @@
 // Which classes of joined nets have a driver, and which classes each reads.
 ghost use Rattle.std.specs.Prelude.{◌≡◌, ℕ, ◌<◌, ◌≤◌, true, is_some, length, map, flat_map, option_to_list, [], if◌then◌else◌, IfOk, IfSome};
-ghost use Rattle.net_extract.specs.Fabric.{Fabric};
-ghost use Rattle.net_extract.specs.Drivers.{source_nets, nets_read};
+ghost use Rattle.fabric_model.specs.Fabric.{Fabric};
+ghost use Rattle.fabric_model.specs.Drivers.{source_nets, nets_read};
 ghost use Rattle.graph_order.specs.Wiring.{has};
 ghost use Rattle.graph_order.specs.Rows.{is_marked, row_at};
-ghost use Rattle.net_extract.specs.Links.{class_in};
+ghost use Rattle.fabric_model.specs.Links.{class_in};
 ghost use Rattle.fabric_wiring.specs.Drives.{rule_of};
 ghost use Rattle.fabric_wiring.specs.Parts.{ArePartsOf};
 ghost use Rattle.fabric_wiring.specs.DriverLists.{AreDriversOf, driver_in};
@@ -13,7 +13,7 @@ ghost use Rattle.fabric_wiring.specs.Wires.{AreWiresOf};
 
 use crate::wires_type::Wires;
 use crate::{Drive, Drivers, Parts, Rule};
-use net_extract::{Links, Register, Source};
+use fabric_model::{Links, LutSource, Register};
 use std::alloc::{AllocError, Global};
 
 /// Finds what the classes of joined nets of a fabric read. It gives each class, in ascending order, a mark, whether it has a driver, and a
@@ -86,7 +86,7 @@ fn row_of(alloc: Global, links: &Links, drive: Option<Drive>) -> Result<Vec<u32>
 }
 
 /// The classes of joined nets that a driver with that rule reads.
-#[tactic(auto, unfolding(net_extract::specs::Drivers::nets_read))]
+#[tactic(auto, unfolding(fabric_model::specs::Drivers::nets_read))]
 fn row_by(alloc: Global, links: &Links, rule: Rule) -> Result<Vec<u32>, AllocError>
     requires { (net : ℕ) → has (nets_read (rule_of rule)) net ≡ true → net < length links.now.classes }
     ensures { IfOk result (λ row. row.items ≡ classes_read links.now rule) }
@@ -107,10 +107,10 @@ fn classes_of_reset(
     links: &Links,
     register: &Register,
 ) -> Result<Vec<u32>, AllocError>
-    requires { (net : ℕ) → has (if register.now.at_once then option_to_list register.now.sr else []) net ≡ true → net < length links.now.classes }
-    ensures { IfOk result (λ row. row.items ≡ map (class_in links.now) (if register.now.at_once then option_to_list register.now.sr else [])) }
+    requires { (net : ℕ) → has (if register.now.is_async then option_to_list register.now.sr else []) net ≡ true → net < length links.now.classes }
+    ensures { IfOk result (λ row. row.items ≡ map (class_in links.now) (if register.now.is_async then option_to_list register.now.sr else [])) }
 {
-    if register.at_once {
+    if register.is_async {
         classes_of(alloc, links, &[register.sr])
     } else {
         Ok(Vec::new(alloc))
@@ -118,13 +118,17 @@ fn classes_of_reset(
 }
 
 /// The classes of joined nets that the inputs of a table read.
-fn classes_of_sources(alloc: Global, links: &Links, ins: &[Source]) -> Result<Vec<u32>, AllocError>
+fn classes_of_sources(
+    alloc: Global,
+    links: &Links,
+    ins: &[LutSource],
+) -> Result<Vec<u32>, AllocError>
     requires { (net : ℕ) → has (flat_map source_nets ins.now) net ≡ true → net < length links.now.classes }
     ensures { IfOk result (λ row. row.items ≡ map (class_in links.now) (flat_map source_nets ins.now)) }
 {
     let mut row = Vec::new(alloc);
     for source in ins {
-        if let Source::Net(Some(net)) = source {
+        if let LutSource::Net(Some(net)) = source {
             row.push(links.class_of(*net))?;
         }
     }

@@ -1,36 +1,36 @@
 // Registers, and what they drive.
 ghost use Rattle.std.specs.Prelude.{◌≡◌, ◌++◌, [], ◌∷◌, map, flat_map, filter, IfOk, OnOk, Some};
-ghost use Rattle.net_extract.specs.Fabric.{numbered};
-ghost use Rattle.net_extract.specs.Registers.{table_of, register_of, registers_of};
-ghost use Rattle.net_extract.specs.Drivers.{drives_by, flip_drives, pin_register_drives};
+ghost use Rattle.fabric_model.specs.Fabric.{numbered};
+ghost use Rattle.fabric_model.specs.Registers.{table_of, register_of, registers_of};
+ghost use Rattle.fabric_model.specs.Drivers.{drives_by, flip_drives, pin_register_drives};
 ghost use Rattle.fabric_wiring.specs.Drives.{drive_of};
 
 use crate::drive::{Drive, Rule};
 use crate::push::push_if;
-use net_extract::{
-    ClockUser, Driver, Lc, LutInputs, Register, Source, Table, inputs_read, place_of,
+use fabric_model::{
+    ClockUser, Driver, LogicCell, LutInputs, LutSource, LutTable, Register, inputs_read, place_of,
 };
 use std::alloc::{AllocError, Global};
 
 /// The LUT of a cell, with the inputs that it reads.
-pub(crate) fn table_of(inputs: LutInputs, lc: &Lc) -> Table
+pub(crate) fn table_of(inputs: LutInputs, lc: &LogicCell) -> LutTable
     ensures { result ≡ table_of inputs lc.now }
 {
     let ins = inputs_read(inputs, lc.lut, &lc.ins);
-    Table {
+    LutTable {
         word: lc.lut,
         ins: [
-            Source::Net(ins[0]),
-            Source::Net(ins[1]),
-            Source::Net(ins[2]),
-            Source::Net(ins[3]),
+            LutSource::Net(ins[0]),
+            LutSource::Net(ins[1]),
+            LutSource::Net(ins[2]),
+            LutSource::Net(ins[3]),
         ],
     }
 }
 
 /// The flip-flop of a cell.
-#[tactic(auto, unfolding(net_extract::specs::Registers::register_of))]
-fn register_of(inputs: LutInputs, lc: &Lc) -> Register
+#[tactic(auto, unfolding(fabric_model::specs::Registers::register_of))]
+fn register_of(inputs: LutInputs, lc: &LogicCell) -> Register
     ensures { result ≡ register_of inputs lc.now }
 {
     Register {
@@ -43,7 +43,7 @@ fn register_of(inputs: LutInputs, lc: &Lc) -> Register
         cen: lc.cen,
         sr: lc.sr,
         set: lc.set,
-        at_once: lc.at_once,
+        is_async: lc.is_async,
         table: table_of(inputs, lc),
     }
 }
@@ -52,11 +52,11 @@ fn register_of(inputs: LutInputs, lc: &Lc) -> Register
 ///
 /// # Errors
 /// `AllocError` if memory is out, and for no other cause.
-#[tactic(auto, unfolding(net_extract::specs::Registers::registers_of))]
+#[tactic(auto, unfolding(fabric_model::specs::Registers::registers_of))]
 pub fn registers_of(
     alloc: Global,
     inputs: LutInputs,
-    lcs: &[Lc],
+    lcs: &[LogicCell],
 ) -> Result<Vec<Register>, AllocError>
     ensures { IfOk result (λ registers. registers.items ≡ registers_of inputs lcs.now) }
 {
@@ -92,7 +92,7 @@ fn append_flip(drives: &mut Vec<Drive>, place: u32, register: &Register) -> Resu
     let (x, y) = (register.x, register.y);
     match register.user {
         ClockUser::Cell { i } => {
-            append_register(drives, Driver::Flip { x, y, i }, place, register)
+            append_register(drives, Driver::FlipFlop { x, y, i }, place, register)
         }
         _ => Ok(()),
     }

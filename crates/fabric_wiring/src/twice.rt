@@ -2,7 +2,7 @@
 ghost use Rattle.std.specs.Prelude.{◌≡◌};
 ghost use Rattle.fabric_wiring.specs.Passed.{lesser};
 
-use net_extract::Driver;
+use fabric_model::Driver;
 
 /// A class of joined nets with two drivers or more, and its first two drivers.
 #[derive(Clone, Copy)]

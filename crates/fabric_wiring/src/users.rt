@@ -1,10 +1,10 @@
 // Users of clocks whose clock comes from no pin.
 ghost use Rattle.std.specs.Prelude.{◌≡◌, ◌<◌, ◌&&◌, ◌||◌, ◌==◌, ◌∷◌, ◌++◌, [], List, All, nat_lt, length, flat_map, option_to_list};
-ghost use Rattle.net_extract.specs.Fabric.{Fabric};
-ghost use Rattle.net_extract.specs.Within.{IsNetIn};
-ghost use Rattle.net_extract.specs.Tiles.{first_of};
-ghost use Rattle.net_extract.specs.Faults.{clock_faults};
-ghost use Rattle.net_extract.specs.Links.{class_in};
+ghost use Rattle.fabric_model.specs.Fabric.{Fabric};
+ghost use Rattle.fabric_model.specs.Within.{IsNetIn};
+ghost use Rattle.fabric_model.specs.Tiles.{first_of};
+ghost use Rattle.fabric_model.specs.Faults.{clock_faults};
+ghost use Rattle.fabric_model.specs.Links.{class_in};
 ghost use Rattle.fabric_wiring.specs.Parts.{ArePartsOf};
 ghost use Rattle.fabric_wiring.specs.Ends.{end_in, AreEndsOf};
 ghost use Rattle.fabric_wiring.specs.Users.{fault_of};
@@ -12,7 +12,7 @@ ghost use Rattle.fabric_wiring.specs.First.{register_inputs, ram_inputs, is_othe
 
 use crate::Parts;
 use crate::ends::{ClockEnd, end_at};
-use net_extract::{ClockUser, Links, RamCell, Register};
+use fabric_model::{ClockUser, Links, RamCell, Register};
 use plane_map::DeviceName;
 
 /// A user of a clock at the tile at (x, y), and the net of its clock, which comes from another driver than a pin.

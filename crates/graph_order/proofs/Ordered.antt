@@ -3,8 +3,8 @@ use Rattle.std.proofs.Common.{◌≡◌, ℕ, zero, suc, ◌+◌, ◌<◌, ◌�
 use Rattle.std.specs.Prelude.{Option, Some, None}
 use Rattle.std.proofs.lemmas.Bool.{cases_lt, cases_Bool, false_from_ne_true, and_from, not-true}
 use Rattle.shared_lemmas.proofs.Tests.{first_true, second_true}
-use Rattle.place_search.specs.Places.{least_below}
-use Rattle.place_search.proofs.Found.{least_below-place, least_below-clear}
+use Rattle.index_search.specs.Places.{least_below}
+use Rattle.index_search.proofs.Found.{least_below-place, least_below-clear}
 use Rattle.graph_order.specs.Wiring.{Wiring, has, leads_below, is_on_cycle, IsReady, IsLeastReady, IsWriteOrder}
 use Rattle.graph_order.proofs.Cycles.{IsBounded, leads_below-then, leads_below-step}
 use Rattle.graph_order.proofs.OneOrder.{has-first, has-behind, has-cases, Continues, order-continues, continues-order}

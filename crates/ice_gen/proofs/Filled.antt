@@ -9,7 +9,7 @@ use Rattle.plane_map.specs.declared.tile.TileKind.TheVariants.{Logic, RamB}
 use Rattle.plane_map.proofs.Grids.{grid_width-le, kind_of-inside}
 use Rattle.plane_map.proofs.Layouts.{columns_at-in}
 use Rattle.plane_map.specs.declared.device.DeviceName.{DeviceName}
-use Rattle.plane_map.specs.declared.device.DeviceName.TheVariants.{L384, K1, K8}
+use Rattle.plane_map.specs.declared.device.DeviceName.TheVariants.{Lp384, Hx1k, Hx8k}
 use Rattle.plane_map.specs.declared.tile.TileBit.{TileBit}
 use Rattle.plane_map.specs.declared.tile.WordBit.{WordBit}
 use Rattle.ice_image.specs.Configuration.{Configuration, IsWhole, blank_image}
@@ -74,9 +74,9 @@ module _ (device : DeviceName) (seed : ℕ) (is_done is_next : Bit → Bool) whe
 -- a tile is narrow, and the grid small
 pub narrow : (device : DeviceName) (x y col : ℕ) → col < columns_at device x y → (col < 54) × (x < 34) × (y < 34)
 unfolding kind_of
-narrow L384 x y col is = grind (arith, nat_tests)
-narrow K1 x y col is = grind (arith, nat_tests)
-narrow K8 x y col is = grind (arith, nat_tests)
+narrow Lp384 x y col is = grind (arith, nat_tests)
+narrow Hx1k x y col is = grind (arith, nat_tests)
+narrow Hx8k x y col is = grind (arith, nat_tests)
 
 pub in-grid : (device : DeviceName) (bit : TileBit) → IsTileBit device bit → (bit.col < 54) × (bit.x < 34) × (bit.y < 34)
 in-grid device bit is = narrow device bit.x bit.y bit.col is.col_in
@@ -84,9 +84,9 @@ in-grid device bit is = narrow device bit.x bit.y bit.col is.col_in
 -- so is a RAM
 pub lower-narrow : (device : DeviceName) (x y : ℕ) → kind_of device x y ≡ Some RamB → (x < 34) × (y < 34)
 unfolding kind_of
-lower-narrow L384 x y is = grind (arith, nat_tests)
-lower-narrow K1 x y is = grind (arith, nat_tests)
-lower-narrow K8 x y is = grind (arith, nat_tests)
+lower-narrow Lp384 x y is = grind (arith, nat_tests)
+lower-narrow Hx1k x y is = grind (arith, nat_tests)
+lower-narrow Hx8k x y is = grind (arith, nat_tests)
 
 pub width-most : (device : DeviceName) (x y width : ℕ) → columns_at device x y ≡ width → width ≤ 54
 unfolding kind_of

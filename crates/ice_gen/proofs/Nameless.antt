@@ -3,12 +3,12 @@ use Rattle.std.proofs.Common.{◌≡◌, ◌≢◌, ℕ, ◌+◌, ◌-◌, ◌*�
 use Rattle.std.specs.Prelude.{nat_le, nat_lt, Option, Some, None}
 use Rattle.std.proofs.lemmas.Bool.Decides.{nat_tests}
 use Rattle.std.proofs.lemmas.Bool.{or_parts}
-use Rattle.place_search.specs.Places.{gathered_below}
-use Rattle.place_search.proofs.Places.{gathered_below-none}
+use Rattle.index_search.specs.Places.{gathered_below}
+use Rattle.index_search.proofs.Places.{gathered_below-none}
 use Rattle.plane_map.specs.Devices.{has_database}
 use Rattle.plane_map.specs.Layout.{kind_of, grid_width}
 use Rattle.plane_map.specs.declared.device.DeviceName.{DeviceName}
-use Rattle.plane_map.specs.declared.device.DeviceName.TheVariants.{L384, K1, K8}
+use Rattle.plane_map.specs.declared.device.DeviceName.TheVariants.{Lp384, Hx1k, Hx8k}
 use Rattle.plane_map.specs.declared.tile.TileKind.{TileKind}
 use Rattle.plane_map.specs.declared.tile.TileKind.TheVariants.{Io, Logic, RamB, RamT}
 use Rattle.ice_gen.specs.Numbers.{rams, logic_columns, cell_number, ram_number, clock_net, input_net, out_net, in_0_net, address_net, write_net, read_net, in_3_net, read_enable_net, write_enable_net, middle_net}
@@ -18,16 +18,16 @@ use Rattle.ice_gen.specs.Inside.{is_of_cells, is_shared, is_of_row, first_of_row
 -- a logic tile is one of its row
 logic-in : (device : DeviceName) (x y : ℕ) → has_database device ≡ true → kind_of device x y ≡ Some Logic → (first_of_row device y ≤ cell_number device x y 0) × (cell_number device x y 0 + 8 ≤ first_of_row device y + 8 * logic_columns device)
 unfolding kind_of
-logic-in L384 x y database is = absurd cc
-logic-in K1 x y database is = grind (arith, nat_tests)
-logic-in K8 x y database is = grind (arith, nat_tests)
+logic-in Lp384 x y database is = absurd cc
+logic-in Hx1k x y database is = grind (arith, nat_tests)
+logic-in Hx8k x y database is = grind (arith, nat_tests)
 
 -- the number of RAMs
 ram-in : (device : DeviceName) (x y : ℕ) → kind_of device x y ≡ Some RamB → ram_number device x y < rams device
 unfolding kind_of
-ram-in L384 x y is = grind (arith, nat_tests)
-ram-in K1 x y is = grind (arith, nat_tests)
-ram-in K8 x y is = grind (arith, nat_tests)
+ram-in Lp384 x y is = grind (arith, nat_tests)
+ram-in Hx1k x y is = grind (arith, nat_tests)
+ram-in Hx8k x y is = grind (arith, nat_tests)
 
 -- a net that is neither shared nor of a row, in numbers
 pub record IsElsewhere (device : DeviceName) (net y : ℕ) : Type 0 where

@@ -5,13 +5,13 @@ use Rattle.std.proofs.lemmas.Bool.{cases_eq}
 use Rattle.std.proofs.lemmas.Bool.Decides.{nat_tests}
 use Rattle.std.proofs.lemmas.Fmt.{length-decimal-le}
 use Rattle.std.proofs.lemmas.List.{map-append}
-use Rattle.place_search.specs.Places.{gathered_below}
+use Rattle.index_search.specs.Places.{gathered_below}
 use Rattle.text_lines.specs.Written.{text_of}
 use Rattle.asc_text.proofs.Pieces.{text_of-append, text_of-none, text_of-one}
 use Rattle.asc_text.specs.Canonical.{with_word, grid_line}
 use Rattle.plane_map.specs.Layout.{kind_of, grid_width, grid_height}
 use Rattle.plane_map.specs.declared.device.DeviceName.{DeviceName}
-use Rattle.plane_map.specs.declared.device.DeviceName.TheVariants.{L384, K1, K8}
+use Rattle.plane_map.specs.declared.device.DeviceName.TheVariants.{Lp384, Hx1k, Hx8k}
 use Rattle.plane_map.specs.declared.tile.TileKind.{TileKind}
 use Rattle.plane_map.specs.declared.tile.TileKind.TheVariants.{Io, Logic, RamB, RamT}
 use Rattle.plane_map.proofs.Grids.{grid_width-le, grid_height-le}
@@ -23,24 +23,24 @@ use Rattle.ice_gen.specs.Database.{bit_word, buffer_line, by_all_cells, by_cells
 -- ---- bounds
 
 in_0-small : (device : DeviceName) (j : ℕ) → j < 10000 → in_0_net device j < 1000000
-in_0-small L384 j few = omega arith
-in_0-small K1 j few = omega arith
-in_0-small K8 j few = omega arith
+in_0-small Lp384 j few = omega arith
+in_0-small Hx1k j few = omega arith
+in_0-small Hx8k j few = omega arith
 
 in_3-small : (device : DeviceName) (j : ℕ) → j < 10000 → in_3_net device j < 1000000
-in_3-small L384 j few = omega arith
-in_3-small K1 j few = omega arith
-in_3-small K8 j few = omega arith
+in_3-small Lp384 j few = omega arith
+in_3-small Hx1k j few = omega arith
+in_3-small Hx8k j few = omega arith
 
 read-small : (device : DeviceName) (j : ℕ) → j < 10000 → read_net device j 0 < 1000000
-read-small L384 j few = omega arith
-read-small K1 j few = omega arith
-read-small K8 j few = omega arith
+read-small Lp384 j few = omega arith
+read-small Hx1k j few = omega arith
+read-small Hx8k j few = omega arith
 
 cell-small : (device : DeviceName) (x y i : ℕ) → x < 34 → y < 34 → i < 8 → cell_number device x y i < 10000
-cell-small L384 x y i near low few = grind (arith, nat_tests)
-cell-small K1 x y i near low few = grind (arith, nat_tests)
-cell-small K8 x y i near low few = grind (arith, nat_tests)
+cell-small Lp384 x y i near low few = grind (arith, nat_tests)
+cell-small Hx1k x y i near low few = grind (arith, nat_tests)
+cell-small Hx8k x y i near low few = grind (arith, nat_tests)
 
 -- ---- sums
 
@@ -507,14 +507,14 @@ pin-length k small =
     word-behind (codes "IOB_0.PINTYPE_" ++ decimal k) (bit_word k 0) 20 15 (let digits = few-digits k (omega arith) in omega (arith, digits, length-append (codes "IOB_0.PINTYPE_") (decimal k))) (bit-length k 0 (omega arith) (omega arith))
 
 name-length : (device : DeviceName) → length (with_word device_keyword (device_word device)) ≤ 11
-name-length L384 = lit≤ tt
-name-length K1 = lit≤ tt
-name-length K8 = lit≤ tt
+name-length Lp384 = lit≤ tt
+name-length Hx1k = lit≤ tt
+name-length Hx8k = lit≤ tt
 
 nets-few : (device : DeviceName) → nets device < 20000
-nets-few L384 = lit< tt
-nets-few K1 = lit< tt
-nets-few K8 = lit< tt
+nets-few Lp384 = lit< tt
+nets-few Hx1k = lit< tt
+nets-few Hx8k = lit< tt
 
 device-length : (device : DeviceName) → length (device_line device) ≤ 32
 device-length device =
@@ -524,9 +524,9 @@ device-length device =
     word-behind (grid_line name (grid_width device) (grid_height device)) (decimal (nets device)) 25 6 (grid-length name (grid_width device) (grid_height device) 11 wide high (name-length device)) (few-digits (nets device) (omega (arith, nets-few device)))
 
 pad-length : (device : DeviceName) → length (pad_drive_line device) ≤ 40
-pad-length L384 = grid-length (with_word (codes "padin_glb_netwk.0") (decimal 0)) 180 79 26 (lit< tt) (lit< tt) (word-behind (codes "padin_glb_netwk.0") (decimal 0) 19 6 (lit≤ tt) (few-digits 0 (lit< tt)))
-pad-length K1 = grid-length (with_word (codes "padin_glb_netwk.0") (decimal 0)) 330 143 26 (lit< tt) (lit< tt) (word-behind (codes "padin_glb_netwk.0") (decimal 0) 19 6 (lit≤ tt) (few-digits 0 (lit< tt)))
-pad-length K8 = grid-length (with_word (codes "padin_glb_netwk.0") (decimal 0)) 870 271 26 (lit< tt) (lit< tt) (word-behind (codes "padin_glb_netwk.0") (decimal 0) 19 6 (lit≤ tt) (few-digits 0 (lit< tt)))
+pad-length Lp384 = grid-length (with_word (codes "padin_glb_netwk.0") (decimal 0)) 180 79 26 (lit< tt) (lit< tt) (word-behind (codes "padin_glb_netwk.0") (decimal 0) 19 6 (lit≤ tt) (few-digits 0 (lit< tt)))
+pad-length Hx1k = grid-length (with_word (codes "padin_glb_netwk.0") (decimal 0)) 330 143 26 (lit< tt) (lit< tt) (word-behind (codes "padin_glb_netwk.0") (decimal 0) 19 6 (lit≤ tt) (few-digits 0 (lit< tt)))
+pad-length Hx8k = grid-length (with_word (codes "padin_glb_netwk.0") (decimal 0)) 870 271 26 (lit< tt) (lit< tt) (word-behind (codes "padin_glb_netwk.0") (decimal 0) 19 6 (lit≤ tt) (few-digits 0 (lit< tt)))
 
 head-size : (device : DeviceName) → size (head_lines device) ≤ 5000
 unfolding head_lines
@@ -592,6 +592,6 @@ whole-size device =
 -- The text is short enough to be read as a database.
 pub database-size : (device : DeviceName) → length (generated_database device) ≤ 2 ^ 28
 unfolding generated_database
-database-size L384 = let whole = whole-size L384 in omega (arith, whole)
-database-size K1 = let whole = whole-size K1 in omega (arith, whole)
-database-size K8 = let whole = whole-size K8 in omega (arith, whole)
+database-size Lp384 = let whole = whole-size Lp384 in omega (arith, whole)
+database-size Hx1k = let whole = whole-size Hx1k in omega (arith, whole)
+database-size Hx8k = let whole = whole-size Hx8k in omega (arith, whole)

@@ -1,7 +1,7 @@
 -- Texts that are written part by part.
 use Rattle.std.proofs.Common.{◌≡◌, ℕ, List, [], ◌∷◌, ◌++◌, map, ap, sym, ◌∙◌, append_assoc, append-nil}
 use Rattle.std.proofs.lemmas.List.{map-append}
-use Rattle.place_search.proofs.Places.{gathered_below-more}
+use Rattle.index_search.proofs.Places.{gathered_below-more}
 use Rattle.text_lines.specs.Written.{text_of}
 use Rattle.asc_text.proofs.Pieces.{text_of-append, text_of-none, lines-joined}
 

@@ -1,6 +1,6 @@
 -- The events of the generated design; a seed fixes them.
 use Rattle.std.specs.Prelude.{ℕ, ◌+◌, ◌%◌, ◌^◌, List, [], ◌∷◌}
-use Rattle.place_search.specs.Places.{gathered_below}
+use Rattle.index_search.specs.Places.{gathered_below}
 use Rattle.ice_gen.specs.Draws.{draw, has_bit}
 use Rattle.ice_gen.specs.declared.event.PinEvent.{PinEvent}
 

@@ -1,7 +1,7 @@
 -- The image of the generated design: what each bit is; a seed fixes it. Draws are counted from 0: two for each logic cell, then one for
 -- each word of each RAM.
 use Rattle.std.specs.Prelude.{ℕ, ◌+◌, ◌-◌, ◌*◌, ◌/◌, ◌%◌, Bool, false, not, ◌&&◌, ◌||◌, slice_index, nat_le, nat_lt, ◌==◌, if◌then◌else◌, Option, None, Some}
-use Rattle.place_search.specs.Places.{any_below}
+use Rattle.index_search.specs.Places.{any_below}
 use Rattle.plane_map.specs.Layout.{standard_layout, kind_of}
 use Rattle.plane_map.specs.declared.device.DeviceName.{DeviceName}
 use Rattle.plane_map.specs.declared.tile.TileKind.{TileKind}
@@ -9,7 +9,7 @@ use Rattle.plane_map.specs.declared.tile.TileKind.TheVariants.{Io, Logic}
 use Rattle.ice_image.specs.Configuration.{Configuration, usual_settings}
 use Rattle.ice_image.specs.Owned.{is_same_place}
 use Rattle.ice_image.specs.Bits.{Bit, OfTile, OfWord, Extra, image_from}
-use Rattle.net_extract.specs.Cells.{entry_bits}
+use Rattle.fabric_model.specs.Cells.{entry_bits}
 use Rattle.ice_gen.specs.Draws.{draw, has_bit}
 use Rattle.ice_gen.specs.Numbers.{cells, rams, cell_number, ram_number}
 use Rattle.ice_gen.specs.Database.{pad_drive}

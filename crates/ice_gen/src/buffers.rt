@@ -1,6 +1,6 @@
 // The buffers.
 ghost use Rattle.std.specs.Prelude.{◌≡◌, ◌<◌, ◌^◌, [], ◌∷◌, ◌++◌, OnOk, decimal};
-ghost use Rattle.place_search.specs.Places.{gathered_below};
+ghost use Rattle.index_search.specs.Places.{gathered_below};
 ghost use Rattle.text_lines.specs.Written.{text_of};
 ghost use Rattle.plane_map.specs.Layout.{grid_height, grid_width, kind_of};
 ghost use Rattle.asc_text.specs.Canonical.{with_word};
@@ -23,7 +23,7 @@ pub(crate) enum Input {
 }
 
 /// Appends the buffers into an input of all cells.
-#[tactic(auto, using(crate::proofs::Texts::joined), unfolding(place_search::specs::Places::gathered_below))]
+#[tactic(auto, using(crate::proofs::Texts::joined), unfolding(index_search::specs::Places::gathered_below))]
 pub(crate) fn append_buffers(
     text: &mut Vec<u8>,
     device: DeviceName,
@@ -38,7 +38,7 @@ pub(crate) fn append_buffers(
 }
 
 /// Appends the buffers of one row of the grid.
-#[tactic(auto, using(crate::proofs::Texts::joined), unfolding(place_search::specs::Places::gathered_below))]
+#[tactic(auto, using(crate::proofs::Texts::joined), unfolding(index_search::specs::Places::gathered_below))]
 fn append_grid_row(
     text: &mut Vec<u8>,
     device: DeviceName,
@@ -74,7 +74,7 @@ fn append_place(
 }
 
 /// Appends the buffers of a logic tile.
-#[tactic(auto, using(crate::proofs::Texts::joined), unfolding(place_search::specs::Places::gathered_below))]
+#[tactic(auto, using(crate::proofs::Texts::joined), unfolding(index_search::specs::Places::gathered_below))]
 fn append_tile(
     text: &mut Vec<u8>,
     device: DeviceName,

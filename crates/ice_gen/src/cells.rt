@@ -2,7 +2,7 @@
 ghost use Rattle.std.specs.Prelude.{◌≡◌, ◌<◌, ◌+◌, ◌*◌, ◌/◌, ◌==◌, ◌&&◌, slice_index, Some};
 ghost use Rattle.plane_map.specs.Layout.{grid_height, grid_width, kind_of};
 ghost use Rattle.ice_image.specs.Either.{configuration_of, device_of};
-ghost use Rattle.net_extract.specs.Cells.{entry_bits};
+ghost use Rattle.fabric_model.specs.Cells.{entry_bits};
 ghost use Rattle.ice_gen.specs.Numbers.{cell_number as cell_number_of};
 ghost use Rattle.ice_gen.specs.Image.{is_entry, is_cell_bit as cell_bit_of, is_row_bit as row_bit_of};
 ghost use Rattle.ice_gen.specs.Inside.{FillsRow, IsFilled, is_tile_before, turn};
@@ -94,7 +94,7 @@ fn is_cell_bit(lut: u16, choice: u16, place: u8) -> bool
 }
 
 /// Whether entry `k` of a LUT is at that place among the twenty bits, and is 1.
-#[tactic(auto, unfolding(net_extract::specs::Cells::entry_bits))]
+#[tactic(auto, unfolding(fabric_model::specs::Cells::entry_bits))]
 fn is_entry_at(lut: u16, place: u8, k: usize) -> bool
     requires { k < 16 }
     ensures { result ≡ ((slice_index entry_bits k == place) && is_entry lut k) }

@@ -19,8 +19,8 @@ use std::alloc::{AllocError, Global};
 /// use ice_gen::{chipdb, image};
 /// use plane_map::DeviceName;
 ///
-/// let text = chipdb(alloc, DeviceName::K1)?; // bytes for `chipdb_reader::read`
-/// let made = image(alloc, DeviceName::K1, 7)?; // an `AnyImage`, by the seed 7
+/// let text = chipdb(alloc, DeviceName::Hx1k)?; // bytes for `chipdb_reader::read`
+/// let made = image(alloc, DeviceName::Hx1k, 7)?; // an `AnyImage`, by the seed 7
 /// ```
 pub fn chipdb(alloc: Global, device: DeviceName) -> Result<Vec<u8>, AllocError>
     requires { has_database device ≡ true }
@@ -51,7 +51,7 @@ fn usual_len(device: DeviceName) -> usize
     ensures { result ≤ 2 ^ 20 }
 {
     match device {
-        DeviceName::L384 | DeviceName::K1 => 1 << 18,
-        DeviceName::K8 => 1 << 20,
+        DeviceName::Lp384 | DeviceName::Hx1k => 1 << 18,
+        DeviceName::Hx8k => 1 << 20,
     }
 }

@@ -17,7 +17,7 @@ pub struct PinEvent {
 ///
 /// # Errors
 /// `AllocError` if memory is out, and for no other cause.
-#[tactic(auto, using(crate::proofs::Texts::joined), unfolding(place_search::specs::Places::gathered_below, crate::specs::Events::generated_events))]
+#[tactic(auto, using(crate::proofs::Texts::joined), unfolding(index_search::specs::Places::gathered_below, crate::specs::Events::generated_events))]
 pub fn events(alloc: Global, seed: u64, count: usize) -> Result<Vec<PinEvent>, AllocError>
     ensures { IfOk result (λ events. events.items ≡ generated_events seed count) }
 {

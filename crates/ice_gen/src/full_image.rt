@@ -24,7 +24,7 @@ use std::alloc::{AllocError, Global};
 /// use ice_gen::image;
 /// use plane_map::DeviceName;
 ///
-/// let made = image(alloc, DeviceName::K1, 7)?; // an `AnyImage`
+/// let made = image(alloc, DeviceName::Hx1k, 7)?; // an `AnyImage`
 /// let row = made.tile_row(1, 1, 0); // row 0 of the tile at (1, 1)
 /// ```
 pub fn image(alloc: Global, device: DeviceName, seed: u64) -> Result<AnyImage, AllocError>

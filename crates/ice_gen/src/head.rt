@@ -1,6 +1,6 @@
 // The lines before the nets.
 ghost use Rattle.std.specs.Prelude.{◌≡◌, [], ◌∷◌, ◌++◌, ◌<◌, OnOk, codes};
-ghost use Rattle.place_search.specs.Places.{gathered_below};
+ghost use Rattle.index_search.specs.Places.{gathered_below};
 ghost use Rattle.text_lines.specs.Written.{text_of};
 ghost use Rattle.plane_map.specs.DeviceWords.{device_word};
 ghost use Rattle.asc_text.specs.Statements.{device_keyword};
@@ -41,7 +41,7 @@ fn append_device(text: &mut Vec<u8>, device: DeviceName) -> Result<(), AllocErro
 }
 
 /// Appends the bits of PIN_TYPE of the first pin.
-#[tactic(auto, using(crate::proofs::Texts::joined), unfolding(place_search::specs::Places::gathered_below))]
+#[tactic(auto, using(crate::proofs::Texts::joined), unfolding(index_search::specs::Places::gathered_below))]
 fn append_pin_types(text: &mut Vec<u8>) -> Result<(), AllocError>
     ensures { OnOk result (text.new.items ≡ text.old.items ++ text_of (gathered_below 6 (λ k. pin_type_line k ∷ []))) }
 {
@@ -63,7 +63,7 @@ fn append_pin_type(text: &mut Vec<u8>, k: u32) -> Result<(), AllocError>
 }
 
 /// Appends the eight logic cells of a tile.
-#[tactic(auto, using(crate::proofs::Texts::joined), unfolding(place_search::specs::Places::gathered_below))]
+#[tactic(auto, using(crate::proofs::Texts::joined), unfolding(index_search::specs::Places::gathered_below))]
 fn append_cells(text: &mut Vec<u8>) -> Result<(), AllocError>
     ensures { OnOk result (text.new.items ≡ text.old.items ++ text_of (gathered_below 8 (λ i. cell_line i ∷ []))) }
 {
@@ -87,7 +87,7 @@ fn append_cell(text: &mut Vec<u8>, i: u32) -> Result<(), AllocError>
 }
 
 /// Appends the bits of a cell in one of its two rows.
-#[tactic(auto, using(crate::proofs::Texts::joined), unfolding(place_search::specs::Places::gathered_below))]
+#[tactic(auto, using(crate::proofs::Texts::joined), unfolding(index_search::specs::Places::gathered_below))]
 fn append_ten_bits(text: &mut Vec<u8>, row: u32) -> Result<(), AllocError>
     ensures { OnOk result (text.new.items ≡ text.old.items ++ ten_bits row) }
 {

@@ -1,7 +1,7 @@
 // The nets and their names.
 ghost use Rattle.plane_map.specs.Devices.{has_database};
 ghost use Rattle.std.specs.Prelude.{◌≡◌, ◌<◌, ◌≤◌, ◌+◌, ◌^◌, true, [], ◌∷◌, ◌++◌, OnOk, map, codes, decimal, nat_le, nat_lt, ◌-◌, ◌==◌, ◌&&◌, ◌||◌};
-ghost use Rattle.place_search.specs.Places.{gathered_below};
+ghost use Rattle.index_search.specs.Places.{gathered_below};
 ghost use Rattle.text_lines.specs.Written.{text_of};
 ghost use Rattle.plane_map.specs.Layout.{grid_height, grid_width, kind_of};
 ghost use Rattle.asc_text.specs.Canonical.{with_word};
@@ -18,7 +18,7 @@ use plane_map::{DeviceName, TileKind, kind_on};
 use std::alloc::AllocError;
 
 /// Appends all nets.
-#[tactic(auto, using(crate::proofs::Texts::joined), unfolding(place_search::specs::Places::gathered_below))]
+#[tactic(auto, using(crate::proofs::Texts::joined), unfolding(index_search::specs::Places::gathered_below))]
 pub(crate) fn append_nets(text: &mut Vec<u8>, device: DeviceName) -> Result<(), AllocError>
     requires { has_database device ≡ true }
     ensures { OnOk result (text.new.items ≡ text.old.items ++ text_of (gathered_below (nets_of device) (net_lines device))) }
@@ -30,7 +30,7 @@ pub(crate) fn append_nets(text: &mut Vec<u8>, device: DeviceName) -> Result<(), 
 }
 
 /// Appends a net and all its names.
-#[tactic(auto, using(crate::proofs::Texts::joined), unfolding(place_search::specs::Places::gathered_below, crate::specs::Database::net_lines))]
+#[tactic(auto, using(crate::proofs::Texts::joined), unfolding(index_search::specs::Places::gathered_below, crate::specs::Database::net_lines))]
 fn append_net(text: &mut Vec<u8>, device: DeviceName, net: u32) -> Result<(), AllocError>
     requires database { has_database device ≡ true }
     requires net { net < 2 ^ 20 }
@@ -68,7 +68,7 @@ fn append_row(text: &mut Vec<u8>, device: DeviceName, net: u32, y: u32) -> Resul
 }
 
 /// Appends the names that the tiles of a row of the grid give to a net, asking each tile.
-#[tactic(auto, using(crate::proofs::Texts::joined), unfolding(place_search::specs::Places::gathered_below))]
+#[tactic(auto, using(crate::proofs::Texts::joined), unfolding(index_search::specs::Places::gathered_below))]
 fn append_tiles(text: &mut Vec<u8>, device: DeviceName, net: u32, y: u32) -> Result<(), AllocError>
     requires row { y < grid_height device }
     requires net { net < 2 ^ 20 }
@@ -170,7 +170,7 @@ fn append_pin_names(
 }
 
 /// Appends the names that a logic tile gives.
-#[tactic(auto, using(crate::proofs::Texts::joined), unfolding(crate::specs::Database::logic_names, place_search::specs::Places::gathered_below))]
+#[tactic(auto, using(crate::proofs::Texts::joined), unfolding(crate::specs::Database::logic_names, index_search::specs::Places::gathered_below))]
 fn append_logic_names(
     text: &mut Vec<u8>,
     device: DeviceName,
@@ -219,7 +219,7 @@ fn is_of_tile(device: DeviceName, net: u32, x: u32, y: u32) -> bool
 }
 
 /// Appends the names that the cells of a tile give, asking each cell.
-#[tactic(auto, using(crate::proofs::Texts::joined), unfolding(place_search::specs::Places::gathered_below))]
+#[tactic(auto, using(crate::proofs::Texts::joined), unfolding(index_search::specs::Places::gathered_below))]
 fn append_each_cell(
     text: &mut Vec<u8>,
     device: DeviceName,

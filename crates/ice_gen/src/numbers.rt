@@ -34,9 +34,9 @@ fn ram_column(device: DeviceName) -> u32
     ensures { result ≡ ram_column_of device }
 {
     match device {
-        DeviceName::L384 => 0,
-        DeviceName::K1 => 3,
-        DeviceName::K8 => 8,
+        DeviceName::Lp384 => 0,
+        DeviceName::Hx1k => 3,
+        DeviceName::Hx8k => 8,
     }
 }
 

@@ -4,8 +4,8 @@ use Rattle.std.specs.Prelude.{nat_lt}
 use Rattle.std.proofs.lemmas.Bool.{cases_Bool, and_parts, and_from, both_ways, ltb-true, not-true}
 use Rattle.std.proofs.lemmas.Bool.Decides.{nat_tests}
 use Rattle.shared_lemmas.proofs.Tests.{same_test}
-use Rattle.place_search.specs.Places.{any_below}
-use Rattle.place_search.proofs.Places.{any_below-at, any_below-place}
+use Rattle.index_search.specs.Places.{any_below}
+use Rattle.index_search.proofs.Places.{any_below-at, any_below-place}
 use Rattle.bit_plane.specs.Rows.{Rows}
 use Rattle.plane_map.specs.Layout.{Layout, IsLayout, kind_of, grid_width, grid_height, columns_at, place_of, word_place_of, cram_width, cram_height, bram_width, bram_height, IsTileBit, IsWordBit, IsInCram}
 use Rattle.plane_map.specs.declared.tile.Place.{Place}

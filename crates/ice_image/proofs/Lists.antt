@@ -4,8 +4,8 @@ use Rattle.std.specs.List.{AllPairs}
 use Rattle.std.proofs.lemmas.Bool.{cases_lt}
 use Rattle.std.proofs.lemmas.List.{get_or_append_left, get_or-append_right}
 use Rattle.std.proofs.lemmas.List.Elements.{Contains-append_left, Contains-append_right, Contains-append_cases, Contains-get_or}
-use Rattle.place_search.proofs.Gathered.{gathered_below-place}
-use Rattle.place_search.specs.Places.{gathered_below}
+use Rattle.index_search.proofs.Gathered.{gathered_below-place}
+use Rattle.index_search.specs.Places.{gathered_below}
 
 -- ---- order
 

@@ -6,14 +6,14 @@ use Rattle.std.proofs.lemmas.Bool.{cases_lt, both_ways}
 use Rattle.std.proofs.lemmas.Bool.Decides.{nat_tests}
 use Rattle.std.proofs.lemmas.Nat.Bits.{bit_at_and, bit_at_not, bit_at_ones, bit_at-lt, bit_at-zero}
 use Rattle.shared_lemmas.proofs.Tests.{same_test}
-use Rattle.place_search.specs.Places.{gathered_below}
+use Rattle.index_search.specs.Places.{gathered_below}
 use Rattle.bit_plane.proofs.Words.{get_or-word_bits}
 use Rattle.bit_plane.specs.Rows.{Rows}
 use Rattle.plane_map.proofs.Layouts.{columns_at-in}
 use Rattle.plane_map.proofs.RowRuns.{column-mate}
 use Rattle.plane_map.specs.Layout.{Layout, IsLayout, columns_at, grid_width, cram_height, place_of, IsTileBit}
 use Rattle.plane_map.specs.declared.device.DeviceName.{DeviceName}
-use Rattle.plane_map.specs.declared.device.DeviceName.TheVariants.{L384, K1, K8}
+use Rattle.plane_map.specs.declared.device.DeviceName.TheVariants.{Lp384, Hx1k, Hx8k}
 use Rattle.plane_map.specs.declared.tile.Place.{Place}
 use Rattle.plane_map.specs.declared.tile.TileBit.{TileBit}
 use Rattle.ice_image.specs.Bits.{number_bit}
@@ -106,9 +106,9 @@ marked-more layout bank before now after so_far kept ends marks kept_then inner 
 
 -- planes have rows of inner tiles
 room : (device : DeviceName) → 16 < cram_height device
-room L384 = omega arith
-room K1 = omega arith
-room K8 = omega arith
+room Lp384 = omega arith
+room Hx1k = omega arith
+room Hx8k = omega arith
 
 -- both rows with marks are in the planes
 pub marks-in : (device : DeviceName) (py marks : ℕ) → marks ≡ (if nat_lt py 16 then 0 else 16) → marks < cram_height device

@@ -3,8 +3,8 @@ use Rattle.std.proofs.Common.{◌≡◌, ℕ, ◌<◌, Bool, true, false, not, �
 use Rattle.std.specs.Prelude.{if◌then◌else◌}
 use Rattle.std.specs.List.{AllPairs}
 use Rattle.std.proofs.lemmas.Bool.{and_parts, not-true}
-use Rattle.place_search.proofs.Gathered.{gathered_below-place, Contains-gathered_below}
-use Rattle.place_search.specs.Places.{gathered_below}
+use Rattle.index_search.proofs.Gathered.{gathered_below-place, Contains-gathered_below}
+use Rattle.index_search.specs.Places.{gathered_below}
 use Rattle.plane_map.specs.Layout.{cram_width, cram_height}
 use Rattle.plane_map.specs.declared.tile.Place.{Place}
 use Rattle.ice_image.specs.Configuration.{Configuration, place_bit}

@@ -2,7 +2,7 @@
 -- is given by them, its layout, its comment and its settings. Extra bits are the statement `.extra_bit` of Project IceStorm,
 -- 'iCE40 ASCII format'.
 use Rattle.std.specs.Prelude.{◌≡◌, ℕ, ◌/◌, ◌%◌, ◌^◌, ◌==◌, Bool, true, false, not, ◌&&◌, ◌||◌, List, [], ◌∷◌, map, if◌then◌else◌, Option, Some}
-use Rattle.place_search.specs.Places.{any_below, gathered_below}
+use Rattle.index_search.specs.Places.{any_below, gathered_below}
 use Rattle.bit_plane.specs.BitList.{word_of}
 use Rattle.bit_plane.specs.Rows.{Rows, row_from, rows_from}
 use Rattle.plane_map.specs.Layout.{Layout, kind_of, grid_width, grid_height, columns_at, place_of, word_place_of, cram_width, cram_height, bram_width, bram_height, IsTileBit, IsWordBit}

@@ -1,6 +1,6 @@
 -- Places of the configuration planes that belong to no tile.
 use Rattle.std.specs.Prelude.{Bool, not, ◌&&◌, nat_lt, ◌==◌}
-use Rattle.place_search.specs.Places.{any_below}
+use Rattle.index_search.specs.Places.{any_below}
 use Rattle.plane_map.specs.Layout.{Layout, grid_width, grid_height, columns_at, cram_width, cram_height}
 use Rattle.plane_map.specs.declared.tile.Place.{Place}
 use Rattle.ice_image.specs.Contents.{tile_place}

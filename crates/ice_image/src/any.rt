@@ -26,9 +26,9 @@ use std::alloc::{AllocError, Global};
 macro_rules! with_image {
     ($any:expr, |$image:ident| $given:expr) => {
         match $any {
-            AnyImage::L384($image) => $given,
-            AnyImage::K1($image) => $given,
-            AnyImage::K8($image) => $given,
+            AnyImage::Lp384($image) => $given,
+            AnyImage::Hx1k($image) => $given,
+            AnyImage::Hx8k($image) => $given,
         }
     };
 }
@@ -36,9 +36,9 @@ macro_rules! with_image {
 /// An image for one of the devices.
 #[derive(Drop)]
 pub enum AnyImage {
-    L384(Image<Lp384>),
-    K1(Image<Hx1k>),
-    K8(Image<Hx8k>),
+    Lp384(Image<Lp384>),
+    Hx1k(Image<Hx1k>),
+    Hx8k(Image<Hx8k>),
 }
 
 impl AnyImage {
@@ -61,9 +61,9 @@ impl AnyImage {
         ensures { IfOk result (λ image. configuration_of image ≡ blank_image layout) }
     {
         Ok(match layout.device() {
-            DeviceName::L384 => AnyImage::L384(Image::zeroed_with(alloc, layout)?),
-            DeviceName::K1 => AnyImage::K1(Image::zeroed_with(alloc, layout)?),
-            DeviceName::K8 => AnyImage::K8(Image::zeroed_with(alloc, layout)?),
+            DeviceName::Lp384 => AnyImage::Lp384(Image::zeroed_with(alloc, layout)?),
+            DeviceName::Hx1k => AnyImage::Hx1k(Image::zeroed_with(alloc, layout)?),
+            DeviceName::Hx8k => AnyImage::Hx8k(Image::zeroed_with(alloc, layout)?),
         })
     }
 

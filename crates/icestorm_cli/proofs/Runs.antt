@@ -8,11 +8,11 @@ use Rattle.vlog_module.specs.Parts.{Parts}
 use Rattle.vlog_forms.specs.Items.{IsSpelling}
 use Rattle.vlog_forms.specs.Outcome.{outcome_of}
 use Rattle.vlog_forms.proofs.Spelled.{outcome-spelled}
-use Rattle.vlog_cycle.specs.declared.event.EventFault.{EventFault}
-use Rattle.vlog_cycle.specs.Events.{event_fault, events_of}
-use Rattle.vlog_cycle.specs.Text.{run_text}
-use Rattle.net_extract.specs.Fabric.{fabric_with, fabric_of}
-use Rattle.net_extract.specs.Steps.{Entry, IsRun}
+use Rattle.vlog_run.specs.declared.event.EventFault.{EventFault}
+use Rattle.vlog_run.specs.Events.{event_fault, events_of}
+use Rattle.vlog_run.specs.Text.{run_text}
+use Rattle.fabric_model.specs.Fabric.{fabric_with, fabric_of}
+use Rattle.fabric_model.specs.Steps.{Entry, IsRun}
 use Rattle.fabric_module.specs.Names.{output_name, port_name}
 use Rattle.fabric_module.specs.Written.{module_of, pin_ports}
 use Rattle.fabric_module.proofs.Design.{design-is-module}
@@ -21,16 +21,16 @@ use Rattle.port_names.specs.Named.{named_module, named_output, named_port}
 use Rattle.port_names.proofs.IsFabric.{named-is-fabric}
 use Rattle.tool_run.specs.Runs.{Does, Outside, Scene}
 use Rattle.tool_run.specs.Tasks.{Done, Task, usage_error}
-use Rattle.tool_parts.specs.Commands.{is_taken}
-use Rattle.tool_parts.specs.Outcomes.{asked}
-use Rattle.tool_parts.proofs.Appended.{helped-kept}
-use Rattle.tool_parts.proofs.CommandLines.{helped-no}
+use Rattle.tool_inputs.specs.Commands.{is_taken}
+use Rattle.tool_inputs.specs.Outcomes.{asked}
+use Rattle.tool_inputs.proofs.Appended.{helped-kept}
+use Rattle.tool_inputs.proofs.CommandLines.{helped-no}
 use Rattle.module_tools.specs.declared.request.TheConstants.{VLOGRUN_HELP}
 use Rattle.module_tools.specs.declared.told.Told.{Told}
 use Rattle.module_tools.specs.declared.told.Told.TheVariants.{Lines}
 use Rattle.module_tools.specs.Vlogrun.{run_of, run_over, told_by, vlogrun, vlogrun_answer, vlogrun_command, vlogrun_name, vlogrun_outcome, vlogrun_task_by, vlogrun_task_of, vlogrun_usage}
-use Rattle.design_parts.specs.Lines.{fabric_events, fabric_text}
-use Rattle.design_parts.proofs.Lines.{run-shown}
+use Rattle.design_answers.specs.Lines.{fabric_events, fabric_text}
+use Rattle.design_answers.proofs.Lines.{run-shown}
 use Rattle.icestorm_cli.specs.Runs.{IsModuleOf, PromisesRun, RunsFabric, ports_with, shows_registers, tells_waves}
 
 -- ---- the lines

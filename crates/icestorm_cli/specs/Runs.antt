@@ -7,9 +7,9 @@ use Rattle.vlog_module.specs.declared.modules.Port.{Port}
 use Rattle.vlog_module.specs.Parts.{Parts}
 use Rattle.vlog_module.specs.Names.{IsName}
 use Rattle.vlog_forms.specs.Items.{IsSpelling}
-use Rattle.net_extract.specs.declared.pin.Pin.{Pin}
-use Rattle.net_extract.specs.Fabric.{Fabric, fabric_with, fabric_of}
-use Rattle.net_extract.specs.Steps.{Entry, IsRun}
+use Rattle.fabric_model.specs.declared.pin.Pin.{Pin}
+use Rattle.fabric_model.specs.Fabric.{Fabric, fabric_with, fabric_of}
+use Rattle.fabric_model.specs.Steps.{Entry, IsRun}
 use Rattle.fabric.specs.Kept.{Kept}
 use Rattle.fabric.specs.Design.{IsDesignOf}
 use Rattle.fabric_module.specs.Written.{module_of, pin_ports}
@@ -17,10 +17,10 @@ use Rattle.pin_file.specs.declared.pin_name.PinName.{PinName}
 use Rattle.port_names.specs.Named.{AreAccepted, named_module, named_ports}
 use Rattle.tool_run.specs.Runs.{Outside, Scene}
 use Rattle.tool_run.specs.Tasks.{asks_for_help}
-use Rattle.tool_parts.specs.Appended.{AppendsFor}
-use Rattle.tool_parts.specs.Commands.{has_flag}
+use Rattle.tool_inputs.specs.Appended.{AppendsFor}
+use Rattle.tool_inputs.specs.Commands.{has_flag}
 use Rattle.module_tools.specs.Vlogrun.{vlogrun_command, vlogrun_outcome}
-use Rattle.design_parts.specs.Lines.{fabric_events, fabric_text}
+use Rattle.design_answers.specs.Lines.{fabric_events, fabric_text}
 
 -- the ports of a design's module, which have the names of a pin file, or their own
 abbrev pub ports_with : Option (List PinName) → List Pin → List Port

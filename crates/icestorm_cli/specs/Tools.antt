@@ -11,7 +11,7 @@ use Rattle.fabric_tools.specs.Stat.{stat_outcome}
 use Rattle.module_tools.specs.Vlogrun.{vlogrun_outcome}
 use Rattle.module_tools.specs.Vlogsweep.{vlogsweep_outcome}
 use Rattle.design_tools.specs.Vlog.{vlog_outcome}
-use Rattle.job_tools.specs.Selfrun.{IsSelfrunAnswer, selfrun_outcome}
+use Rattle.selfrun_tool.specs.Selfrun.{IsSelfrunAnswer, selfrun_outcome}
 use Rattle.icestorm_cli.specs.declared.tool.Tool.{Tool}
 use Rattle.icestorm_cli.specs.declared.tool.Tool.TheVariants.{Icepack, Iceunpack, Icemulti, Icesplit, Icebram, IceboxExplain, IceboxStat, IceboxVlog, Vlogrun, Vlogsweep, Selfrun}
 use Rattle.icestorm_cli.specs.declared.tool.TheConstants.{HELP, VERSION}

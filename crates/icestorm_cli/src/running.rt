@@ -4,8 +4,8 @@ ghost use Rattle.tool_run.specs.AtOnce.{at_once_answer};
 ghost use Rattle.tool_run.specs.Runs.{Does};
 ghost use Rattle.tool_run.specs.Tasks.{Task, at_once};
 ghost use Rattle.design_tools.specs.Fabric.{PromisesFabric};
-ghost use Rattle.net_extract.specs.Unique.{ExactlyOne};
-ghost use Rattle.job_tools.specs.Selfrun.{IsSelfrunAnswer};
+ghost use Rattle.fabric_model.specs.Unique.{ExactlyOne};
+ghost use Rattle.selfrun_tool.specs.Selfrun.{IsSelfrunAnswer};
 ghost use Rattle.icestorm_cli.specs.Runs.{PromisesRun};
 ghost use Rattle.icestorm_cli.specs.Tools.{IsOutcome, other_outcome, own_outcome, program_name, tool_of};
 
@@ -13,8 +13,8 @@ use crate::tool::{HELP, Tool, VERSION, tool_of};
 use bitstream_tools::{run_icebram, run_icemulti, run_icepack, run_icesplit, run_iceunpack};
 use design_tools::run_icebox_vlog;
 use fabric_tools::{run_icebox_explain, run_icebox_stat};
-use job_tools::run_selfrun;
 use module_tools::{run_vlogrun, run_vlogsweep};
+use selfrun_tool::run_selfrun;
 use std::alloc::Global;
 use tool_run::{AtOnce, Host};
 

@@ -5,8 +5,8 @@ use Rattle.std.proofs.lemmas.Bool.{and_parts, eqb-true, leb-true, ltb-true, not-
 use Rattle.std.proofs.lemmas.List.Elements.{All-nil, All-cons, All-from_get_or}
 use Rattle.std.proofs.Math.Seq.{take-append_seam}
 use Rattle.plane_map.proofs.Layouts.{cram_width-below}
-use Rattle.place_search.specs.Places.{or_else}
-use Rattle.place_search.proofs.Found.{or_else-first, or_else-other}
+use Rattle.index_search.specs.Places.{or_else}
+use Rattle.index_search.proofs.Found.{or_else-first, or_else-other}
 use Rattle.plane_map.specs.declared.device.DeviceName.{DeviceName}
 use Rattle.plane_map.specs.Layout.{are_below, are_distinct, are_places, are_wide, are_widths, cram_width, half_width, start_in}
 use Rattle.layout_file.specs.declared.field.Numbers.{Numbers}

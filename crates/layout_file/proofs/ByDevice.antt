@@ -2,16 +2,16 @@
 use Rattle.std.proofs.Common.{◌≡◌, ℕ, List, length, refl, ap, ◌∙◌}
 use Rattle.text_lines.specs.Lines.{lines_of}
 use Rattle.plane_map.specs.declared.device.DeviceName.{DeviceName}
-use Rattle.plane_map.specs.declared.device.DeviceName.TheVariants.{L384, K1, K8}
+use Rattle.plane_map.specs.declared.device.DeviceName.TheVariants.{Lp384, Hx1k, Hx8k}
 use Rattle.plane_map.specs.Layout.{Layout, standard_layout}
 use Rattle.layout_file.specs.declared.layouts.Layouts.{Layouts}
 use Rattle.layout_file.specs.Layouts.{AreLayouts, layout_before, layout_for, layouts_by, layouts_in, standard_layouts}
 
 -- the layout of a device
 pub layout-by : (layout : DeviceName → Layout) (device : DeviceName) → layout_for (layouts_by layout) device ≡ layout device
-layout-by layout L384 = refl
-layout-by layout K1 = refl
-layout-by layout K8 = refl
+layout-by layout Lp384 = refl
+layout-by layout Hx1k = refl
+layout-by layout Hx8k = refl
 
 -- layouts that are each one of its device
 pub are-layouts : (layout : DeviceName → Layout) → ((device : DeviceName) → (layout device).device ≡ device) → AreLayouts (layouts_by layout)

@@ -4,9 +4,9 @@ use Rattle.std.specs.Prelude.{Option, Some, None}
 use Rattle.std.proofs.lemmas.Bool.{cases_eq}
 use Rattle.shared_lemmas.proofs.Cuts.{drop_end}
 use Rattle.text_lines.specs.Lines.{lines_of, line_at}
-use Rattle.place_search.specs.Places.{first_below}
+use Rattle.index_search.specs.Places.{first_below}
 use Rattle.layout_file.specs.declared.fault.LayoutFault.{LayoutFault}
-use Rattle.layout_file.specs.declared.reader.Reader.{Reader}
+use Rattle.layout_file.specs.declared.reader.SectionReader.{SectionReader}
 use Rattle.layout_file.specs.Lines.{line_of}
 use Rattle.layout_file.specs.Faults.{cause_of, fault_at, fault_with, layout_fault_of, said_at}
 use Rattle.layout_file.specs.Layouts.{layouts_in}
@@ -23,21 +23,21 @@ pub cut-end : (lines : List (List ℕ)) (k : ℕ) (left : List ℕ) → left ≡
 cut-end lines k left none is within = drop_end lines k (none-left left (drop k lines) none is) within
 
 -- the cause of a line is why the reader refuses it
-cause-is : (lines : List (List ℕ)) (k : ℕ) (line : List ℕ) (reader : Reader) → line_at lines k ≡ line → reader ≡ reader_before lines k
+cause-is : (lines : List (List ℕ)) (k : ℕ) (line : List ℕ) (reader : SectionReader) → line_at lines k ≡ line → reader ≡ reader_before lines k
     → cause_of lines k (said_at lines k) ≡ refusal reader (line_of line)
 cause-is lines k line reader at read =
     rw (at, read) (sym (refusal-is lines k (line_of line)))
 
 -- the reader after a line that it took
-pub read-next : (lines : List (List ℕ)) (k : ℕ) (line : List ℕ) (reader next : Reader) → line_at lines k ≡ line → reader ≡ reader_before lines k
+pub read-next : (lines : List (List ℕ)) (k : ℕ) (line : List ℕ) (reader next : SectionReader) → line_at lines k ≡ line → reader ≡ reader_before lines k
     → refusal reader (line_of line) ≡ None → next ≡ taken reader (line_of line) → next ≡ reader_before lines (k + 1)
 read-next lines k line reader next at read none takes =
     let said : said_at lines k ≡ line_of line = ap line_of at in
     let fits : cause_of lines k (line_of line) ≡ None = rw said at (cause-is lines k line reader at read ∙ none) in
-    takes ∙ ap (λ (r : Reader). taken r (line_of line)) read ∙ sym (rw add-one (reader-next lines k (line_of line) said fits))
+    takes ∙ ap (λ (r : SectionReader). taken r (line_of line)) read ∙ sym (rw add-one (reader-next lines k (line_of line) said fits))
 
 -- and there is no fault yet
-pub fit-next : (lines : List (List ℕ)) (k : ℕ) (line : List ℕ) (reader : Reader) → line_at lines k ≡ line → reader ≡ reader_before lines k
+pub fit-next : (lines : List (List ℕ)) (k : ℕ) (line : List ℕ) (reader : SectionReader) → line_at lines k ≡ line → reader ≡ reader_before lines k
     → refusal reader (line_of line) ≡ None → first_below k (fault_at lines) ≡ None → first_below (k + 1) (fault_at lines) ≡ None
 unfolding first_below
 fit-next lines k line reader at read none fit =
@@ -58,7 +58,7 @@ first-stays (suc n) k given value below none here =
     ]
 
 -- a line that is refused is the first faulty one
-pub refused : (text : List ℕ) (k : ℕ) (line : List ℕ) (reader : Reader) (fault : LayoutFault) → k < length (lines_of text)
+pub refused : (text : List ℕ) (k : ℕ) (line : List ℕ) (reader : SectionReader) (fault : LayoutFault) → k < length (lines_of text)
     → line_at (lines_of text) k ≡ line → reader ≡ reader_before (lines_of text) k
     → first_below k (fault_at (lines_of text)) ≡ None → fault_with (k + 1) (refusal reader (line_of line)) ≡ Some fault
     → layout_fault_of text ≡ Some fault
@@ -73,7 +73,7 @@ unfolding layout_fault_of
 accepted text k all fit = subst (λ n. first_below n (fault_at (lines_of text)) ≡ None) all fit
 
 -- and the reader has the layouts of the text
-pub answered : (text : List ℕ) (k : ℕ) (reader : Reader) → k ≡ length (lines_of text) → reader ≡ reader_before (lines_of text) k
+pub answered : (text : List ℕ) (k : ℕ) (reader : SectionReader) → k ≡ length (lines_of text) → reader ≡ reader_before (lines_of text) k
     → layouts_of reader ≡ layouts_in text
 unfolding layouts_in
 answered text k reader all read = rw (read, all) refl

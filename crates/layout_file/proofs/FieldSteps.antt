@@ -2,8 +2,8 @@
 use Rattle.std.proofs.Common.{◌≡◌, ℕ, suc, Bool, true, false, List, refl, sym, ap, ◌∙◌}
 use Rattle.std.specs.Prelude.{Option, Some, None, is_some, not, length, ◌==◌}
 use Rattle.shared_lemmas.proofs.Options.{none_from_is_some}
-use Rattle.place_search.specs.Places.{first_below, last_below, or_else}
-use Rattle.place_search.proofs.Found.{or_else-first, or_else-other}
+use Rattle.index_search.specs.Places.{first_below, last_below, or_else}
+use Rattle.index_search.proofs.Found.{or_else-first, or_else-other}
 use Rattle.plane_map.specs.declared.device.DeviceName.{DeviceName}
 use Rattle.plane_map.specs.DeviceWords.{device_named}
 use Rattle.plane_map.proofs.Devices.{same-device}
@@ -13,7 +13,7 @@ use Rattle.layout_file.specs.declared.field.Flag.{Flag}
 use Rattle.layout_file.specs.declared.field.Flag.TheVariants.{Mirror, Flip, PadMirror, RamFlip}
 use Rattle.layout_file.specs.declared.fault.LayoutCause.TheVariants.{Statement, Repeated}
 use Rattle.layout_file.specs.declared.section.Section.{Section as Part}
-use Rattle.layout_file.specs.declared.reader.Reader.{Reader}
+use Rattle.layout_file.specs.declared.reader.SectionReader.{SectionReader}
 use Rattle.layout_file.specs.Lines.{Line, Passed, Section, List_of, Flag_of, Unknown}
 use Rattle.layout_file.specs.Faults.{said_at, is_section, device_in, section_before, is_device, is_numbers, is_flag, numbers_in, flag_in, numbers_given, flag_given, numbers_before, flag_before, cause_if, cause_of, count_of, numbers_cause, section_cause, list_cause, flag_cause}
 use Rattle.layout_file.specs.inside.Reading.{begun_with, reader_of, section_for, taken, with_flag, with_flag_at, with_list_at, with_numbers, with_section}
@@ -239,7 +239,7 @@ step-section lines n word (Some device) said named none =
     let begins : part_before lines (suc n) device ≡ record (section_for (reader_of before current) device) { begun = true } =
     part-begun lines n device (nothing device) (ap (is_device device) in_line ∙ same-device device)
     ∙ ap (λ (part : Part). record part { begun = true }) (sym (section-of before current device)) in
-    ap (λ (reader : Reader). record reader { current = section_before lines (suc n) })
+    ap (λ (reader : SectionReader). record reader { current = section_before lines (suc n) })
     (other-section before (part_before lines (suc n)) current current device (record (section_for (reader_of before current) device) { begun = true }) begins
     (λ other differs. part-kept lines n other (nothing other) (ap (is_device other) in_line ∙ differs)) refl)
     ∙ ap (λ (now : Option DeviceName). record (with_section (reader_of before current) device (record (section_for (reader_of before current) device) { begun = true })) { current = now })

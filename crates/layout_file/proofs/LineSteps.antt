@@ -2,10 +2,10 @@
 use Rattle.std.proofs.Common.{◌≡◌, ℕ, suc, Bool, true, false, List, refl, ap, ◌∙◌}
 use Rattle.std.specs.Prelude.{Option, Some, None, is_some, if◌then◌else◌}
 use Rattle.std.proofs.Math.Bool.{or-false, or-true}
-use Rattle.place_search.specs.Places.{any_below, first_below, last_below, or_else}
-use Rattle.place_search.proofs.Places.{or_else-none}
+use Rattle.index_search.specs.Places.{any_below, first_below, last_below, or_else}
+use Rattle.index_search.proofs.Places.{or_else-none}
 use Rattle.plane_map.specs.declared.device.DeviceName.{DeviceName}
-use Rattle.plane_map.specs.declared.device.DeviceName.TheVariants.{L384, K1, K8}
+use Rattle.plane_map.specs.declared.device.DeviceName.TheVariants.{Lp384, Hx1k, Hx8k}
 use Rattle.plane_map.specs.Devices.{is_same_device}
 use Rattle.plane_map.specs.DeviceWords.{device_named}
 use Rattle.layout_file.specs.declared.field.Numbers.{Numbers}
@@ -15,7 +15,7 @@ use Rattle.layout_file.specs.declared.field.Flag.TheVariants.{Mirror, Flip, PadM
 use Rattle.layout_file.specs.declared.fault.LayoutCause.TheVariants.{Repeated}
 use Rattle.layout_file.specs.declared.section.Given.{Given}
 use Rattle.layout_file.specs.declared.section.Section.{Section as Part}
-use Rattle.layout_file.specs.declared.reader.Reader.{Reader}
+use Rattle.layout_file.specs.declared.reader.SectionReader.{SectionReader}
 use Rattle.layout_file.specs.Lines.{Line, Passed, Section, List_of, Flag_of, Unknown}
 use Rattle.layout_file.specs.Faults.{said_at, is_section, device_in, section_before, has_section, is_device, numbers_in, flag_in, numbers_given, flag_given, numbers_before, flag_before, cause_if, cause_of, section_cause, list_cause, flag_cause}
 use Rattle.layout_file.specs.Layouts.{layout_before}
@@ -39,7 +39,7 @@ given_before lines n device = record {
 abbrev pub part_before : List (List ℕ) → ℕ → DeviceName → Part
 part_before lines n device = record { layout = layout_before lines n device; begun = has_section lines n device; given = given_before lines n device }
 
-abbrev pub reader_before : List (List ℕ) → ℕ → Reader
+abbrev pub reader_before : List (List ℕ) → ℕ → SectionReader
 reader_before lines n = reader_of (part_before lines n) (section_before lines n)
 
 -- before the first line
@@ -51,22 +51,22 @@ reader-first lines = refl
 
 -- that of a device
 pub section-of : (section : DeviceName → Part) (current : Option DeviceName) (device : DeviceName) → section_for (reader_of section current) device ≡ section device
-section-of section current L384 = refl
-section-of section current K1 = refl
-section-of section current K8 = refl
+section-of section current Lp384 = refl
+section-of section current Hx1k = refl
+section-of section current Hx8k = refl
 
 -- readers with the same sections
 pub same-sections : (before after : DeviceName → Part) (current now : Option DeviceName)
     → ((device : DeviceName) → after device ≡ before device) → now ≡ current → reader_of after now ≡ reader_of before current
-same-sections before after current now kept is = rw (kept L384, kept K1, kept K8, is) refl
+same-sections before after current now kept is = rw (kept Lp384, kept Hx1k, kept Hx8k, is) refl
 
 -- readers whose sections differ at one device
 pub other-section : (before after : DeviceName → Part) (current now : Option DeviceName) (device : DeviceName) (part : Part)
     → after device ≡ part → ((other : DeviceName) → is_same_device other device ≡ false → after other ≡ before other) → now ≡ current
     → reader_of after now ≡ with_section (reader_of before current) device part
-other-section before after current now L384 part here kept is = rw (here, kept K1 refl, kept K8 refl, is) refl
-other-section before after current now K1 part here kept is = rw (here, kept L384 refl, kept K8 refl, is) refl
-other-section before after current now K8 part here kept is = rw (here, kept L384 refl, kept K1 refl, is) refl
+other-section before after current now Lp384 part here kept is = rw (here, kept Hx1k refl, kept Hx8k refl, is) refl
+other-section before after current now Hx1k part here kept is = rw (here, kept Lp384 refl, kept Hx8k refl, is) refl
+other-section before after current now Hx8k part here kept is = rw (here, kept Lp384 refl, kept Hx1k refl, is) refl
 
 -- ---- a refusal is the cause of the line
 

@@ -3,9 +3,9 @@ use Rattle.std.proofs.Common.{◌≡◌, ℕ, true, false, [], ◌∷◌, refl}
 use Rattle.std.specs.Prelude.{codes, Option, Some, None}
 use Rattle.text_lines.specs.Lines.{lines_of, trimmed}
 use Rattle.text_lines.specs.Words.{words_of, pieces_of, numbers_of, number_of}
-use Rattle.place_search.specs.Places.{any_below, first_below, last_below}
+use Rattle.index_search.specs.Places.{any_below, first_below, last_below}
 use Rattle.plane_map.specs.Layout.{start_in, standard_layout}
-use Rattle.plane_map.specs.declared.device.DeviceName.TheVariants.{L384, K1, K8}
+use Rattle.plane_map.specs.declared.device.DeviceName.TheVariants.{Lp384, Hx1k, Hx8k}
 use Rattle.layout_file.specs.declared.fault.LayoutFault.{LayoutFault}
 use Rattle.layout_file.specs.declared.fault.LayoutCause.{LayoutCause}
 use Rattle.layout_file.specs.declared.fault.LayoutCause.TheVariants.{Statement, Device, Repeated, Width, Place}
@@ -104,13 +104,13 @@ other_word = refl
 
 -- the layout of the other device stays the standard one
 flags : layouts_in (codes ".layout 8k\npadmirror yes\nramflip no\n")
-    ≡ record { k384 = standard_layout L384; k1 = standard_layout K1; k8 = record (standard_layout K8) { pad_mirror = true; ram_flip = false } }
+    ≡ record { lp384 = standard_layout Lp384; hx1k = standard_layout Hx1k; hx8k = record (standard_layout Hx8k) { pad_mirror = true; ram_flip = false } }
 unfolding layouts_in lines_of line_of without_blanks trimmed words_of pieces_of numbers_of number_of section_before numbers_before flag_before first_below last_below
 flags = refl
 
 -- blanks before the first word and at the end of a line carry nothing
 blanks : layouts_in (codes " .layout 1k \n\tbanks  3 2 1 0\t\n.layout 8k\nmirror no")
-    ≡ record { k384 = standard_layout L384; k1 = record (standard_layout K1) { banks = 3 ∷ 2 ∷ 1 ∷ 0 ∷ [] }; k8 = record (standard_layout K8) { mirror = false } }
+    ≡ record { lp384 = standard_layout Lp384; hx1k = record (standard_layout Hx1k) { banks = 3 ∷ 2 ∷ 1 ∷ 0 ∷ [] }; hx8k = record (standard_layout Hx8k) { mirror = false } }
 unfolding layouts_in lines_of line_of without_blanks trimmed words_of pieces_of numbers_of number_of section_before numbers_before flag_before first_below last_below
 blanks = refl
 
@@ -120,13 +120,13 @@ blanks_fine = refl
 
 -- the smallest device alone
 small : layouts_in (codes ".layout 384\nwidths 20 54 54 54\npadmirror yes\n")
-    ≡ record { k384 = record (standard_layout L384) { widths = 20 ∷ 54 ∷ 54 ∷ 54 ∷ []; pad_mirror = true }; k1 = standard_layout K1; k8 = standard_layout K8 }
+    ≡ record { lp384 = record (standard_layout Lp384) { widths = 20 ∷ 54 ∷ 54 ∷ 54 ∷ []; pad_mirror = true }; hx1k = standard_layout Hx1k; hx8k = standard_layout Hx8k }
 unfolding layouts_in lines_of line_of without_blanks trimmed words_of pieces_of numbers_of number_of section_before numbers_before flag_before first_below last_below
 small = refl
 
 -- widths that leave columns over
 widths : layouts_in (codes ".layout 1k\nwidths 20 54 54 42 54 54 54")
-    ≡ record { k384 = standard_layout L384; k1 = record (standard_layout K1) { widths = 20 ∷ 54 ∷ 54 ∷ 42 ∷ 54 ∷ 54 ∷ 54 ∷ [] }; k8 = standard_layout K8 }
+    ≡ record { lp384 = standard_layout Lp384; hx1k = record (standard_layout Hx1k) { widths = 20 ∷ 54 ∷ 54 ∷ 42 ∷ 54 ∷ 54 ∷ 54 ∷ [] }; hx8k = standard_layout Hx8k }
 unfolding layouts_in lines_of line_of without_blanks trimmed words_of pieces_of numbers_of number_of section_before numbers_before flag_before first_below last_below
 widths = refl
 

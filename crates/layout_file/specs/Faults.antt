@@ -1,7 +1,7 @@
 -- Which lines of a layout file are faulty. Indexes of lines count from 0.
 use Rattle.std.specs.Prelude.{ℕ, ◌+◌, Bool, true, false, not, List, length, is_some, ◌==◌, if◌then◌else◌, Option, Some, None}
 use Rattle.text_lines.specs.Lines.{lines_of, line_at}
-use Rattle.place_search.specs.Places.{any_below, last_below, first_below, or_else}
+use Rattle.index_search.specs.Places.{any_below, last_below, first_below, or_else}
 use Rattle.plane_map.specs.declared.device.DeviceName.{DeviceName}
 use Rattle.plane_map.specs.Devices.{is_same_device}
 use Rattle.plane_map.specs.DeviceWords.{device_named}

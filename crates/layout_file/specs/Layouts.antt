@@ -2,7 +2,7 @@
 use Rattle.std.specs.Prelude.{◌≡◌, ℕ, true, false, List, length, unwrap_or}
 use Rattle.text_lines.specs.Lines.{lines_of}
 use Rattle.plane_map.specs.declared.device.DeviceName.{DeviceName}
-use Rattle.plane_map.specs.declared.device.DeviceName.TheVariants.{L384, K1, K8}
+use Rattle.plane_map.specs.declared.device.DeviceName.TheVariants.{Lp384, Hx1k, Hx8k}
 use Rattle.plane_map.specs.Layout.{Layout, standard_layout, standard_widths, standard_side_columns, standard_pad_columns, standard_pad_rows, standard_banks}
 use Rattle.layout_file.specs.declared.field.Numbers.TheVariants.{Widths, SideColumns, PadColumns, PadRows, Banks}
 use Rattle.layout_file.specs.declared.field.Flag.TheVariants.{Mirror, Flip, PadMirror, RamFlip}
@@ -11,13 +11,13 @@ use Rattle.layout_file.specs.Faults.{numbers_before, flag_before}
 
 -- the layout of a device
 abbrev pub layout_for : Layouts → DeviceName → Layout
-layout_for layouts L384 = layouts.k384
-layout_for layouts K1 = layouts.k1
-layout_for layouts K8 = layouts.k8
+layout_for layouts Lp384 = layouts.lp384
+layout_for layouts Hx1k = layouts.hx1k
+layout_for layouts Hx8k = layouts.hx8k
 
 -- a layout of each device
 abbrev pub layouts_by : (DeviceName → Layout) → Layouts
-layouts_by layout = record { k384 = layout L384; k1 = layout K1; k8 = layout K8 }
+layouts_by layout = record { lp384 = layout Lp384; hx1k = layout Hx1k; hx8k = layout Hx8k }
 
 -- each layout is one of the device that it is named for
 abbrev pub AreLayouts : Layouts → Type 0

@@ -49,9 +49,9 @@ fn least_width(device: DeviceName, column: usize) -> u32
     ensures { result ≡ least_width device column }
 {
     let ram_column = match device {
-        DeviceName::L384 => 0,
-        DeviceName::K1 => 3,
-        DeviceName::K8 => 8,
+        DeviceName::Lp384 => 0,
+        DeviceName::Hx1k => 3,
+        DeviceName::Hx8k => 8,
     };
     if column == 0 {
         18

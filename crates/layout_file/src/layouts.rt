@@ -4,16 +4,16 @@ ghost use Rattle.layout_file.specs.Layouts.{standard_layouts, layouts_in, layout
 ghost use Rattle.layout_file.specs.Faults.{layout_fault_of};
 
 use crate::fault::LayoutFault;
-use crate::reader::Reader;
+use crate::reader::SectionReader;
 use plane_map::{DeviceName, Layout};
 use text_lines::first_line;
 
 /// A layout of each device.
 #[derive(Clone, Copy)]
 pub struct Layouts {
-    pub k384: Layout,
-    pub k1: Layout,
-    pub k8: Layout,
+    pub lp384: Layout,
+    pub hx1k: Layout,
+    pub hx8k: Layout,
 }
 
 impl Layouts {
@@ -23,9 +23,9 @@ impl Layouts {
         ensures devices { AreLayouts result }
     {
         Layouts {
-            k384: Layout::standard(DeviceName::L384),
-            k1: Layout::standard(DeviceName::K1),
-            k8: Layout::standard(DeviceName::K8),
+            lp384: Layout::standard(DeviceName::Lp384),
+            hx1k: Layout::standard(DeviceName::Hx1k),
+            hx8k: Layout::standard(DeviceName::Hx8k),
         }
     }
 
@@ -42,7 +42,7 @@ impl Layouts {
     /// # Example
     /// ```ignore
     /// let layouts = Layouts::read(b".layout 1k\nwidths 20 54 54 42 54 54 54\n")?;
-    /// let layout = layouts.of(DeviceName::K1);
+    /// let layout = layouts.of(DeviceName::Hx1k);
     /// // Bit (0, 0) of the logic tile at (12, 16).
     /// let place = layout.cram_place(12, 16, 0, 0);
     /// ```
@@ -52,7 +52,7 @@ impl Layouts {
         ensures accepted { IfOk result (λ _. layout_fault_of bytes.now ≡ None) }
         ensures refused { IfErr result (λ fault. layout_fault_of bytes.now ≡ Some fault) }
     {
-        let mut reader = Reader::new();
+        let mut reader = SectionReader::new();
         let mut left = bytes;
         let mut count = 0;
         while let Some(line) = first_line(left) {
@@ -68,9 +68,9 @@ impl Layouts {
         ensures { result ≡ layout_for self.now device }
     {
         match device {
-            DeviceName::L384 => self.k384,
-            DeviceName::K1 => self.k1,
-            DeviceName::K8 => self.k8,
+            DeviceName::Lp384 => self.lp384,
+            DeviceName::Hx1k => self.hx1k,
+            DeviceName::Hx8k => self.hx8k,
         }
     }
 }
@@ -81,7 +81,7 @@ ghost use Rattle.layout_file.specs.inside.Reading.{refusal, taken};
 ghost use Rattle.std.specs.Prelude.{OnOk};
 
 /// Takes the next line, the line of this number.
-fn take_line(reader: &mut Reader, number: u64, line: &[u8]) -> Result<(), LayoutFault>
+fn take_line(reader: &mut SectionReader, number: u64, line: &[u8]) -> Result<(), LayoutFault>
     ensures taken { IfOk result (λ _. reader.new ≡ taken reader.old (line_of line.now)) }
     ensures fits { OnOk result (refusal reader.old (line_of line.now) ≡ None) }
     ensures refused { IfErr result (λ fault. fault_with number (refusal reader.old (line_of line.now)) ≡ Some fault) }

@@ -3,7 +3,7 @@ ghost use Rattle.std.specs.Prelude.{◌≡◌, None, Some, IfOk, IfErr, OnOk};
 ghost use Rattle.layout_file.specs.Lines.{line_of};
 ghost use Rattle.layout_file.specs.inside.Reading.{begin_refusal, begun_with, flag_refusal_in, layouts_of, list_refusal, refusal, section_for, taken, unread, with_flag_in, with_list, with_section};
 ghost use Rattle.std.specs.Borrow.{Lends, sem};
-ghost use Rattle.layout_file.specs.contracts.reader.Reader.{the_row};
+ghost use Rattle.layout_file.specs.contracts.reader.SectionReader.{the_row};
 ghost use Rattle.layout_file.specs.contracts.section.Section.{the_row as section_row};
 
 use crate::fault::LayoutCause;
@@ -15,23 +15,23 @@ use plane_map::DeviceName;
 
 /// What the lines so far have given.
 #[derive(Drop)]
-pub(crate) struct Reader {
-    k384: Section,
-    k1: Section,
-    k8: Section,
+pub(crate) struct SectionReader {
+    lp384: Section,
+    hx1k: Section,
+    hx8k: Section,
     /// The device of the section to which the next line belongs.
     current: Option<DeviceName>,
 }
 
-impl Reader {
+impl SectionReader {
     /// A reader that has read no line.
-    pub(crate) fn new() -> Reader
+    pub(crate) fn new() -> SectionReader
         ensures { result ≡ unread }
     {
-        Reader {
-            k384: Section::unread(DeviceName::L384),
-            k1: Section::unread(DeviceName::K1),
-            k8: Section::unread(DeviceName::K8),
+        SectionReader {
+            lp384: Section::unread(DeviceName::Lp384),
+            hx1k: Section::unread(DeviceName::Hx1k),
+            hx8k: Section::unread(DeviceName::Hx8k),
             current: None,
         }
     }
@@ -42,9 +42,9 @@ impl Reader {
         ensures section { result.now ≡ section_for self.old device }
     {
         match device {
-            DeviceName::L384 => &mut self.k384,
-            DeviceName::K1 => &mut self.k1,
-            DeviceName::K8 => &mut self.k8,
+            DeviceName::Lp384 => &mut self.lp384,
+            DeviceName::Hx1k => &mut self.hx1k,
+            DeviceName::Hx8k => &mut self.hx8k,
         }
     }
 
@@ -106,9 +106,9 @@ impl Reader {
         ensures { result ≡ layouts_of self.now }
     {
         Layouts {
-            k384: self.k384.layout,
-            k1: self.k1.layout,
-            k8: self.k8.layout,
+            lp384: self.lp384.layout,
+            hx1k: self.hx1k.layout,
+            hx8k: self.hx8k.layout,
         }
     }
 }

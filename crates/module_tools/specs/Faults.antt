@@ -3,8 +3,8 @@ use Rattle.std.specs.Prelude.{ℕ, List, ◌++◌, codes, decimal}
 use Rattle.vlog_forms.specs.declared.fault.VlogCause.{VlogCause}
 use Rattle.vlog_forms.specs.declared.fault.VlogCause.TheVariants.{Syntax, Order, Undeclared, AssignedTwice}
 use Rattle.vlog_forms.specs.Outcome.{Fault}
-use Rattle.vlog_cycle.specs.declared.event.EventFault.{EventFault}
-use Rattle.vlog_cycle.specs.declared.event.EventFault.TheVariants.{Form, Pin, Memory}
+use Rattle.vlog_run.specs.declared.event.EventFault.{EventFault}
+use Rattle.vlog_run.specs.declared.event.EventFault.TheVariants.{Form, Pin, Memory}
 
 abbrev pub vlog_cause_text : VlogCause → List ℕ
 vlog_cause_text Syntax = codes "Syntax"

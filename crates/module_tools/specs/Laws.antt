@@ -3,7 +3,7 @@ use Rattle.std.specs.Prelude.{◌≡◌, ◌&&◌, Bool, true, false, List, code
 use Rattle.clap.specs.Words.{Row, Text, first_of, is_simple_and_free}
 use Rattle.clap.proofs.OnLiterals.{clap_on_literals}
 use Rattle.tool_run.specs.Tasks.{usage_error}
-use Rattle.tool_parts.specs.Commands.{has_flag, values_of}
+use Rattle.tool_inputs.specs.Commands.{has_flag, values_of}
 use Rattle.module_tools.specs.declared.told.Told.{Told}
 use Rattle.module_tools.specs.Vlogrun.{told_by, vlogrun_command, vlogrun_name, vlogrun_task_by, vlogrun_task_of}
 use Rattle.module_tools.specs.Vlogsweep.{most_lists, sweep_task, vlogsweep_command, vlogsweep_name, vlogsweep_task_by, vlogsweep_task_of, vlogsweep_usage}

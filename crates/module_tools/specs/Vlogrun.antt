@@ -3,15 +3,15 @@ use Rattle.std.specs.Prelude.{ℕ, Bool, true, false, List, [], ◌∷◌, codes
 use Rattle.clap.specs.Words.{App, Row, Text, first_of}
 use Rattle.vlog_module.specs.Parts.{Parts}
 use Rattle.vlog_forms.specs.Outcome.{Fault, outcome_of}
-use Rattle.vlog_cycle.specs.declared.event.EventFault.{EventFault}
-use Rattle.vlog_cycle.specs.Events.{event_fault, events_of}
-use Rattle.vlog_cycle.specs.Text.{run_text}
-use Rattle.vlog_plan.specs.declared.event.Event.{Event}
+use Rattle.vlog_run.specs.declared.event.EventFault.{EventFault}
+use Rattle.vlog_run.specs.Events.{event_fault, events_of}
+use Rattle.vlog_run.specs.Text.{run_text}
+use Rattle.vlog_semantics.specs.declared.event.Event.{Event}
 use Rattle.vlog_waves.specs.Waves.{waves_text}
 use Rattle.tool_run.specs.Needs.{Need, text_of}
 use Rattle.tool_run.specs.Tasks.{Answer, Done, Refused, Task, usage_error}
-use Rattle.tool_parts.specs.Outcomes.{Manual, outcome}
-use Rattle.tool_parts.specs.Commands.{command, flag, has_flag, long_flag, positional, required}
+use Rattle.tool_inputs.specs.Outcomes.{Manual, outcome}
+use Rattle.tool_inputs.specs.Commands.{command, flag, has_flag, long_flag, positional, required}
 use Rattle.module_tools.specs.declared.request.Request.{Request}
 use Rattle.module_tools.specs.declared.told.Told.{Told}
 use Rattle.module_tools.specs.declared.told.Told.TheVariants.{Lines, Waves}

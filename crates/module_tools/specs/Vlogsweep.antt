@@ -3,19 +3,19 @@ use Rattle.std.specs.Prelude.{◌≡◌, ◌≤◌, ℕ, ◌&&◌, List, [], ◌
 use Rattle.std.specs.Option.{option_map}
 use Rattle.std.specs.Borrow.{Bor}
 use Rattle.clap.specs.Words.{App, Row, Text, first_of}
-use Rattle.place_search.specs.Places.{or_else}
+use Rattle.index_search.specs.Places.{or_else}
 use Rattle.vlog_module.specs.Parts.{Parts}
 use Rattle.vlog_module.specs.declared.modules.Port.{Port}
 use Rattle.vlog_forms.specs.Outcome.{Fault, outcome_of}
-use Rattle.vlog_cycle.specs.Events.{event_fault, events_of}
-use Rattle.vlog_cycle.specs.Text.{run_text}
+use Rattle.vlog_run.specs.Events.{event_fault, events_of}
+use Rattle.vlog_run.specs.Text.{run_text}
 use Rattle.tool_run.specs.Lines.{refusal_text}
 use Rattle.tool_run.specs.Needs.{Need}
 use Rattle.tool_run.specs.Tasks.{Answer, Done, Refused, Task, usage_error}
 use Rattle.tool_run.specs.declared.tool.Stop.{Stop}
 use Rattle.tool_run.specs.declared.tool.Stop.TheVariants as stop
-use Rattle.tool_parts.specs.Outcomes.{Manual, outcome}
-use Rattle.tool_parts.specs.Commands.{command, required, several, values_of}
+use Rattle.tool_inputs.specs.Outcomes.{Manual, outcome}
+use Rattle.tool_inputs.specs.Commands.{command, required, several, values_of}
 use Rattle.module_tools.specs.declared.sweep_request.SweepRequest.{SweepRequest}
 use Rattle.module_tools.specs.declared.sweep_request.TheConstants.{VLOGSWEEP_HELP}
 use Rattle.module_tools.specs.Faults.{file_fault_text, vlog_fault_text}

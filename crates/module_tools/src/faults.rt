@@ -4,10 +4,10 @@ ghost use Rattle.tool_run.specs.Lines.{refusal_text};
 ghost use Rattle.vlog_forms.specs.Outcome.{fault};
 ghost use Rattle.module_tools.specs.Faults.{event_fault_text, file_fault_text, vlog_cause_text, vlog_fault_text};
 
-use tool_parts::{refusal, whole};
+use tool_inputs::{refusal, whole};
 use tool_run::{Refusal, decimal, text};
-use vlog_cycle::EventFault;
-use vlog_text::VlogCause;
+use vlog_parser::VlogCause;
+use vlog_run::EventFault;
 
 // What is wrong with the text of a module, after a colon.
 fn vlog_cause_text(cause: VlogCause) -> &'static str

@@ -7,7 +7,7 @@ ghost use Rattle.module_tools.specs.Vlogrun.{told_by, vlogrun_command, vlogrun_t
 use crate::told::Told;
 use clap::{ArgMatches, Command};
 use std::alloc::{AllocError, Global};
-use tool_parts::{flag, has_flag, long_flag, positional, required, value, with};
+use tool_inputs::{flag, has_flag, long_flag, positional, required, value, with};
 
 /// The command line of `vlogrun`.
 pub const VLOGRUN_USAGE: &str = "vlogrun [-s | --vcd] MODULE [EVENTS]";

@@ -3,7 +3,7 @@ ghost use Rattle.std.specs.Prelude.{◌≡◌, map, string_bytes, IfOk, IfErr, S
 ghost use Rattle.tool_run.specs.Runs.{Does};
 ghost use Rattle.tool_run.specs.Stops.{StopsWith};
 ghost use Rattle.tool_run.specs.Tasks.{Done};
-ghost use Rattle.vlog_cycle.specs.Events.{event_fault};
+ghost use Rattle.vlog_run.specs.Events.{event_fault};
 ghost use Rattle.vlog_forms.specs.Outcome.{outcome_of};
 ghost use Rattle.module_tools.specs.Vlogrun.{run_of, run_over, vlogrun_outcome, vlogrun_task_for};
 ghost use Rattle.module_tools.specs.declared.told.Told.TheVariants.{Lines};
@@ -14,10 +14,10 @@ use crate::told::Told;
 use crate::tracing::Tracing;
 use clap::{ArgMatches, Command};
 use std::alloc::{AllocError, Global};
-use tool_parts::{CommandLine, Words, run_tool};
+use tool_inputs::{CommandLine, Words, run_tool};
 use tool_run::{Host, Job, Load, Stop, Tool, loaded_at};
-use vlog_cycle::{EventFault, read_events, run_text};
-use vlog_text::{Module, VlogFault, parse};
+use vlog_parser::{Module, VlogFault, parse};
+use vlog_run::{EventFault, read_events, run_text};
 
 /// The most bytes that the text of a module may have.
 pub(crate) const MODULE_LIMIT: usize = 67_108_864;

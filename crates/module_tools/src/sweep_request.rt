@@ -6,7 +6,7 @@ ghost use Rattle.module_tools.specs.Vlogsweep.{IsFew, counted_task, names_of, vl
 
 use clap::{ArgMatches, Command};
 use std::alloc::{AllocError, Global};
-use tool_parts::{required, several, value, values, with};
+use tool_inputs::{required, several, value, values, with};
 
 /// The command line of `vlogsweep`.
 pub const VLOGSWEEP_USAGE: &str = "vlogsweep MODULE EVENTS [EVENTS ...]";

@@ -5,7 +5,7 @@ ghost use Rattle.tool_run.specs.Runs.{Does};
 ghost use Rattle.tool_run.specs.Stops.{StopsWith};
 ghost use Rattle.tool_run.specs.Tasks.{Done};
 ghost use Rattle.vlog_forms.specs.Outcome.{outcome_of};
-ghost use Rattle.vlog_plan.specs.Run.{input_names};
+ghost use Rattle.vlog_semantics.specs.Run.{input_names};
 ghost use Rattle.vlog_sweep.specs.Sweep.{list_text};
 ghost use Rattle.module_tools.specs.Vlogsweep.{TellsRefusal, file_refusal, file_text, files_of, first_refusal, heading_of, names_of, sweep_needs, sweep_of, sweep_over, task_over, vlogsweep_outcome, vlogsweep_task_for};
 
@@ -14,11 +14,11 @@ use crate::running::MODULE_LIMIT;
 use crate::sweep_request::{SweepRequest, VLOGSWEEP_HELP, VLOGSWEEP_USAGE, command, request_in};
 use clap::{ArgMatches, Command};
 use std::alloc::{AllocError, Global};
-use tool_parts::{CommandLine, Words, run_tool};
+use tool_inputs::{CommandLine, Words, run_tool};
 use tool_run::{Host, Job, Load, Stop, Tool, loaded_at};
-use vlog_cycle::{EventFault, read_events};
+use vlog_parser::{Module, VlogFault, parse};
+use vlog_run::{EventFault, read_events};
 use vlog_sweep::{EventList, sweep};
-use vlog_text::{Module, VlogFault, parse};
 
 /// The most bytes that a list of events may have.
 const LIST_LIMIT: usize = 65_536;

@@ -2,7 +2,7 @@
 ghost use Rattle.std.specs.Prelude.{◌≡◌, IfOk, IfErr};
 ghost use Rattle.tool_run.specs.Stops.{StopsWith};
 ghost use Rattle.tool_run.specs.Tasks.{Done};
-ghost use Rattle.vlog_cycle.specs.Events.{event_fault};
+ghost use Rattle.vlog_run.specs.Events.{event_fault};
 ghost use Rattle.vlog_forms.specs.Outcome.{outcome_of};
 ghost use Rattle.vlog_waves.specs.Whole.{waves_in};
 ghost use Rattle.module_tools.specs.Vlogrun.{run_of, run_over};
@@ -11,8 +11,8 @@ ghost use Rattle.module_tools.specs.declared.told.Told.TheVariants.{Waves as Wav
 use crate::faults::{event_refusal, vlog_refusal};
 use std::alloc::{AllocError, Global};
 use tool_run::{Stop, Tool, loaded_at};
-use vlog_cycle::{EventFault, read_events};
-use vlog_text::{Module, VlogFault, parse};
+use vlog_parser::{Module, VlogFault, parse};
+use vlog_run::{EventFault, read_events};
 use vlog_waves::Waves;
 
 /// Loads a module and a list of events, runs the module over the events, and tells the waves of the run.

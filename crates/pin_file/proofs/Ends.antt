@@ -5,11 +5,11 @@ use Rattle.std.proofs.lemmas.List.{take_all}
 use Rattle.shared_lemmas.proofs.Cuts.{drop_end}
 use Rattle.shared_lemmas.proofs.Lists.{flat_map-more}
 use Rattle.text_lines.specs.Lines.{lines_of, line_at}
-use Rattle.place_search.specs.Places.{first_below, or_else}
-use Rattle.place_search.proofs.Places.{first_below-first, first_below-more}
-use Rattle.place_search.proofs.Found.{first_below-clear}
-use Rattle.pin_file.specs.declared.fault.PinFault.{PinFault}
-use Rattle.pin_file.specs.declared.fault.PinFault.TheVariants.{At, Memory}
+use Rattle.index_search.specs.Places.{first_below, or_else}
+use Rattle.index_search.proofs.Places.{first_below-first, first_below-more}
+use Rattle.index_search.proofs.Found.{first_below-clear}
+use Rattle.pin_file.specs.declared.fault.PinFileFault.{PinFileFault}
+use Rattle.pin_file.specs.declared.fault.PinFileFault.TheVariants.{At, Memory}
 use Rattle.pin_file.specs.declared.pin_name.PinName.{PinName}
 use Rattle.pin_file.specs.declared.place.PinPlace.{PinPlace}
 use Rattle.pin_file.specs.Lines.{line_of}
@@ -61,7 +61,7 @@ fit-more pins enabled lines k line ports at read fine fit =
 -- ---- the end
 
 -- a line that is refused is the first faulty one
-pub refused : (pins : Package) (enabled : List PinPlace) (text : List ℕ) (k : ℕ) (line : List ℕ) (ports : List PinName) (fault : PinFault) → k < length (lines_of text)
+pub refused : (pins : Package) (enabled : List PinPlace) (text : List ℕ) (k : ℕ) (line : List ℕ) (ports : List PinName) (fault : PinFileFault) → k < length (lines_of text)
     → line_at (lines_of text) k ≡ line → ports ≡ ports_in pins (take k (lines_of text)) → first_below k (fault_at pins enabled (lines_of text)) ≡ None
     → Tells (fault_with (k + 1) (cause_of pins enabled ports (line_of line))) fault → Tells (pin_fault_of pins enabled text) fault
 unfolding pin_fault_of

@@ -7,8 +7,8 @@ use Rattle.std.proofs.lemmas.Bool.{cond-true, cond-false}
 use Rattle.std.proofs.lemmas.List.{get_or_append_left, get_or_at}
 use Rattle.text_lines.specs.Lines.{lines_of, line_at}
 use Rattle.text_lines.specs.Feeding.{RefusesLines, TakesLines}
-use Rattle.place_search.specs.Places.{any_below, first_below, last_below, or_else}
-use Rattle.place_search.proofs.Places.{any_below-more, any_below-same, first_below-more, first_below-same, or_else-none, last_below-more, last_below-same, last_below-place}
+use Rattle.index_search.specs.Places.{any_below, first_below, last_below, or_else}
+use Rattle.index_search.proofs.Places.{any_below-more, any_below-same, first_below-more, first_below-same, or_else-none, last_below-more, last_below-same, last_below-place}
 use Rattle.pin_file.specs.declared.pin_lines.PinLines.{PinLines}
 use Rattle.pin_file.specs.declared.place.PinPlace.{PinPlace}
 use Rattle.pin_file.specs.Feeding.{HasTaken, TakesLine, kept_in, place_kept, refused_with, taken_by}

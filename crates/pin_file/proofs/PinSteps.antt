@@ -6,8 +6,8 @@ use Rattle.std.specs.Map.{lookup}
 use Rattle.std.proofs.lemmas.Bool.{cases_Bool}
 use Rattle.std.proofs.lemmas.List.{map-append}
 use Rattle.shared_lemmas.proofs.Bytes.{same_bytes}
-use Rattle.place_search.specs.Places.{or_else}
-use Rattle.place_search.proofs.Places.{or_else-none}
+use Rattle.index_search.specs.Places.{or_else}
+use Rattle.index_search.proofs.Places.{or_else-none}
 use Rattle.pin_file.specs.declared.package_pins.PackagePins.{PackagePins}
 use Rattle.pin_file.specs.declared.place.PinPlace.{PinPlace}
 use Rattle.pin_file.specs.Feeding.{place_kept}

@@ -9,7 +9,7 @@ use Rattle.shared_lemmas.proofs.Bytes.{bytes_eq-apart}
 use Rattle.shared_lemmas.proofs.Lists.{flat_map-push}
 use Rattle.shared_lemmas.proofs.Searches.{list_any-push}
 use Rattle.vlog_module.specs.Names.{is_name}
-use Rattle.pin_file.specs.declared.fault.PinCause.TheVariants.{Repeated, Name}
+use Rattle.pin_file.specs.declared.fault.PinFileCause.TheVariants.{Repeated, Name}
 use Rattle.pin_file.specs.declared.pin_name.PinName.{PinName}
 use Rattle.pin_file.specs.declared.place.PinPlace.{PinPlace}
 use Rattle.pin_file.specs.declared.ports.Ports.{Ports}

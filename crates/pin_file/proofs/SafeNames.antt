@@ -15,10 +15,10 @@ use Rattle.shared_lemmas.proofs.Searches.{list_any-push}
 use Rattle.text_lines.proofs.Decimals.{decimal-digits, decimal-word}
 use Rattle.text_lines.specs.Lines.{lines_of, line_at}
 use Rattle.text_lines.specs.declared.words.Separators.TheVariants.{Spaces}
-use Rattle.place_search.proofs.Found.{first_below-clear}
+use Rattle.index_search.proofs.Found.{first_below-clear}
 use Rattle.vlog_module.specs.Names.{IsName, is_letter, is_name, is_name_byte, is_reserved, is_word, reserved_words}
-use Rattle.pin_file.specs.declared.fault.PinCause.{PinCause}
-use Rattle.pin_file.specs.declared.fault.PinCause.TheVariants.{Repeated, Name}
+use Rattle.pin_file.specs.declared.fault.PinFileCause.{PinFileCause}
+use Rattle.pin_file.specs.declared.fault.PinFileCause.TheVariants.{Repeated, Name}
 use Rattle.pin_file.specs.declared.pin_name.PinName.{PinName}
 use Rattle.pin_file.specs.declared.place.PinPlace.{PinPlace}
 use Rattle.pin_file.specs.Lines.{Line, Passed, Port, Unknown, line_of}
@@ -165,7 +165,7 @@ safe-more enabled ports port safe fine =
 
 -- ---- line by line
 
-safe-at : (enabled : List PinPlace) (ports : List PinName) (name : List ℕ) (found : Result PinPlace PinCause) → AreSafe enabled ports → pin_cause enabled ports name found ≡ None → AreSafe enabled (ports ++ port_at name found)
+safe-at : (enabled : List PinPlace) (ports : List PinName) (name : List ℕ) (found : Result PinPlace PinFileCause) → AreSafe enabled ports → pin_cause enabled ports name found ≡ None → AreSafe enabled (ports ++ port_at name found)
 safe-at enabled ports name (Ok place) safe fine = safe-more enabled ports (named_at place name) safe fine
 safe-at enabled ports name (Err cause) safe fine = absurd cc
 
@@ -174,7 +174,7 @@ safe-line pins enabled ports Passed safe fine = subst (AreSafe enabled) (sym (ap
 safe-line pins enabled ports Unknown safe fine = absurd cc
 safe-line pins enabled ports (Port name pin) safe fine = safe-at enabled ports name (place_in pins pin) safe fine
 
-with_none : (number : ℕ) (cause : Option PinCause) → fault_with number cause ≡ None → cause ≡ None
+with_none : (number : ℕ) (cause : Option PinFileCause) → fault_with number cause ≡ None → cause ≡ None
 with_none number None none = refl
 with_none number (Some cause) none = absurd cc
 

@@ -3,13 +3,13 @@ use Rattle.std.proofs.Common.{◌≡◌, ℕ, true, false, List, [], ◌∷◌, 
 use Rattle.std.specs.Prelude.{codes, bytes_eq, if◌then◌else◌, Option, Some, None}
 use Rattle.text_lines.specs.Lines.{lines_of}
 use Rattle.text_lines.specs.Words.{words_of, pieces_of, numbers_of, number_of}
-use Rattle.place_search.specs.Places.{any_below, first_below, last_below}
+use Rattle.index_search.specs.Places.{any_below, first_below, last_below}
 use Rattle.vlog_module.specs.Names.{is_name, reserved_words}
 use Rattle.pin_file.specs.declared.place.PinPlace.{PinPlace}
-use Rattle.pin_file.specs.declared.fault.PinCause.{PinCause}
-use Rattle.pin_file.specs.declared.fault.PinCause.TheVariants.{Statement, Package as NoPackage, Pin, Repeated, Name}
-use Rattle.pin_file.specs.declared.fault.PinFault.{PinFault}
-use Rattle.pin_file.specs.declared.fault.PinFault.TheVariants.{At}
+use Rattle.pin_file.specs.declared.fault.PinFileCause.{PinFileCause}
+use Rattle.pin_file.specs.declared.fault.PinFileCause.TheVariants.{Statement, Package as NoPackage, Pin, Repeated, Name}
+use Rattle.pin_file.specs.declared.fault.PinFileFault.{PinFileFault}
+use Rattle.pin_file.specs.declared.fault.PinFileFault.TheVariants.{At}
 use Rattle.pin_file.specs.Lines.{Passed, Port, Unknown, plain_line, words_in, behind_options, line_of}
 use Rattle.pin_file.specs.PortNames.{port_name, places_of, all_names, own_beginnings, has_own_form}
 use Rattle.pin_file.specs.Packages.{Package, begins_package, place_in_line, stands_below, package_of}
@@ -119,7 +119,7 @@ two_pins = record {
 no_pins : Package
 no_pins = record { known = false; place_of = λ pin. None }
 
-fault : ℕ → PinCause → Option PinFault
+fault : ℕ → PinFileCause → Option PinFileFault
 fault line cause = Some (At line cause)
 
 -- two ports, with an empty line and a remark between

@@ -5,7 +5,7 @@ use Rattle.std.specs.Prelude.{bytes_eq}
 use Rattle.std.specs.Map.{lookup}
 use Rattle.std.specs.declared.alloc.AllocError.{AllocError}
 use Rattle.text_lines.specs.Feeding.{StandsFor as FeedsTo, refusal_of}
-use Rattle.place_search.specs.Places.{or_else}
+use Rattle.index_search.specs.Places.{or_else}
 use Rattle.pin_file.specs.declared.package_pins.PackagePins.{PackagePins}
 use Rattle.pin_file.specs.declared.pin_lines.PinLines.{PinLines}
 use Rattle.pin_file.specs.declared.pin_reader.PinReader.{PinReader}

@@ -4,7 +4,7 @@ use Rattle.std.specs.Prelude.{ℕ, Bool, false, ◌&&◌, ◌||◌, List, [], �
 use Rattle.text_lines.specs.Lines.{lines_of, line_at}
 use Rattle.text_lines.specs.Words.{words_of, numbers_of}
 use Rattle.text_lines.specs.declared.words.Separators.TheVariants.{SpacesAndTabs}
-use Rattle.place_search.specs.Places.{any_below, last_below, first_below}
+use Rattle.index_search.specs.Places.{any_below, last_below, first_below}
 use Rattle.pin_file.specs.declared.place.PinPlace.{PinPlace}
 
 -- what is known of a package: whether the database lists it, and where its pins are

@@ -18,7 +18,7 @@ mod ports;
 mod reading;
 mod refusal;
 
-pub use fault::{PinCause, PinFault};
+pub use fault::{PinFileCause, PinFileFault};
 pub use package_pins::PackagePins;
 pub use pin_name::PinName;
 pub use pin_reader::PinReader;

@@ -1,6 +1,6 @@
 // The kept pins of a package.
 ghost use Rattle.std.specs.Prelude.{◌≡◌, ◌||◌, ℕ, List, None, Some, false, bytes_eq, if◌then◌else◌, OnOk};
-ghost use Rattle.place_search.specs.Places.{or_else};
+ghost use Rattle.index_search.specs.Places.{or_else};
 
 use crate::place::PinPlace;
 use indexmap::IndexMap;

@@ -2,7 +2,7 @@
 ghost use Rattle.std.specs.Prelude.{◌≡◌, ◌++◌, ◌∷◌, [], ◌||◌, not, false, None, Ok, List, IfErr, OnOk};
 ghost use Rattle.pin_file.specs.declared.place.PinPlace.{PinPlace as Place};
 
-use crate::fault::PinCause;
+use crate::fault::PinFileCause;
 use crate::line::{LineKind, line_kind, plain_line};
 use crate::name_set::NameSet;
 use crate::package_pins::PackagePins;
@@ -10,7 +10,7 @@ use crate::pin_name::PinName;
 use crate::place::PinPlace;
 use crate::place_set::PlaceSet;
 use crate::port_name::{enable_name, has_own_form, port_name};
-use crate::refusal::Refusal;
+use crate::refusal::PinLineRefusal;
 use std::alloc::{AllocError, Global};
 use vlog_module::{Name, is_name};
 
@@ -55,7 +55,7 @@ impl Ports {
         pins: &PackagePins,
         enabled: &[PinPlace],
         line: &[u8],
-    ) -> Result<(), Refusal>
+    ) -> Result<(), PinLineRefusal>
         requires { AreKept enabled.now self.old }
         ensures kept { OnOk result (AreKept enabled.now self.new) }
         ensures taken { OnOk result (self.new.list.items ≡ self.old.list.items ++ port_in (kept_in pins.now) (line_of line.now)) }
@@ -72,7 +72,7 @@ impl Ports {
         pins: &PackagePins,
         enabled: &[PinPlace],
         kind: LineKind<'_>,
-    ) -> Result<(), Refusal>
+    ) -> Result<(), PinLineRefusal>
         requires { AreKept enabled.now self.old }
         ensures kept { OnOk result (AreKept enabled.now self.new) }
         ensures taken { OnOk result (self.new.list.items ≡ self.old.list.items ++ port_in (kept_in pins.now) (said_by kind.entry)) }
@@ -82,7 +82,7 @@ impl Ports {
         match kind {
             LineKind::Passed => Ok(()),
             LineKind::Port { name, pin } => self.accept_port(pins, enabled, name, pin),
-            LineKind::Unknown => Err(Refusal::Cause(PinCause::Statement)),
+            LineKind::Unknown => Err(PinLineRefusal::Cause(PinFileCause::Statement)),
         }
     }
 
@@ -93,7 +93,7 @@ impl Ports {
         enabled: &[PinPlace],
         name: &[u8],
         pin: &[u8],
-    ) -> Result<(), Refusal>
+    ) -> Result<(), PinLineRefusal>
         requires { AreKept enabled.now self.old }
         ensures kept { OnOk result (AreKept enabled.now self.new) }
         ensures taken { OnOk result (self.new.list.items ≡ self.old.list.items ++ port_at name.now (place_in (kept_in pins.now) pin.now)) }
@@ -102,7 +102,7 @@ impl Ports {
     {
         match place_in(pins, pin) {
             Ok(place) => self.accept_at(enabled, place, name),
-            Err(cause) => Err(Refusal::Cause(cause)),
+            Err(cause) => Err(PinLineRefusal::Cause(cause)),
         }
     }
 
@@ -112,7 +112,7 @@ impl Ports {
         enabled: &[PinPlace],
         place: PinPlace,
         name: &[u8],
-    ) -> Result<(), Refusal>
+    ) -> Result<(), PinLineRefusal>
         requires { AreKept enabled.now self.old }
         ensures kept { OnOk result (AreKept enabled.now self.new) }
         ensures taken { OnOk result (self.new.list.items ≡ self.old.list.items ++ port_at name.now (Ok place)) }
@@ -121,11 +121,11 @@ impl Ports {
     {
         let name = port_name(self.alloc, name)?;
         if self.places.contains(place) {
-            return Err(Refusal::Cause(PinCause::Repeated));
+            return Err(PinLineRefusal::Cause(PinFileCause::Repeated));
         }
         let second = second_name(self.alloc, enabled, place, &name)?;
         if self.is_misnamed(&name, &second) {
-            return Err(Refusal::Cause(PinCause::Name));
+            return Err(PinLineRefusal::Cause(PinFileCause::Name));
         }
         self.push(place, name, second)?;
         Ok(())
@@ -182,16 +182,16 @@ ghost use Rattle.pin_file.specs.PortNames.{enable_name, has_name, has_own_form, 
 ghost use Rattle.pin_file.specs.inside.Reading.{seconds};
 
 /// The place of a pin of the package, or why there is none.
-fn place_in(pins: &PackagePins, pin: &[u8]) -> Result<PinPlace, PinCause>
+fn place_in(pins: &PackagePins, pin: &[u8]) -> Result<PinPlace, PinFileCause>
     ensures { result ≡ place_in (kept_in pins.now) pin.now }
 {
     if pins.is_known() {
         match pins.place_of(pin) {
             Some(place) => Ok(place),
-            None => Err(PinCause::Pin),
+            None => Err(PinFileCause::Pin),
         }
     } else {
-        Err(PinCause::Package)
+        Err(PinFileCause::Package)
     }
 }
 

@@ -6,12 +6,12 @@ ghost use Rattle.pin_file.specs.Lines.{line_of};
 ghost use Rattle.pin_file.specs.PortNames.{AreSafe};
 ghost use Rattle.pin_file.specs.inside.Reading.{AreKept};
 
-use crate::fault::PinFault;
+use crate::fault::PinFileFault;
 use crate::package_pins::PackagePins;
 use crate::pin_name::PinName;
 use crate::place::PinPlace;
 use crate::ports::Ports;
-use crate::refusal::Refusal;
+use crate::refusal::PinLineRefusal;
 use std::alloc::Global;
 use text_lines::first_line;
 
@@ -23,7 +23,7 @@ use text_lines::first_line;
 /// of a port `_` stands for each byte of NAME that isn't a letter, a digit or `_`, and any `_` at its end is dropped.
 ///
 /// # Errors
-/// `PinFault::At` with the first faulty line and the first of its causes. `PinFault::Memory` if memory is out; it may come in place of any
+/// `PinFileFault::At` with the first faulty line and the first of its causes. `PinFileFault::Memory` if memory is out; it may come in place of any
 /// other answer.
 ///
 /// # Example
@@ -41,7 +41,7 @@ pub fn pin_names(
     text: &[u8],
     pins: &PackagePins,
     enabled: &[PinPlace],
-) -> Result<Vec<PinName>, PinFault>
+) -> Result<Vec<PinName>, PinFileFault>
     ensures names { IfOk result (λ names. names.items ≡ ports_of (kept_in pins.now) text.now) }
     ensures safe { IfOk result (λ names. AreSafe enabled.now names.items) }
     ensures accepted { OnOk result (pin_fault_of (kept_in pins.now) enabled.now text.now ≡ None) }
@@ -65,7 +65,7 @@ fn take_line(
     pins: &PackagePins,
     enabled: &[PinPlace],
     line: &[u8],
-) -> Result<(), PinFault>
+) -> Result<(), PinFileFault>
     requires { AreKept enabled.now ports.old }
     ensures kept { OnOk result (AreKept enabled.now ports.new) }
     ensures taken { OnOk result (ports.new.list.items ≡ ports.old.list.items ++ port_in (kept_in pins.now) (line_of line.now)) }
@@ -74,10 +74,10 @@ fn take_line(
 {
     match ports.accept(pins, enabled, line) {
         Ok(()) => Ok(()),
-        Err(Refusal::Cause(cause)) => Err(PinFault::At {
+        Err(PinLineRefusal::Cause(cause)) => Err(PinFileFault::At {
             line: number,
             cause,
         }),
-        Err(Refusal::Memory(e)) => Err(PinFault::Memory(e)),
+        Err(PinLineRefusal::Memory(e)) => Err(PinFileFault::Memory(e)),
     }
 }

@@ -2,21 +2,21 @@
 use Rattle.std.proofs.Common.{◌≡◌, ℕ, ◌<◌, ◌≤◌, Option, Some, None, lit≤, arith}
 use Rattle.std.proofs.lemmas.Bool.Decides.{nat_tests}
 use Rattle.plane_map.specs.declared.device.DeviceName.{DeviceName}
-use Rattle.plane_map.specs.declared.device.DeviceName.TheVariants.{L384, K1, K8}
+use Rattle.plane_map.specs.declared.device.DeviceName.TheVariants.{Lp384, Hx1k, Hx8k}
 use Rattle.plane_map.specs.declared.tile.TileKind.{TileKind}
 use Rattle.plane_map.specs.declared.tile.TileKind.TheVariants.{Io, Logic, RamB, RamT}
 use Rattle.plane_map.specs.Layout.{grid_width, grid_height, kind_of, columns_of, columns_in}
 
 -- no grid is larger than that of the larger device
 pub grid_width-le : (device : DeviceName) → grid_width device ≤ 34
-grid_width-le L384 = lit≤ tt
-grid_width-le K1 = lit≤ tt
-grid_width-le K8 = lit≤ tt
+grid_width-le Lp384 = lit≤ tt
+grid_width-le Hx1k = lit≤ tt
+grid_width-le Hx8k = lit≤ tt
 
 pub grid_height-le : (device : DeviceName) → grid_height device ≤ 34
-grid_height-le L384 = lit≤ tt
-grid_height-le K1 = lit≤ tt
-grid_height-le K8 = lit≤ tt
+grid_height-le Lp384 = lit≤ tt
+grid_height-le Hx1k = lit≤ tt
+grid_height-le Hx8k = lit≤ tt
 
 -- a tile that is there is in the grid
 pub kind_of-inside : (device : DeviceName) (x y : ℕ) (kind : TileKind) → kind_of device x y ≡ Some kind → (x < grid_width device) × (y < grid_height device)

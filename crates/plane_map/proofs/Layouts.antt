@@ -2,7 +2,7 @@
 use Rattle.std.proofs.Common.{◌≡◌, ℕ, zero, suc, ◌+◌, ◌<◌, ◌≤◌, true, List, slice_index, arith, lit≤}
 use Rattle.std.proofs.lemmas.Bool.Decides.{nat_tests}
 use Rattle.plane_map.specs.declared.device.DeviceName.{DeviceName}
-use Rattle.plane_map.specs.declared.device.DeviceName.TheVariants.{L384, K1, K8}
+use Rattle.plane_map.specs.declared.device.DeviceName.TheVariants.{Lp384, Hx1k, Hx8k}
 use Rattle.plane_map.specs.Layout.{kind_of, columns_at, half_width, least_width, are_wide, Layout, IsLayout, width_of, start_of, is_side, is_end, is_right, is_top, from_side, from_end, last_x, last_y, grid_width, grid_height, cram_width}
 use Rattle.plane_map.proofs.Starts.{starts-in}
 use Rattle.plane_map.proofs.Widths.{AreStarts, start-later}
@@ -34,15 +34,15 @@ width_of-fits layout s u h =
 
 -- no half has more columns of tiles than there is room for
 pub half_width-le : (device : DeviceName) → half_width device ≤ 17
-half_width-le L384 = lit≤ tt
-half_width-le K1 = lit≤ tt
-half_width-le K8 = lit≤ tt
+half_width-le Lp384 = lit≤ tt
+half_width-le Hx1k = lit≤ tt
+half_width-le Hx8k = lit≤ tt
 
 -- a plane is small
 pub cram_width-below : (device : DeviceName) → cram_width device ≤ 872
-cram_width-below L384 = lit≤ tt
-cram_width-below K1 = lit≤ tt
-cram_width-below K8 = lit≤ tt
+cram_width-below Lp384 = lit≤ tt
+cram_width-below Hx1k = lit≤ tt
+cram_width-below Hx8k = lit≤ tt
 
 -- the columns of bits of io tiles
 pub are_columns : (layout : Layout) → IsLayout layout → AreColumns layout.side_columns layout.pad_columns
@@ -65,15 +65,15 @@ columns_at-in device x y col h = grind (arith, nat_tests)
 pub columns_at-fit : (device : DeviceName) (x y col : ℕ) → col < columns_at device x y
     → FitsColumn (is_side device x) (is_end device y) (least_width device (from_side device x)) col
 unfolding kind_of
-columns_at-fit L384 x y col h = grind (arith, nat_tests)
-columns_at-fit K1 x y col h = grind (arith, nat_tests)
-columns_at-fit K8 x y col h = grind (arith, nat_tests)
+columns_at-fit Lp384 x y col h = grind (arith, nat_tests)
+columns_at-fit Hx1k x y col h = grind (arith, nat_tests)
+columns_at-fit Hx8k x y col h = grind (arith, nat_tests)
 
 -- the grid has an even number of columns, so that no column of tiles is farther from the nearer edge than a half is wide
 pub from_side-below : (device : DeviceName) (x : ℕ) → x < grid_width device → from_side device x < half_width device
-from_side-below L384 x h = grind (arith, nat_tests)
-from_side-below K1 x h = grind (arith, nat_tests)
-from_side-below K8 x h = grind (arith, nat_tests)
+from_side-below Lp384 x h = grind (arith, nat_tests)
+from_side-below Hx1k x h = grind (arith, nat_tests)
+from_side-below Hx8k x h = grind (arith, nat_tests)
 
 -- a column of tiles by its half and by how far it is from the side edge
 pub from_side-same : (device : DeviceName) (x y : ℕ) → x < grid_width device → y < grid_width device → is_right device x ≡ is_right device y

@@ -2,7 +2,7 @@
 use Rattle.std.proofs.Common.{◌≡◌, ℕ, ◌+◌, ◌*◌, ◌<◌, ◌≤◌, Bool, true, ◌&&◌, sym, ◌∙◌, ap, subst, arith}
 use Rattle.std.proofs.lemmas.Bool.Decides.{nat_tests}
 use Rattle.plane_map.specs.declared.device.DeviceName.{DeviceName}
-use Rattle.plane_map.specs.declared.device.DeviceName.TheVariants.{L384, K1, K8}
+use Rattle.plane_map.specs.declared.device.DeviceName.TheVariants.{Lp384, Hx1k, Hx8k}
 use Rattle.plane_map.specs.declared.tile.TileBit.{TileBit}
 use Rattle.plane_map.specs.declared.tile.Place.{Place}
 use Rattle.plane_map.specs.Layout.{Layout, IsLayout, half_width, width_of, start_of, is_side, is_end, is_right, is_top, is_mirrored, from_side, from_end, quarter_of, bank_of, column_of, px_of, py_of, place_of, grid_width, grid_height, cram_height, IsTileBit, IsInCram}
@@ -185,9 +185,9 @@ bank_of-below layout s x y =
 
 -- a row of tiles lies in the planes
 row-below : (device : DeviceName) (y height : ℕ) → y < grid_height device → height < 16 → 16 * from_end device y + height < cram_height device
-row-below L384 y height inside within = grind (arith, nat_tests)
-row-below K1 y height inside within = grind (arith, nat_tests)
-row-below K8 y height inside within = grind (arith, nat_tests)
+row-below Lp384 y height inside within = grind (arith, nat_tests)
+row-below Hx1k y height inside within = grind (arith, nat_tests)
+row-below Hx8k y height inside within = grind (arith, nat_tests)
 
 -- a bit of a tile lies in the planes
 pub place_is_in : (layout : Layout) → IsLayout layout → (bit : TileBit) → IsTileBit layout.device bit → IsInCram layout.device (place_of layout bit)

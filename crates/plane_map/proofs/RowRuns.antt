@@ -3,7 +3,7 @@ use Rattle.std.proofs.Common.{◌≡◌, ℕ, ◌+◌, ◌-◌, ◌*◌, ◌/◌
 use Rattle.std.proofs.lemmas.Bool.Decides.{nat_tests}
 use Rattle.std.specs.Prelude.{nat_lt}
 use Rattle.plane_map.specs.declared.device.DeviceName.{DeviceName}
-use Rattle.plane_map.specs.declared.device.DeviceName.TheVariants.{L384, K1, K8}
+use Rattle.plane_map.specs.declared.device.DeviceName.TheVariants.{Lp384, Hx1k, Hx8k}
 use Rattle.plane_map.specs.declared.tile.TileBit.{TileBit}
 use Rattle.plane_map.specs.declared.tile.TileKind.TheVariants.{RamB}
 use Rattle.plane_map.specs.declared.tile.Place.{Place}
@@ -88,15 +88,15 @@ abbrev mate : DeviceName → ℕ → ℕ → ℕ
 mate device y v = if is_top device y then last_y device - v else v
 
 mate-is : (device : DeviceName) (y v : ℕ) → y < grid_height device → 16 * v < cram_height device → (mate device y v < grid_height device) × (is_top device (mate device y v) ≡ is_top device y) × (from_end device (mate device y v) ≡ v)
-mate-is L384 y v inside within = (grind (arith, nat_tests), grind (arith, nat_tests), grind (arith, nat_tests))
-mate-is K1 y v inside within = (grind (arith, nat_tests), grind (arith, nat_tests), grind (arith, nat_tests))
-mate-is K8 y v inside within = (grind (arith, nat_tests), grind (arith, nat_tests), grind (arith, nat_tests))
+mate-is Lp384 y v inside within = (grind (arith, nat_tests), grind (arith, nat_tests), grind (arith, nat_tests))
+mate-is Hx1k y v inside within = (grind (arith, nat_tests), grind (arith, nat_tests), grind (arith, nat_tests))
+mate-is Hx8k y v inside within = (grind (arith, nat_tests), grind (arith, nat_tests), grind (arith, nat_tests))
 
 -- an end row is at no distance from the end edge
 end-is : (device : DeviceName) (y : ℕ) → y < grid_height device → is_end device y ≡ (from_end device y == 0)
-end-is L384 y inside = grind (arith, nat_tests)
-end-is K1 y inside = grind (arith, nat_tests)
-end-is K8 y inside = grind (arith, nat_tests)
+end-is Lp384 y inside = grind (arith, nat_tests)
+end-is Hx1k y inside = grind (arith, nat_tests)
+end-is Hx8k y inside = grind (arith, nat_tests)
 
 -- two end rows, or two others, have tiles of the same widths
 columns-same : (device : DeviceName) (x y y' : ℕ) → y < grid_height device → y' < grid_height device → is_end device y ≡ is_end device y' → columns_at device x y ≡ columns_at device x y'

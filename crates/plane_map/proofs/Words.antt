@@ -2,7 +2,7 @@
 use Rattle.std.proofs.Common.{◌≡◌, ℕ, zero, suc, ◌+◌, ◌-◌, ◌*◌, ◌/◌, ◌%◌, ◌<◌, ◌≤◌, ◌⊎◌, Bool, true, false, if◌then◌else◌, Some, slice_index, refl, ◌∙◌, ap, arith, lit≤}
 use Rattle.std.proofs.lemmas.Bool.Decides.{nat_tests}
 use Rattle.plane_map.specs.declared.device.DeviceName.{DeviceName}
-use Rattle.plane_map.specs.declared.device.DeviceName.TheVariants.{L384, K1, K8}
+use Rattle.plane_map.specs.declared.device.DeviceName.TheVariants.{Lp384, Hx1k, Hx8k}
 use Rattle.plane_map.specs.declared.tile.TileKind.TheVariants.{RamB, RamT}
 use Rattle.plane_map.specs.declared.tile.WordBit.{WordBit}
 use Rattle.plane_map.specs.declared.tile.Place.{Place}
@@ -12,21 +12,21 @@ use Rattle.plane_map.proofs.Layouts.{are_banks}
 use Rattle.plane_map.proofs.Places.{bank-halves, bank_of-below}
 
 -- an LP384 has no RAM
-no-ram : (x y : ℕ) → ¬ (kind_of L384 x y ≡ Some RamB)
+no-ram : (x y : ℕ) → ¬ (kind_of Lp384 x y ≡ Some RamB)
 unfolding kind_of
 no-ram x y h = grind (arith, nat_tests)
 
 -- a plane has a row for each word of a RAM
 pub ram-rows : (device : DeviceName) (x y : ℕ) → kind_of device x y ≡ Some RamB → bram_height device ≡ 256
-ram-rows L384 x y h = absurd (no-ram x y h)
-ram-rows K1 x y h = refl
-ram-rows K8 x y h = refl
+ram-rows Lp384 x y h = absurd (no-ram x y h)
+ram-rows Hx1k x y h = refl
+ram-rows Hx8k x y h = refl
 
 -- and no others
 pub bram_height-le : (device : DeviceName) → bram_height device ≤ 256
-bram_height-le L384 = lit≤ tt
-bram_height-le K1 = lit≤ tt
-bram_height-le K8 = lit≤ tt
+bram_height-le Lp384 = lit≤ tt
+bram_height-le Hx1k = lit≤ tt
+bram_height-le Hx8k = lit≤ tt
 
 -- a lower tile of a RAM is in a column of RAM
 pub lower-column : (device : DeviceName) (x y : ℕ) → kind_of device x y ≡ Some RamB → (x ≡ ram_column device) ⊎ (x + ram_column device ≡ last_x device)
@@ -45,22 +45,22 @@ lower-inner device x y h = grind (arith, nat_tests)
 
 -- and with its upper tile between it and the top row
 pub lower-third : (device : DeviceName) (x y : ℕ) → kind_of device x y ≡ Some RamB → y + 3 ≤ grid_height device
-lower-third L384 x y h = absurd (no-ram x y h)
-lower-third K1 x y h = omega (arith, lower-odd K1 x y h, lower-inner K1 x y h)
-lower-third K8 x y h = omega (arith, lower-odd K8 x y h, lower-inner K8 x y h)
+lower-third Lp384 x y h = absurd (no-ram x y h)
+lower-third Hx1k x y h = omega (arith, lower-odd Hx1k x y h, lower-inner Hx1k x y h)
+lower-third Hx8k x y h = omega (arith, lower-odd Hx8k x y h, lower-inner Hx8k x y h)
 
 -- the upper tile of a RAM stands above its lower one
 pub upper-tile : (device : DeviceName) (x y : ℕ) → kind_of device x y ≡ Some RamB → kind_of device x (y + 1) ≡ Some RamT
 unfolding kind_of
-upper-tile L384 x y h = absurd (no-ram x y h)
-upper-tile K1 x y h = grind (arith, nat_tests, lower-odd K1 x y h, lower-inner K1 x y h)
-upper-tile K8 x y h = grind (arith, nat_tests, lower-odd K8 x y h, lower-inner K8 x y h)
+upper-tile Lp384 x y h = absurd (no-ram x y h)
+upper-tile Hx1k x y h = grind (arith, nat_tests, lower-odd Hx1k x y h, lower-inner Hx1k x y h)
+upper-tile Hx8k x y h = grind (arith, nat_tests, lower-odd Hx8k x y h, lower-inner Hx8k x y h)
 
 -- a half has one column of RAM
 pub lower-same_x : (device : DeviceName) (x y x' y' : ℕ) → kind_of device x y ≡ Some RamB → kind_of device x' y' ≡ Some RamB → is_right device x ≡ is_right device x' → x ≡ x'
-lower-same_x L384 x y x' y' h h' r = absurd (no-ram x y h)
-lower-same_x K1 x y x' y' h h' r = grind (arith, nat_tests, lower-column K1 x y h, lower-column K1 x' y' h')
-lower-same_x K8 x y x' y' h h' r = grind (arith, nat_tests, lower-column K8 x y h, lower-column K8 x' y' h')
+lower-same_x Lp384 x y x' y' h h' r = absurd (no-ram x y h)
+lower-same_x Hx1k x y x' y' h h' r = grind (arith, nat_tests, lower-column Hx1k x y h, lower-column Hx1k x' y' h')
+lower-same_x Hx8k x y x' y' h h' r = grind (arith, nat_tests, lower-column Hx8k x y h, lower-column Hx8k x' y' h')
 
 -- which RAM of its bank a lower tile is, by whether those of the top half are counted from the top
 abbrev ram_in : DeviceName → Bool → ℕ → ℕ
@@ -68,11 +68,11 @@ ram_in device flip y = if is_top device y then (if flip then (last_y device - 2 
 
 -- is one of those that a RAM plane has room for
 ram_in-below : (device : DeviceName) (flip : Bool) (x y : ℕ) → kind_of device x y ≡ Some RamB → 16 * ram_in device flip y + 16 ≤ bram_width device
-ram_in-below L384 flip x y h = absurd (no-ram x y h)
-ram_in-below K1 true x y h = grind (arith, nat_tests, lower-third K1 x y h)
-ram_in-below K1 false x y h = grind (arith, nat_tests, lower-third K1 x y h)
-ram_in-below K8 true x y h = grind (arith, nat_tests, lower-third K8 x y h)
-ram_in-below K8 false x y h = grind (arith, nat_tests, lower-third K8 x y h)
+ram_in-below Lp384 flip x y h = absurd (no-ram x y h)
+ram_in-below Hx1k true x y h = grind (arith, nat_tests, lower-third Hx1k x y h)
+ram_in-below Hx1k false x y h = grind (arith, nat_tests, lower-third Hx1k x y h)
+ram_in-below Hx8k true x y h = grind (arith, nat_tests, lower-third Hx8k x y h)
+ram_in-below Hx8k false x y h = grind (arith, nat_tests, lower-third Hx8k x y h)
 
 -- under a layout too
 pub ram_of_below : (layout : Layout) (x y : ℕ) → kind_of layout.device x y ≡ Some RamB → 16 * ram_of layout y + 16 ≤ bram_width layout.device
@@ -81,11 +81,11 @@ ram_of_below layout x y h = ram_in-below layout.device layout.ram_flip x y h
 -- a RAM of a half by its number
 lower-same_y : (device : DeviceName) (flip : Bool) (x y x' y' : ℕ) → kind_of device x y ≡ Some RamB → kind_of device x' y' ≡ Some RamB → is_top device y ≡ is_top device y'
     → ram_in device flip y ≡ ram_in device flip y' → y ≡ y'
-lower-same_y L384 flip x y x' y' h h' t e = absurd (no-ram x y h)
-lower-same_y K1 true x y x' y' h h' t e = grind (arith, nat_tests, lower-odd K1 x y h, lower-odd K1 x' y' h', lower-inner K1 x y h, lower-inner K1 x' y' h')
-lower-same_y K1 false x y x' y' h h' t e = grind (arith, nat_tests, lower-odd K1 x y h, lower-odd K1 x' y' h', lower-inner K1 x y h, lower-inner K1 x' y' h')
-lower-same_y K8 true x y x' y' h h' t e = grind (arith, nat_tests, lower-odd K8 x y h, lower-odd K8 x' y' h', lower-inner K8 x y h, lower-inner K8 x' y' h')
-lower-same_y K8 false x y x' y' h h' t e = grind (arith, nat_tests, lower-odd K8 x y h, lower-odd K8 x' y' h', lower-inner K8 x y h, lower-inner K8 x' y' h')
+lower-same_y Lp384 flip x y x' y' h h' t e = absurd (no-ram x y h)
+lower-same_y Hx1k true x y x' y' h h' t e = grind (arith, nat_tests, lower-odd Hx1k x y h, lower-odd Hx1k x' y' h', lower-inner Hx1k x y h, lower-inner Hx1k x' y' h')
+lower-same_y Hx1k false x y x' y' h h' t e = grind (arith, nat_tests, lower-odd Hx1k x y h, lower-odd Hx1k x' y' h', lower-inner Hx1k x y h, lower-inner Hx1k x' y' h')
+lower-same_y Hx8k true x y x' y' h h' t e = grind (arith, nat_tests, lower-odd Hx8k x y h, lower-odd Hx8k x' y' h', lower-inner Hx8k x y h, lower-inner Hx8k x' y' h')
+lower-same_y Hx8k false x y x' y' h h' t e = grind (arith, nat_tests, lower-odd Hx8k x y h, lower-odd Hx8k x' y' h', lower-inner Hx8k x y h, lower-inner Hx8k x' y' h')
 
 -- two RAMs in which one column of bits lies are one
 same_ram : (k l a b : ℕ) → a < 16 → b < 16 → 16 * k + 15 - a ≡ 16 * l + 15 - b → (k ≡ l) × (a ≡ b)
@@ -116,36 +116,36 @@ row_in device flip top k = if top then (if flip then last_y device - 2 - 2 * k e
 -- there stands a lower tile
 kind_of-in : (device : DeviceName) (flip right top : Bool) (k : ℕ) → 16 * k < bram_width device → kind_of device (column_in device right) (row_in device flip top k) ≡ Some RamB
 unfolding kind_of
-kind_of-in L384 flip right top k h = absurd (omega (arith, h))
-kind_of-in K1 true right top k h = grind (arith, nat_tests)
-kind_of-in K1 false right top k h = grind (arith, nat_tests)
-kind_of-in K8 true right top k h = grind (arith, nat_tests)
-kind_of-in K8 false right top k h = grind (arith, nat_tests)
+kind_of-in Lp384 flip right top k h = absurd (omega (arith, h))
+kind_of-in Hx1k true right top k h = grind (arith, nat_tests)
+kind_of-in Hx1k false right top k h = grind (arith, nat_tests)
+kind_of-in Hx8k true right top k h = grind (arith, nat_tests)
+kind_of-in Hx8k false right top k h = grind (arith, nat_tests)
 
 -- of that half of the columns
 is_right-in : (device : DeviceName) (right : Bool) → is_right device (column_in device right) ≡ right
-is_right-in L384 true = refl
-is_right-in L384 false = refl
-is_right-in K1 true = refl
-is_right-in K1 false = refl
-is_right-in K8 true = refl
-is_right-in K8 false = refl
+is_right-in Lp384 true = refl
+is_right-in Lp384 false = refl
+is_right-in Hx1k true = refl
+is_right-in Hx1k false = refl
+is_right-in Hx8k true = refl
+is_right-in Hx8k false = refl
 
 -- of that half of the rows
 is_top-in : (device : DeviceName) (flip top : Bool) (k : ℕ) → 16 * k < bram_width device → is_top device (row_in device flip top k) ≡ top
-is_top-in L384 flip top k h = absurd (omega (arith, h))
-is_top-in K1 true top k h = grind (arith, nat_tests)
-is_top-in K1 false top k h = grind (arith, nat_tests)
-is_top-in K8 true top k h = grind (arith, nat_tests)
-is_top-in K8 false top k h = grind (arith, nat_tests)
+is_top-in Lp384 flip top k h = absurd (omega (arith, h))
+is_top-in Hx1k true top k h = grind (arith, nat_tests)
+is_top-in Hx1k false top k h = grind (arith, nat_tests)
+is_top-in Hx8k true top k h = grind (arith, nat_tests)
+is_top-in Hx8k false top k h = grind (arith, nat_tests)
 
 -- and of that number
 ram_of-in : (device : DeviceName) (flip top : Bool) (k : ℕ) → 16 * k < bram_width device → ram_in device flip (row_in device flip top k) ≡ k
-ram_of-in L384 flip top k h = absurd (omega (arith, h))
-ram_of-in K1 true top k h = grind (arith, nat_tests)
-ram_of-in K1 false top k h = grind (arith, nat_tests)
-ram_of-in K8 true top k h = grind (arith, nat_tests)
-ram_of-in K8 false top k h = grind (arith, nat_tests)
+ram_of-in Lp384 flip top k h = absurd (omega (arith, h))
+ram_of-in Hx1k true top k h = grind (arith, nat_tests)
+ram_of-in Hx1k false top k h = grind (arith, nat_tests)
+ram_of-in Hx8k true top k h = grind (arith, nat_tests)
+ram_of-in Hx8k false top k h = grind (arith, nat_tests)
 
 -- a quarter by its halves
 quarter-halves : (n : ℕ) → n < 4 → (top : Bool) × (right : Bool) × (quarter top right ≡ n)

@@ -1,10 +1,10 @@
 -- The definitions at places that are known from outside, and under layouts that differ from the standard one.
 use Rattle.std.proofs.Common.{◌≡◌, true, false, [], ◌∷◌, refl}
-use Rattle.plane_map.specs.declared.device.DeviceName.TheVariants.{K1}
+use Rattle.plane_map.specs.declared.device.DeviceName.TheVariants.{Hx1k}
 use Rattle.plane_map.specs.Layout.{Layout, standard_layout, place_of, word_place_of, start_in, standard_widths, standard_side_columns, standard_pad_columns, standard_pad_rows, standard_banks, are_widths, are_places}
 
 abbrev standard : Layout
-standard = standard_layout K1
+standard = standard_layout Hx1k
 
 -- ---- the standard layout
 
@@ -73,12 +73,12 @@ rams_unflipped = refl
 -- ---- lists that are no layout's
 
 -- a column of logic tiles that is too narrow
-narrow : are_widths K1 (18 ∷ 53 ∷ 54 ∷ 42 ∷ 54 ∷ 54 ∷ 54 ∷ []) ≡ false
+narrow : are_widths Hx1k (18 ∷ 53 ∷ 54 ∷ 42 ∷ 54 ∷ 54 ∷ 54 ∷ []) ≡ false
 unfolding start_in
 narrow = refl
 
 -- columns for which a plane has no room
-too_wide : are_widths K1 (20 ∷ 54 ∷ 54 ∷ 42 ∷ 54 ∷ 54 ∷ 55 ∷ []) ≡ false
+too_wide : are_widths Hx1k (20 ∷ 54 ∷ 54 ∷ 42 ∷ 54 ∷ 54 ∷ 55 ∷ []) ≡ false
 unfolding start_in
 too_wide = refl
 

@@ -6,7 +6,7 @@
 -- needs only how far a column of tiles is from its side edge, and a row of tiles from its end edge.
 use Rattle.std.specs.Prelude.{◌≡◌, ◌≢◌, ℕ, zero, suc, ◌+◌, ◌-◌, ◌*◌, ◌/◌, ◌%◌, ◌<◌, Bool, true, false, ◌&&◌, ◌||◌, List, [], ◌∷◌, slice_index, nat_lt, nat_le, not, ◌==◌, if◌then◌else◌, Option, Some, None, length}
 use Rattle.plane_map.specs.declared.device.DeviceName.{DeviceName}
-use Rattle.plane_map.specs.declared.device.DeviceName.TheVariants.{L384, K1, K8}
+use Rattle.plane_map.specs.declared.device.DeviceName.TheVariants.{Lp384, Hx1k, Hx8k}
 use Rattle.plane_map.specs.declared.tile.TileKind.{TileKind}
 use Rattle.plane_map.specs.declared.tile.TileKind.TheVariants.{Io, Logic, RamB, RamT}
 use Rattle.plane_map.specs.declared.tile.TileBit.{TileBit}
@@ -15,24 +15,28 @@ use Rattle.plane_map.specs.declared.tile.Place.{Place}
 
 -- ---- the grid
 
+-- the most columns, and the most rows, that the grid of a device has
+abbrev pub max_side : ℕ
+max_side = 34
+
 -- how many columns of tiles there are
 abbrev pub grid_width : DeviceName → ℕ
-grid_width L384 = 8
-grid_width K1 = 14
-grid_width K8 = 34
+grid_width Lp384 = 8
+grid_width Hx1k = 14
+grid_width Hx8k = 34
 
 -- how many rows of tiles there are
 abbrev pub grid_height : DeviceName → ℕ
-grid_height L384 = 10
-grid_height K1 = 18
-grid_height K8 = 34
+grid_height Lp384 = 10
+grid_height Hx1k = 18
+grid_height Hx8k = 34
 
 -- The left one of the two columns of RAM; the right one is equally far from the right edge. It is 0 if the device has no RAM: column 0
 -- is the edge, which has io tiles only.
 abbrev pub ram_column : DeviceName → ℕ
-ram_column L384 = 0
-ram_column K1 = 3
-ram_column K8 = 8
+ram_column Lp384 = 0
+ram_column Hx1k = 3
+ram_column Hx8k = 8
 
 -- the right edge
 abbrev pub last_x : DeviceName → ℕ
@@ -91,25 +95,25 @@ pub record IsWordBit (device : DeviceName) (at : WordBit) : Type 0 where
 
 -- how many columns and rows of bits each of the four configuration planes has
 abbrev pub cram_width : DeviceName → ℕ
-cram_width L384 = 182
-cram_width K1 = 332
-cram_width K8 = 872
+cram_width Lp384 = 182
+cram_width Hx1k = 332
+cram_width Hx8k = 872
 
 abbrev pub cram_height : DeviceName → ℕ
-cram_height L384 = 80
-cram_height K1 = 144
-cram_height K8 = 272
+cram_height Lp384 = 80
+cram_height Hx1k = 144
+cram_height Hx8k = 272
 
 -- how many columns and rows of bits each of the four RAM planes has: 0 if the device has no RAM
 abbrev pub bram_width : DeviceName → ℕ
-bram_width L384 = 0
-bram_width K1 = 64
-bram_width K8 = 128
+bram_width Lp384 = 0
+bram_width Hx1k = 64
+bram_width Hx8k = 128
 
 abbrev pub bram_height : DeviceName → ℕ
-bram_height L384 = 0
-bram_height K1 = 256
-bram_height K8 = 256
+bram_height Lp384 = 0
+bram_height Hx1k = 256
+bram_height Hx8k = 256
 
 -- a place of the device's four configuration planes
 pub record IsInCram (device : DeviceName) (at : Place) : Type 0 where
@@ -203,9 +207,9 @@ pub record IsLayout (layout : Layout) : Type 0 where
 
 -- how many columns of bits the columns of tiles take
 unfoldable pub standard_widths : DeviceName → List ℕ
-standard_widths L384 = 18 ∷ 54 ∷ 54 ∷ 54 ∷ []
-standard_widths K1 = 18 ∷ 54 ∷ 54 ∷ 42 ∷ 54 ∷ 54 ∷ 54 ∷ []
-standard_widths K8 = 18 ∷ 54 ∷ 54 ∷ 54 ∷ 54 ∷ 54 ∷ 54 ∷ 54 ∷ 42 ∷ 54 ∷ 54 ∷ 54 ∷ 54 ∷ 54 ∷ 54 ∷ 54 ∷ 54 ∷ []
+standard_widths Lp384 = 18 ∷ 54 ∷ 54 ∷ 54 ∷ []
+standard_widths Hx1k = 18 ∷ 54 ∷ 54 ∷ 42 ∷ 54 ∷ 54 ∷ 54 ∷ []
+standard_widths Hx8k = 18 ∷ 54 ∷ 54 ∷ 54 ∷ 54 ∷ 54 ∷ 54 ∷ 54 ∷ 42 ∷ 54 ∷ 54 ∷ 54 ∷ 54 ∷ 54 ∷ 54 ∷ 54 ∷ 54 ∷ []
 
 -- the columns of bits of the io tiles of the sides, from the inner column to the edge
 unfoldable pub standard_side_columns : List ℕ

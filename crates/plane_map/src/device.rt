@@ -1,21 +1,24 @@
 // The devices.
 ghost use Rattle.std.specs.Prelude.{◌≡◌, ℕ, refl};
 ghost use Rattle.plane_map.specs.declared.device.DeviceName.{DeviceName as Name};
-ghost use Rattle.plane_map.specs.declared.device.DeviceName.TheVariants.{L384, K1, K8};
+ghost use Rattle.plane_map.specs.declared.device.DeviceName.TheVariants as device_name;
 ghost use Rattle.plane_map.specs.Devices.{has_database, is_same_device};
 ghost use Rattle.plane_map.specs.Layout.{grid_width, grid_height, ram_column, cram_width, cram_height, bram_width, bram_height};
 
 use bit_plane::{Bits, Plane};
 
+/// The most columns, and the most rows, that the grid of a device has.
+pub const MAX_SIDE: usize = 34;
+
 /// A device by its name.
 #[derive(Clone, Copy, Debug, PartialEq, Eq)]
 pub enum DeviceName {
     /// iCE40 LP384: a grid of 8 by 10, without RAM.
-    L384,
+    Lp384,
     /// iCE40 HX1K: a grid of 14 by 18.
-    K1,
+    Hx1k,
     /// iCE40 HX8K: a grid of 34 by 34.
-    K8,
+    Hx8k,
 }
 
 impl DeviceName {
@@ -31,8 +34,8 @@ impl DeviceName {
         ensures { result ≡ has_database self }
     {
         match self {
-            DeviceName::L384 => false,
-            DeviceName::K1 | DeviceName::K8 => true,
+            DeviceName::Lp384 => false,
+            DeviceName::Hx1k | DeviceName::Hx8k => true,
         }
     }
 
@@ -41,9 +44,9 @@ impl DeviceName {
         ensures { result ≡ grid_width self }
     {
         match self {
-            DeviceName::L384 => 8,
-            DeviceName::K1 => 14,
-            DeviceName::K8 => 34,
+            DeviceName::Lp384 => 8,
+            DeviceName::Hx1k => 14,
+            DeviceName::Hx8k => 34,
         }
     }
 
@@ -52,9 +55,9 @@ impl DeviceName {
         ensures { result ≡ grid_height self }
     {
         match self {
-            DeviceName::L384 => 10,
-            DeviceName::K1 => 18,
-            DeviceName::K8 => 34,
+            DeviceName::Lp384 => 10,
+            DeviceName::Hx1k => 18,
+            DeviceName::Hx8k => 34,
         }
     }
 
@@ -63,9 +66,9 @@ impl DeviceName {
         ensures { result ≡ cram_width self }
     {
         match self {
-            DeviceName::L384 => 182,
-            DeviceName::K1 => 332,
-            DeviceName::K8 => 872,
+            DeviceName::Lp384 => 182,
+            DeviceName::Hx1k => 332,
+            DeviceName::Hx8k => 872,
         }
     }
 
@@ -74,9 +77,9 @@ impl DeviceName {
         ensures { result ≡ cram_height self }
     {
         match self {
-            DeviceName::L384 => 80,
-            DeviceName::K1 => 144,
-            DeviceName::K8 => 272,
+            DeviceName::Lp384 => 80,
+            DeviceName::Hx1k => 144,
+            DeviceName::Hx8k => 272,
         }
     }
 
@@ -85,9 +88,9 @@ impl DeviceName {
         ensures { result ≡ bram_width self }
     {
         match self {
-            DeviceName::L384 => 0,
-            DeviceName::K1 => 64,
-            DeviceName::K8 => 128,
+            DeviceName::Lp384 => 0,
+            DeviceName::Hx1k => 64,
+            DeviceName::Hx8k => 128,
         }
     }
 
@@ -96,8 +99,8 @@ impl DeviceName {
         ensures { result ≡ bram_height self }
     {
         match self {
-            DeviceName::L384 => 0,
-            DeviceName::K1 | DeviceName::K8 => 256,
+            DeviceName::Lp384 => 0,
+            DeviceName::Hx1k | DeviceName::Hx8k => 256,
         }
     }
 
@@ -106,9 +109,9 @@ impl DeviceName {
         ensures { result ≡ ram_column self }
     {
         match self {
-            DeviceName::L384 => 0,
-            DeviceName::K1 => 3,
-            DeviceName::K8 => 8,
+            DeviceName::Lp384 => 0,
+            DeviceName::Hx1k => 3,
+            DeviceName::Hx8k => 8,
         }
     }
 }
@@ -168,7 +171,7 @@ impl Device for Lp384 {
 
     type Bram = Plane<0, 0>;
 
-    ghost NAME = { L384 };
+    ghost NAME = { device_name.Lp384 };
 
     ghost GRID_W = { 8 };
 
@@ -176,7 +179,7 @@ impl Device for Lp384 {
 
     ghost RAM_COLUMN = { 0 };
 
-    const NAME: DeviceName = DeviceName::L384;
+    const NAME: DeviceName = DeviceName::Lp384;
 
     const GRID_W: usize = 8;
 
@@ -211,7 +214,7 @@ impl Device for Hx1k {
 
     type Bram = Plane<64, 256>;
 
-    ghost NAME = { K1 };
+    ghost NAME = { device_name.Hx1k };
 
     ghost GRID_W = { 14 };
 
@@ -219,7 +222,7 @@ impl Device for Hx1k {
 
     ghost RAM_COLUMN = { 3 };
 
-    const NAME: DeviceName = DeviceName::K1;
+    const NAME: DeviceName = DeviceName::Hx1k;
 
     const GRID_W: usize = 14;
 
@@ -254,7 +257,7 @@ impl Device for Hx8k {
 
     type Bram = Plane<128, 256>;
 
-    ghost NAME = { K8 };
+    ghost NAME = { device_name.Hx8k };
 
     ghost GRID_W = { 34 };
 
@@ -262,7 +265,7 @@ impl Device for Hx8k {
 
     ghost RAM_COLUMN = { 8 };
 
-    const NAME: DeviceName = DeviceName::K8;
+    const NAME: DeviceName = DeviceName::Hx8k;
 
     const GRID_W: usize = 34;
 

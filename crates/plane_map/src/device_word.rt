@@ -10,9 +10,9 @@ impl DeviceName {
         ensures { result.now ≡ device_word self }
     {
         match self {
-            DeviceName::L384 => b"384",
-            DeviceName::K1 => b"1k",
-            DeviceName::K8 => b"8k",
+            DeviceName::Lp384 => b"384",
+            DeviceName::Hx1k => b"1k",
+            DeviceName::Hx8k => b"8k",
         }
     }
 
@@ -21,11 +21,11 @@ impl DeviceName {
         ensures { result ≡ device_named word.now }
     {
         if word == b"384".as_slice() {
-            Some(DeviceName::L384)
+            Some(DeviceName::Lp384)
         } else if word == b"1k".as_slice() {
-            Some(DeviceName::K1)
+            Some(DeviceName::Hx1k)
         } else if word == b"8k".as_slice() {
-            Some(DeviceName::K8)
+            Some(DeviceName::Hx8k)
         } else {
             None
         }

@@ -13,7 +13,7 @@ mod runs;
 mod tile;
 mod tile_runs;
 
-pub use device::{Device, DeviceName, Hx1k, Hx8k, Lp384};
+pub use device::{Device, DeviceName, Hx1k, Hx8k, Lp384, MAX_SIDE};
 pub use grid::kind_on;
 pub use layout::Layout;
 pub use place::{kind_at, tile_width};

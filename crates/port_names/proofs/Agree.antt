@@ -10,13 +10,13 @@ use Rattle.vlog_module.specs.declared.item.Lut.{Lut}
 use Rattle.vlog_module.specs.declared.item.Right.{Right}
 use Rattle.vlog_module.specs.declared.item.Right.TheVariants.{Bit as RightBit, Whole as RightWhole, Part as RightPart, Lut as RightLut, Majority, Choose}
 use Rattle.vlog_module.specs.declared.item.Item.{Item}
-use Rattle.vlog_module.specs.declared.item.Item.TheVariants.{Register as RegisterItem, Word as WordItem, Memory as MemoryItem, Wire as WireItem, Assign, Flip, FlipAtOnce, SetAtOnce, Read, ReadNarrow, Write, WriteNarrow, Start}
+use Rattle.vlog_module.specs.declared.item.Item.TheVariants.{Register as RegisterItem, Word as WordItem, Memory as MemoryItem, Wire as WireItem, Assign, FlipFlop, AsyncFlipFlop, AsyncReset, Read, ReadNarrow, Write, WriteNarrow, Start}
 use Rattle.vlog_module.specs.declared.sort.Sort.TheVariants.{Register, Word, Memory}
 use Rattle.vlog_module.specs.Parts.{Parts}
 use Rattle.vlog_module.specs.Uses.{Use, atom_uses, atoms_uses, lut_uses, right_uses, uses_of, used_name}
 use Rattle.vlog_module.specs.Uses.Use.{Takes, Assigns}
 use Rattle.vlog_module.specs.WellFormed.{IsModule}
-use Rattle.vlog_plan.specs.Named.{has_name, names_of}
+use Rattle.vlog_semantics.specs.Named.{has_name, names_of}
 use Rattle.port_names.specs.Renamed.{renamed_atom, renamed_atoms, renamed_lut, renamed_right, renamed_item, renamed_port, renamed_parts, renamed_values}
 use Rattle.port_names.specs.Fresh.{declared_names}
 use Rattle.port_names.proofs.Declared.{used-declared, ports-declared}
@@ -62,14 +62,14 @@ module _ (one two : List ℕ → List ℕ) where
   item-agrees (MemoryItem name) all = λ i. MemoryItem (all.0 i)
   item-agrees (WireItem name right) all = λ i. WireItem (all.0 i) (right-agrees right all.1 i)
   item-agrees (Assign name value) all = λ i. Assign (all.0 i) (atom-agrees value all.1 i)
-  item-agrees (Flip falling clock enable reset set target lut) all =
+  item-agrees (FlipFlop falling clock enable reset set target lut) all =
       let parts = AllByRecursion-parts Agrees (atom_uses enable ++ atom_uses reset) (Assigns Register target ∷ lut_uses lut) all.1 in
       let atoms = AllByRecursion-parts Agrees (atom_uses enable) (atom_uses reset) parts.0 in
-      λ i. Flip falling (all.0 i) (atom-agrees enable atoms.0 i) (atom-agrees reset atoms.1 i) set (parts.1.0 i) (lut-agrees lut parts.1.1 i)
-  item-agrees (FlipAtOnce falling clock reset set target enable lut) all =
+      λ i. FlipFlop falling (all.0 i) (atom-agrees enable atoms.0 i) (atom-agrees reset atoms.1 i) set (parts.1.0 i) (lut-agrees lut parts.1.1 i)
+  item-agrees (AsyncFlipFlop falling clock reset set target enable lut) all =
       let parts = AllByRecursion-parts Agrees (atom_uses enable) (lut_uses lut) all.1.1.1 in
-      λ i. FlipAtOnce falling (all.0 i) (all.1.0 i) set (all.1.1.0 i) (atom-agrees enable parts.0 i) (lut-agrees lut parts.1 i)
-  item-agrees (SetAtOnce reset set target) all = λ i. SetAtOnce (all.0 i) set (all.1.0 i)
+      λ i. AsyncFlipFlop falling (all.0 i) (all.1.0 i) set (all.1.1.0 i) (atom-agrees enable parts.0 i) (lut-agrees lut parts.1 i)
+  item-agrees (AsyncReset reset set target) all = λ i. AsyncReset (all.0 i) set (all.1.0 i)
   item-agrees (Read falling clock clock_enable enable target memory address) all =
       let parts = AllByRecursion-parts Agrees (atom_uses clock_enable ++ atom_uses enable) (Assigns Word target ∷ Takes Memory memory ∷ atoms_uses address) all.1 in
       let atoms = AllByRecursion-parts Agrees (atom_uses clock_enable) (atom_uses enable) parts.0 in

@@ -3,10 +3,10 @@ use Rattle.std.proofs.Common.{◌≡◌, ℕ, zero, suc, ◌+◌, Bool, true, fa
 use Rattle.std.specs.Prelude.{bytes_eq, map, fold}
 use Rattle.std.proofs.lemmas.List.{map-append}
 use Rattle.vlog_module.specs.Maps.{value_in}
-use Rattle.vlog_plan.specs.Entries.{put}
-use Rattle.vlog_plan.specs.Named.{names_of, values_of}
-use Rattle.vlog_plan.specs.Numbered.{numbered}
-use Rattle.vlog_plan.specs.Run.{with_input}
+use Rattle.vlog_semantics.specs.Entries.{put}
+use Rattle.vlog_semantics.specs.Named.{names_of, values_of}
+use Rattle.vlog_semantics.specs.Numbered.{numbered}
+use Rattle.vlog_semantics.specs.Run.{with_input}
 use Rattle.port_names.specs.Renamed.{renamed_values}
 
 -- names are the same after it exactly if they are the same before

@@ -15,9 +15,9 @@ use Rattle.vlog_module.specs.declared.sort.Sort.TheVariants.{Register, Word, Mem
 use Rattle.vlog_module.specs.Maps.{value_in}
 use Rattle.vlog_module.specs.Parts.{Parts}
 use Rattle.vlog_module.specs.Uses.{Use, uses_of, used_name}
-use Rattle.vlog_module.specs.Uses.Use.{Declares, Reads, ReadsBit, Takes, Assigns, Chooses, AssignsAtOnce, Starts}
+use Rattle.vlog_module.specs.Uses.Use.{Declares, Reads, ReadsBit, Takes, Assigns, Chooses, AssignsAsync, Starts}
 use Rattle.vlog_module.specs.WellFormed.{IsModule, Scope, declared_by, has_bit, is_first, is_known, is_read_unless, is_sort, port_sort, scope_of, sort_in}
-use Rattle.vlog_plan.specs.Named.{has_name, names_of}
+use Rattle.vlog_semantics.specs.Named.{has_name, names_of}
 use Rattle.port_names.specs.Fresh.{declared_names, port_names}
 use Rattle.port_names.proofs.Exchange.{itself}
 
@@ -64,7 +64,7 @@ itself-or-before scope (ReadsBit name k) known = in-first (names_of scope.declar
 itself-or-before scope (Takes sort name) known = in-first (names_of scope.declared) [] name (sym (found-name scope.declared name) ∙ sort-found sort (sort_in scope.declared name) known)
 itself-or-before scope (Assigns sort name) known = in-first (names_of scope.declared) [] name (sym (found-name scope.declared name) ∙ sort-found sort (sort_in scope.declared name) known)
 itself-or-before scope (Chooses reset set name) known = in-first (names_of scope.declared) [] name (sym (found-name scope.declared name) ∙ sort-found Register (sort_in scope.declared name) known)
-itself-or-before scope (AssignsAtOnce reset set name) known =
+itself-or-before scope (AssignsAsync reset set name) known =
     in-first (names_of scope.declared) [] name
     (sym (found-name scope.declared name) ∙ sort-found Register (sort_in scope.declared name) (first_true (is_sort Register (sort_in scope.declared name)) (is_read_unless scope.read reset set name) known))
 itself-or-before scope (Starts name k) known = in-first (names_of scope.declared) [] name (sym (found-name scope.declared name) ∙ sort-found Memory (sort_in scope.declared name) known)

@@ -10,21 +10,21 @@ use Rattle.vlog_module.specs.declared.atoms.Atom.TheVariants.{Bit, Whole, Part}
 use Rattle.vlog_module.specs.declared.item.Right.{Right}
 use Rattle.vlog_module.specs.declared.item.Right.TheVariants.{Bit as RightBit, Whole as RightWhole, Part as RightPart, Lut as RightLut, Majority, Choose}
 use Rattle.vlog_module.specs.declared.item.Item.{Item}
-use Rattle.vlog_module.specs.declared.item.Item.TheVariants.{Register as RegisterItem, Word, Memory, Wire, Assign, Flip, FlipAtOnce, SetAtOnce, Read, ReadNarrow, Write, WriteNarrow, Start}
+use Rattle.vlog_module.specs.declared.item.Item.TheVariants.{Register as RegisterItem, Word, Memory, Wire, Assign, FlipFlop, AsyncFlipFlop, AsyncReset, Read, ReadNarrow, Write, WriteNarrow, Start}
 use Rattle.vlog_module.specs.declared.modules.Port.{Port}
 use Rattle.vlog_module.specs.Uses.{Use, atom_uses, atoms_uses, right_uses, uses_of}
-use Rattle.vlog_module.specs.Uses.Use.{Declares, Reads, ReadsBit, Takes, Assigns, Chooses, AssignsAtOnce, Starts}
+use Rattle.vlog_module.specs.Uses.Use.{Declares, Reads, ReadsBit, Takes, Assigns, Chooses, AssignsAsync, Starts}
 use Rattle.vlog_module.specs.WellFormed.{port_sort, declared_by}
-use Rattle.net_extract.specs.declared.register.Register.{Register}
-use Rattle.net_extract.specs.declared.ram.RamCell.{RamCell}
-use Rattle.net_extract.specs.declared.pin.Pin.{Pin}
-use Rattle.net_extract.specs.Tiles.{each_below}
-use Rattle.net_extract.specs.Pins.{is_tri_state}
-use Rattle.net_extract.specs.Fabric.{Fabric, numbered}
-use Rattle.net_extract.specs.Outputs.{outputs_of}
-use Rattle.place_search.proofs.Gathered.{All-gathered_below}
-use Rattle.net_extract.proofs.Apart.{All-every}
-use Rattle.net_extract.proofs.Within.{All-flat_map, All-single, All-if}
+use Rattle.fabric_model.specs.declared.register.Register.{Register}
+use Rattle.fabric_model.specs.declared.ram.RamCell.{RamCell}
+use Rattle.fabric_model.specs.declared.pin.Pin.{Pin}
+use Rattle.fabric_model.specs.Tiles.{each_below}
+use Rattle.fabric_model.specs.Pins.{is_tri_state}
+use Rattle.fabric_model.specs.Fabric.{Fabric, numbered}
+use Rattle.fabric_model.specs.Outputs.{outputs_of}
+use Rattle.index_search.proofs.Gathered.{All-gathered_below}
+use Rattle.fabric_model.proofs.Apart.{All-every}
+use Rattle.fabric_model.proofs.Within.{All-flat_map, All-single, All-if}
 use Rattle.fabric_module.specs.Names.{enable_name}
 use Rattle.fabric_module.specs.Rights.{setting_wire}
 use Rattle.fabric_module.specs.Written.{clock_name, clocked, port_of, enable_ports, pin_ports, register_item, read_register, ram_memory, class_wire, output_assign, items_by, register_items, read_item, read_items, write_item, write_items, start_item, start_items, items_of, module_of}
@@ -98,17 +98,17 @@ item-own (Word name start) own = All-single UseOwn (Declares sort.Word name) (on
 item-own (Memory name) own = All-single UseOwn (Declares sort.Memory name) (one-own sort.Memory name own)
 item-own (Wire name right) own = All-cons UseOwn (Declares sort.Wire name) (right_uses right) (one-own sort.Wire name own) (right-own right)
 item-own (Assign name value) own = All-cons UseOwn (Assigns sort.Output name) (atom_uses value) nothing (atom-own value)
-item-own (Flip falling clock enable reset set target lut) own =
+item-own (FlipFlop falling clock enable reset set target lut) own =
     All-cons UseOwn (Takes sort.Input clock) (atom_uses enable ++ atom_uses reset ++ Assigns sort.Register target ∷ atoms_uses lut.ins) nothing
     (All-append UseOwn (atom_uses enable ++ atom_uses reset) (Assigns sort.Register target ∷ atoms_uses lut.ins) (both-own enable reset)
     (All-cons UseOwn (Assigns sort.Register target) (atoms_uses lut.ins) nothing (atoms-own lut.ins)))
-item-own (FlipAtOnce falling clock reset set target enable lut) own =
+item-own (AsyncFlipFlop falling clock reset set target enable lut) own =
     let table = atom_uses enable ++ atoms_uses lut.ins in
-    All-cons UseOwn (Takes sort.Input clock) (Takes sort.Wire reset ∷ AssignsAtOnce reset set target ∷ table) nothing
-    (All-cons UseOwn (Takes sort.Wire reset) (AssignsAtOnce reset set target ∷ table) nothing
-    (All-cons UseOwn (AssignsAtOnce reset set target) table nothing (All-append UseOwn (atom_uses enable) (atoms_uses lut.ins) (atom-own enable) (atoms-own lut.ins))))
-item-own (SetAtOnce reset set target) own =
-    All-cons UseOwn (Takes sort.Wire reset) (AssignsAtOnce reset set target ∷ []) nothing (All-single UseOwn (AssignsAtOnce reset set target) nothing)
+    All-cons UseOwn (Takes sort.Input clock) (Takes sort.Wire reset ∷ AssignsAsync reset set target ∷ table) nothing
+    (All-cons UseOwn (Takes sort.Wire reset) (AssignsAsync reset set target ∷ table) nothing
+    (All-cons UseOwn (AssignsAsync reset set target) table nothing (All-append UseOwn (atom_uses enable) (atoms_uses lut.ins) (atom-own enable) (atoms-own lut.ins))))
+item-own (AsyncReset reset set target) own =
+    All-cons UseOwn (Takes sort.Wire reset) (AssignsAsync reset set target ∷ []) nothing (All-single UseOwn (AssignsAsync reset set target) nothing)
 item-own (Read falling clock clock_enable enable target memory address) own =
     All-cons UseOwn (Takes sort.Input clock) (atom_uses clock_enable ++ atom_uses enable ++ Assigns sort.Word target ∷ Takes sort.Memory memory ∷ atoms_uses address) nothing
     (taken-own clock_enable enable target memory address)

@@ -8,14 +8,14 @@ use Rattle.vlog_module.specs.declared.item.Item.TheVariants.{Register, Word, Mem
 use Rattle.vlog_module.specs.declared.modules.Port.{Port}
 use Rattle.vlog_module.specs.Parts.{Parts}
 use Rattle.vlog_module.specs.Uses.{uses_of}
-use Rattle.vlog_plan.specs.declared.event.Event.{Event}
-use Rattle.vlog_plan.specs.Entries.{Entry, put}
-use Rattle.vlog_plan.specs.ModuleSlots.{IsNamed, wire_start}
-use Rattle.vlog_plan.specs.Named.{names_of}
-use Rattle.vlog_plan.specs.Run.{changed, followed, input_bit, input_start, is_same_bit, memory_start, memory_step, module_run, output_start, output_step, register_start, register_step, run_from, settled, start, start_step, with_input, word_start, word_step}
-use Rattle.vlog_plan.specs.Values.{Readable, atom_value}
-use Rattle.vlog_plan.proofs.Entering.{AreNamed, changed-named, settled-named, start-named}
-use Rattle.vlog_plan.proofs.Lookups.{names-put}
+use Rattle.vlog_semantics.specs.declared.event.Event.{Event}
+use Rattle.vlog_semantics.specs.Entries.{Entry, put}
+use Rattle.vlog_semantics.specs.ModuleSlots.{IsNamed, wire_start}
+use Rattle.vlog_semantics.specs.Named.{names_of}
+use Rattle.vlog_semantics.specs.Run.{changed, followed, input_bit, input_start, is_same_bit, memory_start, memory_step, module_run, output_start, output_step, register_start, register_step, run_from, settled, start, start_step, with_input, word_start, word_step}
+use Rattle.vlog_semantics.specs.Values.{Readable, atom_value}
+use Rattle.vlog_semantics.proofs.Entering.{AreNamed, changed-named, settled-named, start-named}
+use Rattle.vlog_semantics.proofs.Lookups.{names-put}
 use Rattle.port_names.proofs.Declared.{names_by}
 
 -- ---- entries of a run have the names of the module

@@ -8,7 +8,7 @@ use Rattle.std.proofs.lemmas.Map.Keys.{IsDistinct-head, IsDistinct-tail}
 use Rattle.shared_lemmas.proofs.Bytes.{same_bytes, bytes_eq-same, bytes_eq-turned}
 use Rattle.shared_lemmas.proofs.Tests.{same_test, first_false, second_false}
 use Rattle.vlog_module.specs.Names.{IsName}
-use Rattle.vlog_plan.specs.Named.{has_name}
+use Rattle.vlog_semantics.specs.Named.{has_name}
 use Rattle.port_names.specs.Renamed.{new_name}
 use Rattle.port_names.specs.Fresh.{old_names, new_names, NoneIn, AreNames}
 use Rattle.port_names.proofs.Apart.{KeepsApart}

@@ -7,12 +7,12 @@ use Rattle.shared_lemmas.proofs.Bytes.{bytes_eq-same, bytes_eq-apart}
 use Rattle.vlog_module.specs.declared.modules.Port.{Port}
 use Rattle.vlog_module.specs.Names.{IsName}
 use Rattle.vlog_module.specs.WellFormed.{IsModule}
-use Rattle.vlog_plan.specs.Named.{has_name}
-use Rattle.net_extract.specs.declared.pin.Pin.{Pin}
-use Rattle.net_extract.specs.Pins.{is_tri_state}
-use Rattle.net_extract.specs.Fabric.{Fabric}
-use Rattle.net_extract.proofs.Apart.{AreApart, apart-weaker}
-use Rattle.net_extract.proofs.Within.{All-flat_map, All-single}
+use Rattle.vlog_semantics.specs.Named.{has_name}
+use Rattle.fabric_model.specs.declared.pin.Pin.{Pin}
+use Rattle.fabric_model.specs.Pins.{is_tri_state}
+use Rattle.fabric_model.specs.Fabric.{Fabric}
+use Rattle.fabric_model.proofs.Apart.{AreApart, apart-weaker}
+use Rattle.fabric_model.proofs.Within.{All-flat_map, All-single}
 use Rattle.fabric_module.specs.Names.{port_name, enable_name}
 use Rattle.fabric_module.specs.Written.{port_of, enable_ports, pin_ports, module_of}
 use Rattle.pin_file.specs.declared.pin_name.PinName.{PinName}

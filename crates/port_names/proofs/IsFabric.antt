@@ -7,15 +7,15 @@ use Rattle.chipdb_reader.specs.Database.{Database}
 use Rattle.chipdb_reader.specs.Fit.{IsFit}
 use Rattle.vlog_module.specs.Names.{IsName}
 use Rattle.vlog_module.specs.WellFormed.{IsModule}
-use Rattle.vlog_plan.specs.Run.{module_run}
-use Rattle.net_extract.specs.declared.lut_inputs.LutInputs.{LutInputs}
-use Rattle.net_extract.specs.declared.pin.Pin.{Pin}
-use Rattle.net_extract.specs.Fabric.{fabric_with, fabric_of}
-use Rattle.net_extract.specs.Steps.{Event}
+use Rattle.vlog_semantics.specs.Run.{module_run}
+use Rattle.fabric_model.specs.declared.lut_inputs.LutInputs.{LutInputs}
+use Rattle.fabric_model.specs.declared.pin.Pin.{Pin}
+use Rattle.fabric_model.specs.Fabric.{fabric_with, fabric_of}
+use Rattle.fabric_model.specs.Steps.{Event}
 use Rattle.graph_order.specs.Wiring.{IsWriteOrder}
-use Rattle.net_extract.specs.Wiring.{wiring_of}
-use Rattle.net_extract.specs.Faults.{design_fault}
-use Rattle.net_extract.proofs.Apart.{AreApart}
+use Rattle.fabric_model.specs.Wiring.{wiring_of}
+use Rattle.fabric_model.specs.Faults.{design_fault}
+use Rattle.fabric_model.proofs.Apart.{AreApart}
 use Rattle.fabric_module.specs.Written.{pin_ports, module_of}
 use Rattle.fabric_module.specs.Matching.{module_event}
 use Rattle.fabric_module.specs.Law.{RunsAlike}

@@ -9,10 +9,10 @@ use Rattle.shared_lemmas.proofs.Options.{none_from_is_some}
 use Rattle.vlog_module.specs.Maps.{value_in}
 use Rattle.vlog_module.specs.Parts.{Parts}
 use Rattle.vlog_module.specs.WellFormed.{IsModule}
-use Rattle.vlog_plan.specs.declared.event.Event.{Event}
-use Rattle.vlog_plan.specs.Entries.{Entry}
-use Rattle.vlog_plan.specs.Named.{has_name, names_of}
-use Rattle.vlog_plan.specs.Run.{followed, module_run, start}
+use Rattle.vlog_semantics.specs.declared.event.Event.{Event}
+use Rattle.vlog_semantics.specs.Entries.{Entry}
+use Rattle.vlog_semantics.specs.Named.{has_name, names_of}
+use Rattle.vlog_semantics.specs.Run.{followed, module_run, start}
 use Rattle.port_names.specs.Fresh.{AreNames, IsFresh, NoneIn, OnlyPorts, declared_names, new_names, old_names, port_names}
 use Rattle.port_names.specs.Law.{RenamingKeepsRuns, SameState}
 use Rattle.port_names.specs.Renamed.{entry_renamed, new_name, renamed, renamed_entry, renamed_parts, renamed_values}

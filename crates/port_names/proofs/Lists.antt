@@ -4,8 +4,8 @@ use Rattle.std.specs.Prelude.{All, Contains, Some, flat_map, bytes_eq, not, ifâ—
 use Rattle.std.specs.List.{IsDistinct}
 use Rattle.std.proofs.lemmas.List.Elements.{All-nil, All-cons, All-head, All-tail, All-contains, All-weaker, All-from_recursion, recursion_from_All}
 use Rattle.vlog_module.specs.Maps.{value_in}
-use Rattle.vlog_plan.specs.Named.{has_name}
-use Rattle.net_extract.proofs.Apart.{AreApart}
+use Rattle.vlog_semantics.specs.Named.{has_name}
+use Rattle.fabric_model.proofs.Apart.{AreApart}
 
 -- ---- what holds of each item
 

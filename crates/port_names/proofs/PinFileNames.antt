@@ -5,10 +5,10 @@ use Rattle.std.specs.List.{IsDistinct}
 use Rattle.std.proofs.lemmas.Bool.{cases_Bool, and_from, and_parts, or_right}
 use Rattle.std.proofs.lemmas.List.Elements.{All-nil, All-cons, All-head, All-tail, All-map, All-contains, All-contains_itself, All-weaker}
 use Rattle.shared_lemmas.proofs.Bytes.{bytes_eq-same, bytes_eq-apart, apart_turned}
-use Rattle.net_extract.specs.declared.pin.Pin.{Pin}
-use Rattle.net_extract.specs.Pins.{is_tri_state}
-use Rattle.net_extract.proofs.Apart.{AreApart, All-every, apart-single, apart-if, apart-map, apart-flat_map}
-use Rattle.net_extract.proofs.Within.{All-flat_map, All-single, All-if}
+use Rattle.fabric_model.specs.declared.pin.Pin.{Pin}
+use Rattle.fabric_model.specs.Pins.{is_tri_state}
+use Rattle.fabric_model.proofs.Apart.{AreApart, All-every, apart-single, apart-if, apart-map, apart-flat_map}
+use Rattle.fabric_model.proofs.Within.{All-flat_map, All-single, All-if}
 use Rattle.fabric_module.specs.Names.{three_numbers, port_name, enable_name}
 use Rattle.pin_file.specs.declared.place.PinPlace.{PinPlace}
 use Rattle.pin_file.specs.declared.pin_name.PinName.{PinName}

@@ -8,16 +8,16 @@ use Rattle.vlog_module.specs.declared.item.Lut.{Lut}
 use Rattle.vlog_module.specs.declared.item.Right.{Right}
 use Rattle.vlog_module.specs.declared.item.Right.TheVariants.{Bit as RightBit, Whole as RightWhole, Part as RightPart, Lut as RightLut, Majority, Choose}
 use Rattle.vlog_module.specs.declared.item.Item.{Item}
-use Rattle.vlog_module.specs.declared.item.Item.TheVariants.{Register, Word, Memory, Wire, Assign, Flip, FlipAtOnce, SetAtOnce, Read, ReadNarrow, Write, WriteNarrow, Start}
+use Rattle.vlog_module.specs.declared.item.Item.TheVariants.{Register, Word, Memory, Wire, Assign, FlipFlop, AsyncFlipFlop, AsyncReset, Read, ReadNarrow, Write, WriteNarrow, Start}
 use Rattle.vlog_module.specs.declared.modules.Port.{Port}
 use Rattle.vlog_module.specs.Maps.{value_in}
 use Rattle.vlog_module.specs.Parts.{Parts}
-use Rattle.vlog_plan.specs.declared.event.Event.{Event}
-use Rattle.vlog_plan.specs.Entries.{Entry, put}
-use Rattle.vlog_plan.specs.Named.{names_of}
-use Rattle.vlog_plan.specs.Numbered.{numbered}
-use Rattle.vlog_plan.specs.Values.{Readable, atom_value, atoms_value, lut_value, right_value, number_of, bit_of}
-use Rattle.vlog_plan.specs.Run.{Put, changed, followed, input_bit, input_names, input_start, is_clocked, is_edge, is_enabled, is_pin, is_same_bit, masked, memory_start, memory_step, module_run, moved_down, moved_up, next_bit, next_put, next_word, output_start, output_step, pin_of, put_at, put_given, put_given_word, put_word, readable, register_start, register_step, run_from, settle_step, settled, start, start_step, taken_from, wire_step, with_input, word_start, word_step, words_of}
+use Rattle.vlog_semantics.specs.declared.event.Event.{Event}
+use Rattle.vlog_semantics.specs.Entries.{Entry, put}
+use Rattle.vlog_semantics.specs.Named.{names_of}
+use Rattle.vlog_semantics.specs.Numbered.{numbered}
+use Rattle.vlog_semantics.specs.Values.{Readable, atom_value, atoms_value, lut_value, right_value, number_of, bit_of}
+use Rattle.vlog_semantics.specs.Run.{Put, changed, followed, input_bit, input_names, input_start, is_clocked, is_edge, is_enabled, is_pin, is_same_bit, masked, memory_start, memory_step, module_run, moved_down, moved_up, next_bit, next_put, next_word, output_start, output_step, pin_of, put_at, put_given, put_given_word, put_word, readable, register_start, register_step, run_from, settle_step, settled, start, start_step, taken_from, wire_step, with_input, word_start, word_step, words_of}
 use Rattle.port_names.specs.Renamed.{renamed_atom, renamed_atoms, renamed_lut, renamed_right, renamed_item, renamed_port, renamed_parts, renamed_values, renamed_entry}
 use Rattle.port_names.proofs.Apart.{KeepsApart, value_in-renamed, put-renamed, values-renamed, names-renamed, numbered-renamed, with_input-renamed, flat_map-renamed, fold-renamed}
 
@@ -78,9 +78,9 @@ chosen-renamed to one two then_one then_two other same then_same =
 
 settle-step-renamed : (to : List ℕ → List ℕ) → KeepsApart to → (from : Readable) (registers : List (List ℕ × Bool)) (item : Item)
     → settle_step (renamed_readable to from) (renamed_values to registers) (renamed_item to item) ≡ renamed_values to (settle_step from registers item)
-settle-step-renamed to apart from registers (FlipAtOnce falling clock reset set target enable lut) =
+settle-step-renamed to apart from registers (AsyncFlipFlop falling clock reset set target enable lut) =
     chosen-renamed to _ _ _ _ registers (atom-renamed to apart from (Whole reset)) (put-renamed to apart registers target set)
-settle-step-renamed to apart from registers (SetAtOnce reset set target) =
+settle-step-renamed to apart from registers (AsyncReset reset set target) =
     chosen-renamed to _ _ _ _ registers (atom-renamed to apart from (Whole reset)) (put-renamed to apart registers target set)
 settle-step-renamed to apart from registers other = refl
 
@@ -229,11 +229,11 @@ enabled-renamed to apart m entry event falling clock clock_enable enable =
 
 next_bit-renamed : (to : List ℕ → List ℕ) → KeepsApart to → (m : Parts) (entry : Entry) (event : Event) (item : Item)
     → next_bit (renamed_parts to m) (renamed_entry to entry) event (renamed_item to item) ≡ option_map (named_so to) (next_bit m entry event item)
-next_bit-renamed to apart m entry event (Flip falling clock enable reset set target lut) =
+next_bit-renamed to apart m entry event (FlipFlop falling clock enable reset set target lut) =
     given-renamed _ _ (named_so to) _ (target, cond (atom_value (readable entry) reset) set (lut_value (readable entry) lut))
     (ap₂ (λ a b. a && b) (clocked-renamed to apart m event falling clock) (entry-atom to apart entry enable))
     (ap₂ (λ a b. let one : List ℕ × Bool = (to target, cond a set b) in one) (entry-atom to apart entry reset) (entry-lut to apart entry lut))
-next_bit-renamed to apart m entry event (FlipAtOnce falling clock reset set target enable lut) =
+next_bit-renamed to apart m entry event (AsyncFlipFlop falling clock reset set target enable lut) =
     given-renamed _ _ (named_so to) _ (target, cond (atom_value (readable entry) (Whole reset)) set (lut_value (readable entry) lut))
     (ap₂ (λ a b. a && b) (clocked-renamed to apart m event falling clock) (ap₂ (λ a b. a || b) (entry-atom to apart entry (Whole reset)) (entry-atom to apart entry enable)))
     (ap₂ (λ a b. let one : List ℕ × Bool = (to target, cond a set b) in one) (entry-atom to apart entry (Whole reset)) (entry-lut to apart entry lut))

@@ -10,14 +10,14 @@ use Rattle.shared_lemmas.proofs.Lists.{map-same}
 use Rattle.bit_plane.specs.BitList.{word_of}
 use Rattle.vlog_module.specs.declared.modules.Port.{Port}
 use Rattle.vlog_module.specs.Maps.{value_in}
-use Rattle.vlog_plan.specs.Entries.{Entry as ModuleEntry}
-use Rattle.net_extract.specs.declared.pin.Pin.{Pin}
-use Rattle.net_extract.specs.Pins.{is_tri_state}
-use Rattle.net_extract.specs.Fabric.{Fabric, inputs_of}
-use Rattle.net_extract.specs.Outputs.{Output, enable_outputs, pin_outputs, outputs_of}
-use Rattle.net_extract.specs.Steps.{Entry}
-use Rattle.net_extract.proofs.Apart.{AreApart}
-use Rattle.net_extract.proofs.Within.{All-flat_map, All-single}
+use Rattle.vlog_semantics.specs.Entries.{Entry as ModuleEntry}
+use Rattle.fabric_model.specs.declared.pin.Pin.{Pin}
+use Rattle.fabric_model.specs.Pins.{is_tri_state}
+use Rattle.fabric_model.specs.Fabric.{Fabric, inputs_of}
+use Rattle.fabric_model.specs.Outputs.{Output, enable_outputs, pin_outputs, outputs_of}
+use Rattle.fabric_model.specs.Steps.{Entry}
+use Rattle.fabric_model.proofs.Apart.{AreApart}
+use Rattle.fabric_model.proofs.Within.{All-flat_map, All-single}
 use Rattle.fabric_module.specs.Names.{port_name, enable_name, output_name, register_name, read_name, memory_name}
 use Rattle.fabric_module.specs.Written.{port_of, pin_ports}
 use Rattle.fabric_module.specs.Matching.{HasValues, HasWires, Matches}

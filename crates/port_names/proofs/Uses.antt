@@ -8,12 +8,12 @@ use Rattle.vlog_module.specs.declared.atoms.Atom.TheVariants.{Bit, Whole, Part}
 use Rattle.vlog_module.specs.declared.item.Right.{Right}
 use Rattle.vlog_module.specs.declared.item.Right.TheVariants.{Bit as RightBit, Whole as RightWhole, Part as RightPart, Lut as RightLut, Majority, Choose}
 use Rattle.vlog_module.specs.declared.item.Item.{Item}
-use Rattle.vlog_module.specs.declared.item.Item.TheVariants.{Register as RegisterItem, Word as WordItem, Memory as MemoryItem, Wire as WireItem, Assign, Flip, FlipAtOnce, SetAtOnce, Read, ReadNarrow, Write, WriteNarrow, Start}
+use Rattle.vlog_module.specs.declared.item.Item.TheVariants.{Register as RegisterItem, Word as WordItem, Memory as MemoryItem, Wire as WireItem, Assign, FlipFlop, AsyncFlipFlop, AsyncReset, Read, ReadNarrow, Write, WriteNarrow, Start}
 use Rattle.vlog_module.specs.declared.modules.Port.{Port}
 use Rattle.vlog_module.specs.declared.sort.Sort.{Sort}
 use Rattle.vlog_module.specs.declared.sort.Sort.TheVariants.{Register, Word, Memory, Wire}
 use Rattle.vlog_module.specs.Uses.{Use, atom_uses, atoms_uses, right_uses, uses_of}
-use Rattle.vlog_module.specs.Uses.Use.{Declares, Reads, ReadsBit, Takes, Assigns, Chooses, AssignsAtOnce, Starts}
+use Rattle.vlog_module.specs.Uses.Use.{Declares, Reads, ReadsBit, Takes, Assigns, Chooses, AssignsAsync, Starts}
 use Rattle.vlog_module.specs.WellFormed.{Reading, Scope, assigned_by, declared_by, is_first, is_known, is_read_unless, is_sort, is_unless, has_bit, port_sort, read_by, scope_of, section_of, started_by, wire_readings}
 use Rattle.vlog_module.specs.WellFormed.Reading.{plainly, unless}
 use Rattle.port_names.specs.Renamed.{renamed_atom, renamed_atoms, renamed_right, renamed_item, renamed_port, renamed_values}
@@ -29,7 +29,7 @@ renamed_use to (ReadsBit name k) = ReadsBit (to name) k
 renamed_use to (Takes sort name) = Takes sort (to name)
 renamed_use to (Assigns sort name) = Assigns sort (to name)
 renamed_use to (Chooses reset set name) = Chooses (to reset) set (to name)
-renamed_use to (AssignsAtOnce reset set name) = AssignsAtOnce (to reset) set (to name)
+renamed_use to (AssignsAsync reset set name) = AssignsAsync (to reset) set (to name)
 renamed_use to (Starts name k) = Starts (to name) k
 
 abbrev pub renamed_uses : (List ℕ → List ℕ) → List Use → List Use
@@ -59,9 +59,9 @@ uses-renamed to (WordItem name start) = refl
 uses-renamed to (MemoryItem name) = refl
 uses-renamed to (WireItem name right) = ap (λ rest. Declares Wire (to name) ∷ rest) (right-uses to right)
 uses-renamed to (Assign name value) = simp (atom-uses to)
-uses-renamed to (Flip falling clock enable reset set target lut) = simp (map-append, atom-uses to, atoms-uses to)
-uses-renamed to (FlipAtOnce falling clock reset set target enable lut) = simp (map-append, atom-uses to, atoms-uses to)
-uses-renamed to (SetAtOnce reset set target) = refl
+uses-renamed to (FlipFlop falling clock enable reset set target lut) = simp (map-append, atom-uses to, atoms-uses to)
+uses-renamed to (AsyncFlipFlop falling clock reset set target enable lut) = simp (map-append, atom-uses to, atoms-uses to)
+uses-renamed to (AsyncReset reset set target) = refl
 uses-renamed to (Read falling clock clock_enable enable target memory address) = simp (map-append, atom-uses to, atoms-uses to)
 uses-renamed to (ReadNarrow falling clock clock_enable enable target memory address shift pattern) = simp (map-append, atom-uses to, atoms-uses to)
 uses-renamed to (Write falling clock clock_enable enable memory address mask bits) = simp (map-append, atom-uses to, atoms-uses to)
@@ -106,7 +106,7 @@ started-by to other = refl
 
 assigned-by : (to : List ℕ → List ℕ) (used : Use) → assigned_by (renamed_use to used) ≡ map to (assigned_by used)
 assigned-by to (Assigns sort name) = refl
-assigned-by to (AssignsAtOnce reset set name) = refl
+assigned-by to (AssignsAsync reset set name) = refl
 assigned-by to other = refl
 
 read-by : (to : List ℕ → List ℕ) (used : Use) → read_by (renamed_use to used) ≡ map (renamed_reading to) (read_by used)
@@ -173,13 +173,13 @@ known-renamed to apart scope (ReadsBit name k) = ap (is_sort Word) (value_in-ren
 known-renamed to apart scope (Takes sort name) = ap (is_sort sort) (value_in-renamed to apart scope.declared name)
 known-renamed to apart scope (Assigns sort name) = ap (is_sort sort) (value_in-renamed to apart scope.declared name)
 known-renamed to apart scope (Chooses reset set name) = ap (is_sort Register) (value_in-renamed to apart scope.declared name)
-known-renamed to apart scope (AssignsAtOnce reset set name) =
+known-renamed to apart scope (AssignsAsync reset set name) =
     ap₂ (λ found b. is_sort Register found && b) (value_in-renamed to apart scope.declared name) (read-unless to apart scope.read reset set name)
 known-renamed to apart scope (Starts name k) = ap (is_sort Memory) (value_in-renamed to apart scope.declared name)
 
 pub first-renamed : (to : List ℕ → List ℕ) → KeepsApart to → (scope : Scope) (used : Use) → is_first (renamed_scope to scope) (renamed_use to used) ≡ is_first scope used
 first-renamed to apart scope (Declares sort name) = ap is_none (value_in-renamed to apart scope.declared name)
 first-renamed to apart scope (Assigns sort name) = ap not (is-among to apart scope.assigned name)
-first-renamed to apart scope (AssignsAtOnce reset set name) = ap not (is-among to apart scope.assigned name)
+first-renamed to apart scope (AssignsAsync reset set name) = ap not (is-among to apart scope.assigned name)
 first-renamed to apart scope (Starts name k) = ap not (is-started to apart scope.started name k)
 first-renamed to apart scope other = refl

@@ -12,14 +12,14 @@ use Rattle.vlog_module.specs.declared.item.Lut.{Lut}
 use Rattle.vlog_module.specs.declared.item.Right.{Right}
 use Rattle.vlog_module.specs.declared.item.Right.TheVariants.{Lut as RightLut}
 use Rattle.vlog_module.specs.declared.item.Item.{Item}
-use Rattle.vlog_module.specs.declared.item.Item.TheVariants.{Word, Wire, Flip, FlipAtOnce, Read, ReadNarrow, Write, WriteNarrow, Start}
+use Rattle.vlog_module.specs.declared.item.Item.TheVariants.{Word, Wire, FlipFlop, AsyncFlipFlop, Read, ReadNarrow, Write, WriteNarrow, Start}
 use Rattle.vlog_module.specs.declared.modules.Port.{Port}
 use Rattle.vlog_module.specs.Names.{IsName}
 use Rattle.vlog_module.specs.Parts.{Parts}
 use Rattle.vlog_module.specs.Uses.{Use, uses_of, used_name}
 use Rattle.vlog_module.specs.Uses.Use.{ReadsBit, Starts}
 use Rattle.vlog_module.specs.WellFormed.{IsAllowed, IsBegun, IsComplete, IsInRange, IsLut, IsModule, IsRight, IsShaped, Scope, assigned_by, is_assigned, is_first, is_known, scope_of}
-use Rattle.vlog_plan.specs.Named.{has_name}
+use Rattle.vlog_semantics.specs.Named.{has_name}
 use Rattle.port_names.specs.Renamed.{renamed_atom, renamed_atoms, renamed_lut, renamed_right, renamed_item, renamed_port, renamed_parts}
 use Rattle.port_names.proofs.Apart.{KeepsApart}
 use Rattle.port_names.proofs.Uses.{renamed_use, renamed_scope, uses-renamed, section-renamed, assigned-renamed, scope-renamed, is-among, known-renamed, first-renamed}
@@ -43,8 +43,8 @@ right-shaped to other shaped = tt
 shaped-renamed : (to : List ℕ → List ℕ) (item : Item) → IsShaped item → IsShaped (renamed_item to item)
 shaped-renamed to (Word name start) shaped = shaped
 shaped-renamed to (Wire name right) shaped = right-shaped to right shaped
-shaped-renamed to (Flip falling clock enable reset set target lut) shaped = lut-shaped to lut shaped
-shaped-renamed to (FlipAtOnce falling clock reset set target enable lut) shaped = lut-shaped to lut shaped
+shaped-renamed to (FlipFlop falling clock enable reset set target lut) shaped = lut-shaped to lut shaped
+shaped-renamed to (AsyncFlipFlop falling clock reset set target enable lut) shaped = lut-shaped to lut shaped
 shaped-renamed to (Read falling clock clock_enable enable target memory address) shaped = same-length to address 8 shaped
 shaped-renamed to (ReadNarrow falling clock clock_enable enable target memory address shift pattern) shaped =
     (same-length to address 8 shaped.0, same-length to shift 3 shaped.1, shaped.2)

@@ -2,14 +2,14 @@
 use Rattle.std.proofs.Common.{◌≡◌, ℕ, Bool, true, false, List, [], ◌∷◌, refl}
 use Rattle.std.specs.Prelude.{codes}
 use Rattle.vlog_module.specs.declared.atoms.Atom.TheVariants.{Bit, Whole, Part}
-use Rattle.vlog_module.specs.declared.item.Item.TheVariants.{Register, Wire, Assign, Flip, Read}
+use Rattle.vlog_module.specs.declared.item.Item.TheVariants.{Register, Wire, Assign, FlipFlop, Read}
 use Rattle.vlog_module.specs.declared.item.Lut.{Lut}
 use Rattle.vlog_module.specs.declared.item.Right.TheVariants.{Whole as RightWhole}
 use Rattle.vlog_module.specs.declared.modules.Port.{Port}
 use Rattle.vlog_module.specs.Parts.{Parts}
-use Rattle.vlog_plan.specs.declared.event.Event.{Event}
-use Rattle.vlog_plan.specs.Entries.{Entry}
-use Rattle.vlog_plan.specs.Run.{changed, followed, module_run, run_from, settled, start}
+use Rattle.vlog_semantics.specs.declared.event.Event.{Event}
+use Rattle.vlog_semantics.specs.Entries.{Entry}
+use Rattle.vlog_semantics.specs.Run.{changed, followed, module_run, run_from, settled, start}
 use Rattle.port_names.specs.Renamed.{entry_renamed, new_name, renamed, renamed_item}
 
 port : List ℕ → Bool → Port
@@ -24,7 +24,7 @@ chip clock light = record {
   name = codes "chip";
   ports = port clock false ∷ port light true ∷ [];
   items = Register (codes "ff_1_1_0") false ∷ Wire (codes "n_0") (RightWhole clock) ∷ Wire (codes "n_2") (RightWhole (codes "ff_1_1_0"))
-      ∷ Assign light (Whole (codes "n_2")) ∷ Flip true clock (Bit true) (Bit false) false (codes "ff_1_1_0") inverter ∷ [];
+      ∷ Assign light (Whole (codes "n_2")) ∷ FlipFlop true clock (Bit true) (Bit false) false (codes "ff_1_1_0") inverter ∷ [];
 }
 
 -- the clock's pin and the light's; the line for a pin that is no port changes nothing

@@ -2,9 +2,9 @@
 use Rattle.std.proofs.Common.{◌≡◌, ℕ, false, List, [], ◌∷◌, refl}
 use Rattle.std.specs.Prelude.{Bool, true, codes, None}
 use Rattle.std.specs.Fmt.{digits}
-use Rattle.net_extract.specs.declared.pin.Pin.{Pin}
-use Rattle.net_extract.specs.declared.pin.PinKind.{PinKind}
-use Rattle.net_extract.specs.declared.pin.PinKind.TheVariants.{Plain, TriState}
+use Rattle.fabric_model.specs.declared.pin.Pin.{Pin}
+use Rattle.fabric_model.specs.declared.pin.PinKind.{PinKind}
+use Rattle.fabric_model.specs.declared.pin.PinKind.TheVariants.{Plain, TriState}
 use Rattle.fabric_module.specs.Names.{three_numbers, port_name, enable_name}
 use Rattle.pin_file.specs.declared.pin_name.PinName.{PinName}
 use Rattle.port_names.specs.Named.{switched_places, named_port, named_enable, port_renaming}

@@ -4,8 +4,8 @@ use Rattle.ice_image.specs.Configuration.{Configuration}
 use Rattle.chipdb_reader.specs.Database.{Database}
 use Rattle.vlog_module.specs.Names.{IsName}
 use Rattle.vlog_module.specs.Parts.{Parts}
-use Rattle.net_extract.specs.declared.lut_inputs.LutInputs.{LutInputs}
-use Rattle.net_extract.specs.Fabric.{fabric_with, fabric_of}
+use Rattle.fabric_model.specs.declared.lut_inputs.LutInputs.{LutInputs}
+use Rattle.fabric_model.specs.Fabric.{fabric_with, fabric_of}
 use Rattle.fabric.specs.Kept.{Kept}
 use Rattle.fabric.specs.Design.{IsDesign, IsDesignOf}
 use Rattle.fabric_module.specs.Written.{module_of}

@@ -5,7 +5,7 @@ use Rattle.vlog_module.specs.declared.modules.Port.{Port}
 use Rattle.vlog_module.specs.Names.{IsName}
 use Rattle.vlog_module.specs.Parts.{Parts}
 use Rattle.vlog_module.specs.WellFormed.{scope_of}
-use Rattle.vlog_plan.specs.Named.{names_of, values_of, has_name}
+use Rattle.vlog_semantics.specs.Named.{names_of, values_of, has_name}
 
 -- the names that a renaming replaces
 abbrev pub old_names : List (List ℕ × List ℕ) → List (List ℕ)

@@ -1,8 +1,8 @@
 -- When a fabric and a module whose ports have the names of a pin file hold the same values.
 use Rattle.std.specs.Prelude.{List}
-use Rattle.vlog_plan.specs.Entries.{Entry as ModuleEntry}
-use Rattle.net_extract.specs.Fabric.{Fabric}
-use Rattle.net_extract.specs.Steps.{Entry}
+use Rattle.vlog_semantics.specs.Entries.{Entry as ModuleEntry}
+use Rattle.fabric_model.specs.Fabric.{Fabric}
+use Rattle.fabric_model.specs.Steps.{Entry}
 use Rattle.fabric_module.specs.Matching.{MatchesAs}
 use Rattle.pin_file.specs.declared.pin_name.PinName.{PinName}
 use Rattle.port_names.specs.Named.{named_port, named_output}

@@ -7,14 +7,14 @@ use Rattle.chipdb_reader.specs.Fit.{IsFit}
 use Rattle.vlog_module.specs.Names.{IsName}
 use Rattle.vlog_module.specs.Parts.{Parts}
 use Rattle.vlog_module.specs.WellFormed.{IsModule}
-use Rattle.vlog_plan.specs.Run.{module_run}
-use Rattle.net_extract.specs.declared.lut_inputs.LutInputs.{LutInputs}
-use Rattle.net_extract.specs.Fabric.{fabric_with, fabric_of}
-use Rattle.net_extract.specs.Steps.{Event, Entry, IsRun}
-use Rattle.net_extract.specs.Unique.{ExactlyOne}
+use Rattle.vlog_semantics.specs.Run.{module_run}
+use Rattle.fabric_model.specs.declared.lut_inputs.LutInputs.{LutInputs}
+use Rattle.fabric_model.specs.Fabric.{fabric_with, fabric_of}
+use Rattle.fabric_model.specs.Steps.{Event, Entry, IsRun}
+use Rattle.fabric_model.specs.Unique.{ExactlyOne}
 use Rattle.graph_order.specs.Wiring.{IsWriteOrder}
-use Rattle.net_extract.specs.Wiring.{wiring_of}
-use Rattle.net_extract.specs.Faults.{design_fault}
+use Rattle.fabric_model.specs.Wiring.{wiring_of}
+use Rattle.fabric_model.specs.Faults.{design_fault}
 use Rattle.fabric_module.specs.Matching.{module_event}
 use Rattle.pin_file.specs.declared.pin_name.PinName.{PinName}
 use Rattle.port_names.specs.Named.{AreAccepted, named_module, named_ports}

@@ -6,11 +6,11 @@ use Rattle.vlog_module.specs.declared.item.Lut.{Lut}
 use Rattle.vlog_module.specs.declared.item.Right.{Right}
 use Rattle.vlog_module.specs.declared.item.Right.TheVariants.{Bit as RightBit, Whole as RightWhole, Part as RightPart, Lut as RightLut, Majority, Choose}
 use Rattle.vlog_module.specs.declared.item.Item.{Item}
-use Rattle.vlog_module.specs.declared.item.Item.TheVariants.{Register, Word, Memory, Wire, Assign, Flip, FlipAtOnce, SetAtOnce, Read, ReadNarrow, Write, WriteNarrow, Start}
+use Rattle.vlog_module.specs.declared.item.Item.TheVariants.{Register, Word, Memory, Wire, Assign, FlipFlop, AsyncFlipFlop, AsyncReset, Read, ReadNarrow, Write, WriteNarrow, Start}
 use Rattle.vlog_module.specs.declared.modules.Port.{Port}
 use Rattle.vlog_module.specs.Maps.{value_in}
 use Rattle.vlog_module.specs.Parts.{Parts}
-use Rattle.vlog_plan.specs.Entries.{Entry}
+use Rattle.vlog_semantics.specs.Entries.{Entry}
 
 -- ---- names
 
@@ -45,11 +45,11 @@ renamed_item to (Word name start) = Word (to name) start
 renamed_item to (Memory name) = Memory (to name)
 renamed_item to (Wire name right) = Wire (to name) (renamed_right to right)
 renamed_item to (Assign name value) = Assign (to name) (renamed_atom to value)
-renamed_item to (Flip falling clock enable reset set target lut) =
-    Flip falling (to clock) (renamed_atom to enable) (renamed_atom to reset) set (to target) (renamed_lut to lut)
-renamed_item to (FlipAtOnce falling clock reset set target enable lut) =
-    FlipAtOnce falling (to clock) (to reset) set (to target) (renamed_atom to enable) (renamed_lut to lut)
-renamed_item to (SetAtOnce reset set target) = SetAtOnce (to reset) set (to target)
+renamed_item to (FlipFlop falling clock enable reset set target lut) =
+    FlipFlop falling (to clock) (renamed_atom to enable) (renamed_atom to reset) set (to target) (renamed_lut to lut)
+renamed_item to (AsyncFlipFlop falling clock reset set target enable lut) =
+    AsyncFlipFlop falling (to clock) (to reset) set (to target) (renamed_atom to enable) (renamed_lut to lut)
+renamed_item to (AsyncReset reset set target) = AsyncReset (to reset) set (to target)
 renamed_item to (Read falling clock clock_enable enable target memory address) =
     Read falling (to clock) (renamed_atom to clock_enable) (renamed_atom to enable) (to target) (to memory) (renamed_atoms to address)
 renamed_item to (ReadNarrow falling clock clock_enable enable target memory address shift pattern) =

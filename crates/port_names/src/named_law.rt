@@ -2,7 +2,7 @@
 ghost use Rattle.std.specs.Prelude.{List};
 ghost use Rattle.ice_image.specs.Configuration.{Configuration};
 ghost use Rattle.chipdb_reader.specs.Database.{Database};
-ghost use Rattle.net_extract.specs.declared.lut_inputs.LutInputs.{LutInputs};
+ghost use Rattle.fabric_model.specs.declared.lut_inputs.LutInputs.{LutInputs};
 ghost use Rattle.pin_file.specs.declared.pin_name.PinName.{PinName};
 ghost use Rattle.port_names.specs.NamedLaw.{NamedIsFabric};
 

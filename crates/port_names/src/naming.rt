@@ -4,8 +4,8 @@ ghost use Rattle.pin_file.specs.PortNames.{is_place, enable_name as enable_name_
 ghost use Rattle.port_names.specs.Named.{renaming_by, pin_renaming, port_renaming};
 
 use crate::places::{is_tri_state, place_of};
+use fabric_model::Pin;
 use fabric_module::{enable_name, port_name};
-use net_extract::Pin;
 use pin_file::{PinName, PinPlace};
 use std::alloc::{AllocError, Global};
 use vlog_module::Name;

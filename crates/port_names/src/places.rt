@@ -1,10 +1,10 @@
 // Places of pins.
 ghost use Rattle.std.specs.Prelude.{◌≡◌, IfOk};
-ghost use Rattle.net_extract.specs.Pins.{is_tri_state};
+ghost use Rattle.fabric_model.specs.Pins.{is_tri_state};
 ghost use Rattle.port_names.specs.Named.{place_of, switched_places};
 
 use fabric::Design;
-use net_extract::{Pin, PinKind};
+use fabric_model::{Pin, PinKind};
 use pin_file::PinPlace;
 use std::alloc::{AllocError, Global};
 

@@ -3,7 +3,7 @@ ghost use Rattle.std.specs.Prelude.{◌≡◌, IfOk};
 ghost use Rattle.ice_image.specs.Configuration.{Configuration};
 ghost use Rattle.chipdb_reader.specs.Database.{Database};
 ghost use Rattle.vlog_module.specs.Names.{IsName};
-ghost use Rattle.net_extract.specs.Fabric.{fabric_with};
+ghost use Rattle.fabric_model.specs.Fabric.{fabric_with};
 ghost use Rattle.fabric.specs.Design.{IsDesignOf};
 ghost use Rattle.fabric_module.specs.Written.{module_of};
 ghost use Rattle.port_names.specs.Named.{AreAccepted, named_module};

@@ -71,7 +71,7 @@ fn rename_item(renaming: &Renaming, item: &mut Item) -> Result<(), AllocError>
             renaming.rename(name)?;
             rename_atom(renaming, value)
         }
-        Item::Flip {
+        Item::FlipFlop {
             clock,
             enable,
             reset,
@@ -84,7 +84,7 @@ fn rename_item(renaming: &Renaming, item: &mut Item) -> Result<(), AllocError>
             rename_atom(renaming, reset)?;
             rename_lut(renaming, lut)
         }
-        Item::FlipAtOnce {
+        Item::AsyncFlipFlop {
             clock,
             reset,
             target,
@@ -97,7 +97,7 @@ fn rename_item(renaming: &Renaming, item: &mut Item) -> Result<(), AllocError>
             rename_atom(renaming, enable)?;
             rename_lut(renaming, lut)
         }
-        Item::SetAtOnce { reset, target, .. } => rename_two(renaming, reset, target),
+        Item::AsyncReset { reset, target, .. } => rename_two(renaming, reset, target),
         Item::Read {
             clock,
             clock_enable,

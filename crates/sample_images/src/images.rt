@@ -18,10 +18,10 @@ pub type SampleBit = (u8, u8, u8, u8);
 /// # Errors
 /// `AllocError` if memory is out, and for no other cause.
 pub fn image_with(alloc: Global, bits: &[SampleBit]) -> Result<AnyImage, AllocError>
-    ensures device { IfOk result (λ image. device_of image ≡ DeviceName.K1) }
-    ensures bits { IfOk result (λ image. Gains (is_of_one is_sample bits.now) (blank_image (standard_layout DeviceName.K1)) (configuration_of image)) }
+    ensures device { IfOk result (λ image. device_of image ≡ DeviceName.Hx1k) }
+    ensures bits { IfOk result (λ image. Gains (is_of_one is_sample bits.now) (blank_image (standard_layout DeviceName.Hx1k)) (configuration_of image)) }
 {
-    let mut image = AnyImage::zeroed(alloc, DeviceName::K1)?;
+    let mut image = AnyImage::zeroed(alloc, DeviceName::Hx1k)?;
     set_bits(&mut image, bits);
     Ok(image)
 }

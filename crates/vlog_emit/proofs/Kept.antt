@@ -5,16 +5,16 @@ use Rattle.std.proofs.lemmas.Bool.{cases_Bool}
 use Rattle.vlog_module.specs.declared.item.Right.TheVariants as right
 use Rattle.vlog_module.specs.declared.item.Item.{Item}
 use Rattle.vlog_module.specs.declared.item.Item.TheVariants.{Start}
-use Rattle.net_extract.specs.declared.ram.RamCell.{RamCell}
-use Rattle.net_extract.specs.Joins.{class_of}
-use Rattle.net_extract.specs.Fabric.{Fabric, numbered}
-use Rattle.net_extract.specs.Outputs.{outputs_of}
-use Rattle.net_extract.specs.Drivers.{drivers_of}
-use Rattle.net_extract.specs.Values.{is_connected}
-use Rattle.net_extract.specs.Clocks.{ClockEnd, clock_end}
-use Rattle.net_extract.proofs.Joins.{class_of-le}
-use Rattle.net_extract.proofs.OneValue.{first-driver, first-is, none-driven}
-use Rattle.net_extract.specs.Links.{class_in}
+use Rattle.fabric_model.specs.declared.ram.RamCell.{RamCell}
+use Rattle.fabric_model.specs.Joins.{class_of}
+use Rattle.fabric_model.specs.Fabric.{Fabric, numbered}
+use Rattle.fabric_model.specs.Outputs.{outputs_of}
+use Rattle.fabric_model.specs.Drivers.{drivers_of}
+use Rattle.fabric_model.specs.Values.{is_connected}
+use Rattle.fabric_model.specs.Clocks.{ClockEnd, clock_end}
+use Rattle.fabric_model.proofs.Joins.{class_of-le}
+use Rattle.fabric_model.proofs.OneValue.{first-driver, first-is, none-driven}
+use Rattle.fabric_model.specs.Links.{class_in}
 use Rattle.fabric_wiring.specs.declared.drive.Drive.{Drive as KeptDrive}
 use Rattle.fabric_wiring.specs.Drives.{drive_of, rule_of}
 use Rattle.fabric_wiring.specs.DriverLists.{driver_in}

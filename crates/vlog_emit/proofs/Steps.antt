@@ -1,7 +1,7 @@
 -- One more item of a section.
 use Rattle.std.proofs.Common.{◌≡◌, ℕ, ◌+◌, List, [], ◌∷◌, ◌++◌, ap, ◌∙◌}
-use Rattle.place_search.proofs.Gathered.{appended-none, appended-more}
-use Rattle.net_extract.specs.Tiles.{each_below}
+use Rattle.index_search.proofs.Gathered.{appended-none, appended-more}
+use Rattle.fabric_model.specs.Tiles.{each_below}
 
 -- no item yet
 pub each-start : {Y : Type 0} (given : ℕ → Y) (start : List Y) → start ≡ start ++ each_below 0 given

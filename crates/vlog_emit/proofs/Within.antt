@@ -4,24 +4,24 @@ use Rattle.std.specs.Prelude.{All, Contains, Option, Some, None, option_to_list}
 use Rattle.std.proofs.lemmas.Bool.{cases_Bool}
 use Rattle.std.proofs.lemmas.List.Elements.{All-from_get_or, All-nil, All-cons, All-head, All-tail, All-contains, All-contains_itself, All-weaker}
 use Rattle.shared_lemmas.proofs.Lists.{All-both}
-use Rattle.net_extract.specs.Fabric.{Fabric, fabric_with}
-use Rattle.net_extract.specs.declared.register.Source.{Source}
-use Rattle.net_extract.specs.declared.register.Source.TheVariants.{Net, Pin as SourcePin}
-use Rattle.net_extract.specs.declared.register.Register.{Register}
-use Rattle.net_extract.specs.Within.{IsNetIn, IsPinIn, IsRamIn, IsSourceIn as IsNetSourceIn, IsRegisterIn as IsNetRegisterIn}
-use Rattle.net_extract.specs.Drivers.{drivers_of, drives_of, is_driven, nets_read}
-use Rattle.net_extract.specs.Outputs.{Output, outputs_of}
-use Rattle.net_extract.specs.Drivers.{Rule}
-use Rattle.net_extract.specs.Drivers.Rule.{pin_bit, constant, input, table_entry, majority_of, register_bit, read_bit, copied}
-use Rattle.net_extract.specs.Clocks.{clock_end}
-use Rattle.net_extract.specs.Clocks.ClockEnd.{at_pin}
+use Rattle.fabric_model.specs.Fabric.{Fabric, fabric_with}
+use Rattle.fabric_model.specs.declared.register.LutSource.{LutSource}
+use Rattle.fabric_model.specs.declared.register.LutSource.TheVariants.{Net, Pin as SourcePin}
+use Rattle.fabric_model.specs.declared.register.Register.{Register}
+use Rattle.fabric_model.specs.Within.{IsNetIn, IsPinIn, IsRamIn, IsSourceIn as IsNetSourceIn, IsRegisterIn as IsNetRegisterIn}
+use Rattle.fabric_model.specs.Drivers.{drivers_of, drives_of, is_driven, nets_read}
+use Rattle.fabric_model.specs.Outputs.{Output, outputs_of}
+use Rattle.fabric_model.specs.Drivers.{Rule}
+use Rattle.fabric_model.specs.Drivers.Rule.{pin_bit, constant, input, table_entry, majority_of, register_bit, read_bit, copied}
+use Rattle.fabric_model.specs.Clocks.{clock_end}
+use Rattle.fabric_model.specs.Clocks.ClockEnd.{at_pin}
 use Rattle.graph_order.specs.Wiring.{has}
-use Rattle.net_extract.proofs.Facts.{has-some, has-source, has-left, has-right}
+use Rattle.fabric_model.proofs.Facts.{has-some, has-source, has-left, has-right}
 use Rattle.graph_order.proofs.OneOrder.{has-first}
-use Rattle.net_extract.proofs.OneValue.{first-driver, first-is, none-driven, count-is}
-use Rattle.net_extract.proofs.Within.{fabric-within, outputs-within as read-by-outputs}
-use Rattle.net_extract.proofs.Chains.{clock_end-leads}
-use Rattle.net_extract.specs.Links.{class_in}
+use Rattle.fabric_model.proofs.OneValue.{first-driver, first-is, none-driven, count-is}
+use Rattle.fabric_model.proofs.Within.{fabric-within, outputs-within as read-by-outputs}
+use Rattle.fabric_model.proofs.Chains.{clock_end-leads}
+use Rattle.fabric_model.specs.Links.{class_in}
 use Rattle.fabric_wiring.specs.declared.drive.Rule.{Rule as KeptRule}
 use Rattle.fabric_wiring.specs.declared.drive.Rule.TheVariants.{PinBit, Constant, Input, TableEntry, MajorityOf, RegisterBit, ReadBit, Copied}
 use Rattle.fabric_wiring.specs.declared.drive.Drive.{Drive as KeptDrive}
@@ -49,7 +49,7 @@ net-from nets None each = tt
 net-from nets (Some n) each = each n refl
 
 -- so is the net of an input of a table
-source-from : (nets : ℕ) (source : Source) → ((n : ℕ) → source ≡ Net (Some n) → n < nets) → IsNetSourceIn nets source
+source-from : (nets : ℕ) (source : LutSource) → ((n : ℕ) → source ≡ Net (Some n) → n < nets) → IsNetSourceIn nets source
 source-from nets (Net net) each = net-from nets net (λ n at. each n (ap Net at))
 source-from nets (SourcePin place) each = tt
 
@@ -84,7 +84,7 @@ module _ (design : Kept) (is : IsDesign design) where
   writable = fabric-writable design.parts.lut_inputs is.0 is.1 is.2.fit is.2.few is.2.taken
 
   -- what an input of a table reads is there
-  source-in : (source : Source) → IsNetSourceIn (nets_in design) source → IsSourceThere fabric source → IsSourceIn design source
+  source-in : (source : LutSource) → IsNetSourceIn (nets_in design) source → IsSourceThere fabric source → IsSourceIn design source
   source-in (Net net) net_in there = net_in
   source-in (SourcePin place) net_in there = subst (λ pins. place < length pins) (sym is.2.kept.inputs) there
 

@@ -1,11 +1,11 @@
 -- What is known of the fabrics whose design is kept.
 use Rattle.std.specs.Prelude.{ℕ, ◌<◌, All, length}
-use Rattle.net_extract.specs.declared.register.Source.{Source}
-use Rattle.net_extract.specs.declared.register.Source.TheVariants.{Net, Pin as SourcePin}
-use Rattle.net_extract.specs.declared.register.Table.{Table}
-use Rattle.net_extract.specs.declared.register.Register.{Register}
-use Rattle.net_extract.specs.Fabric.{Fabric}
-use Rattle.net_extract.specs.Within.{IsNetIn}
+use Rattle.fabric_model.specs.declared.register.LutSource.{LutSource}
+use Rattle.fabric_model.specs.declared.register.LutSource.TheVariants.{Net, Pin as SourcePin}
+use Rattle.fabric_model.specs.declared.register.LutTable.{LutTable}
+use Rattle.fabric_model.specs.declared.register.Register.{Register}
+use Rattle.fabric_model.specs.Fabric.{Fabric}
+use Rattle.fabric_model.specs.Within.{IsNetIn}
 use Rattle.fabric_wiring.specs.declared.drive.Rule.{Rule}
 use Rattle.fabric_wiring.specs.declared.drive.Rule.TheVariants.{PinBit, Constant, Input, TableEntry, MajorityOf, RegisterBit, ReadBit, Copied}
 use Rattle.fabric.specs.Kept.{Kept, IsKeptOf}
@@ -19,12 +19,12 @@ abbrev pub nets_in : Kept → ℕ
 nets_in design = length design.drivers.places
 
 -- the net or the input pin that an input of a LUT reads exists
-abbrev pub IsSourceIn : Kept → Source → Type 0
+abbrev pub IsSourceIn : Kept → LutSource → Type 0
 IsSourceIn design (Net net) = IsNetIn (nets_in design) net
 IsSourceIn design (SourcePin place) = place < length design.inputs
 
 -- the nets and the input pins that the inputs of a LUT read exist
-abbrev pub IsTableIn : Kept → Table → Type 0
+abbrev pub IsTableIn : Kept → LutTable → Type 0
 IsTableIn design table = All (IsSourceIn design) table.ins
 
 -- the nets and the input pins that a register reads exist

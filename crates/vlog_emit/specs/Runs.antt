@@ -4,10 +4,10 @@ use Rattle.std.specs.List.{AllZip}
 use Rattle.ice_image.specs.Configuration.{Configuration}
 use Rattle.chipdb_reader.specs.Database.{Database}
 use Rattle.vlog_module.specs.Parts.{Parts}
-use Rattle.vlog_plan.specs.Run.{module_run}
-use Rattle.net_extract.specs.Fabric.{fabric_of}
-use Rattle.net_extract.specs.Steps.{Event, Entry, IsRun}
-use Rattle.net_extract.specs.Unique.{ExactlyOne}
+use Rattle.vlog_semantics.specs.Run.{module_run}
+use Rattle.fabric_model.specs.Fabric.{fabric_of}
+use Rattle.fabric_model.specs.Steps.{Event, Entry, IsRun}
+use Rattle.fabric_model.specs.Unique.{ExactlyOne}
 use Rattle.fabric_module.specs.Matching.{Matches, module_event}
 
 -- The fabric has exactly one run for each list of events, and the module runs as it does: at the start and after each event the two

@@ -1,19 +1,19 @@
 // Atoms: what is read of nets and pins.
 ghost use Rattle.std.specs.Prelude.{◌≡◌, ◌<◌, ◌≤◌, ◌/◌, ◌∷◌, [], All, get_or, length, Some, None, if◌then◌else◌, IfOk};
-ghost use Rattle.net_extract.specs.declared.register.Source.TheVariants.{Net};
-ghost use Rattle.rams_narrow.specs.Narrow.{share};
-ghost use Rattle.net_extract.specs.Rams.{data_bit};
-ghost use Rattle.net_extract.specs.Joins.{class_of};
-ghost use Rattle.net_extract.specs.Values.{is_connected};
-ghost use Rattle.net_extract.specs.Within.{IsNetIn};
+ghost use Rattle.fabric_model.specs.declared.register.LutSource.TheVariants.{Net};
+ghost use Rattle.narrow_words.specs.Narrow.{share};
+ghost use Rattle.fabric_model.specs.Rams.{data_bit};
+ghost use Rattle.fabric_model.specs.Joins.{class_of};
+ghost use Rattle.fabric_model.specs.Values.{is_connected};
+ghost use Rattle.fabric_model.specs.Within.{IsNetIn};
 ghost use Rattle.fabric_wiring.specs.Drives.{rule_of};
 ghost use Rattle.fabric_module.specs.Rights.{input_atom, port_atoms, input_name, source_atom, table_atom, lut_of, driven_wire, setting_wire, pattern_of, shift_atom, shift_atoms, data_atoms, output_atom};
 ghost use Rattle.vlog_emit.specs.Each.{EachFabric, IsRuleIn, IsSourceIn, IsTableIn, nets_in};
 
 use fabric::Design;
+use fabric_model::{LutSource, LutTable, Register};
 use fabric_module::{port_name, register_name, wire_name};
 use fabric_wiring::Rule;
-use net_extract::{Register, Source, Table};
 use std::alloc::{AllocError, Global};
 use vlog_module::{Atom, Atoms, Lut, Name};
 
@@ -189,13 +189,13 @@ pub(crate) fn input_name(alloc: Global, design: &Design, place: usize) -> Result
 }
 
 /// What an input of a LUT reads.
-fn source_atom(alloc: Global, design: &Design, source: Source) -> Result<Atom, AllocError>
+fn source_atom(alloc: Global, design: &Design, source: LutSource) -> Result<Atom, AllocError>
     requires { IsSourceIn design.now source }
     ensures { IfOk result (λ atom. EachFabric design.now (λ fabric. atom ≡ source_atom fabric source)) }
 {
     match source {
-        Source::Net(net) => input_atom(alloc, design, false, net),
-        Source::Pin(place) => {
+        LutSource::Net(net) => input_atom(alloc, design, false, net),
+        LutSource::Pin(place) => {
             let name = input_name(alloc, design, place as usize)?;
             Ok(Atom::Whole(name))
         }
@@ -203,7 +203,12 @@ fn source_atom(alloc: Global, design: &Design, source: Source) -> Result<Atom, A
 }
 
 /// What input `k` of a LUT reads.
-fn table_atom(alloc: Global, design: &Design, table: &Table, k: usize) -> Result<Atom, AllocError>
+fn table_atom(
+    alloc: Global,
+    design: &Design,
+    table: &LutTable,
+    k: usize,
+) -> Result<Atom, AllocError>
     requires place { k < 4 }
     requires within { IsSourceIn design.now (get_or table.now.ins k (Net None)) }
     ensures { IfOk result (λ atom. EachFabric design.now (λ fabric. atom ≡ table_atom fabric table.now k)) }
@@ -212,7 +217,7 @@ fn table_atom(alloc: Global, design: &Design, table: &Table, k: usize) -> Result
 }
 
 /// A LUT with its four inputs.
-pub(crate) fn lut_of(alloc: Global, design: &Design, table: &Table) -> Result<Lut, AllocError>
+pub(crate) fn lut_of(alloc: Global, design: &Design, table: &LutTable) -> Result<Lut, AllocError>
     requires { IsTableIn design.now table.now }
     ensures { IfOk result (λ lut. EachFabric design.now (λ fabric. lut ≡ lut_of fabric table.now)) }
 {
@@ -261,7 +266,7 @@ pub(crate) fn setting_wire(
     requires { IsNetIn (nets_in design.now) register.now.sr }
     ensures { IfOk result (λ wire. EachFabric design.now (λ fabric. wire ≡ setting_wire fabric register.now)) }
 {
-    if register.at_once {
+    if register.is_async {
         driven_wire(alloc, design, register.sr)
     } else {
         Ok(None)

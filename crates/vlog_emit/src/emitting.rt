@@ -3,8 +3,8 @@ ghost use Rattle.std.specs.Prelude.{◌≡◌, ◌++◌, map, flat_map, IfOk, On
 ghost use Rattle.ice_image.specs.Configuration.{Configuration};
 ghost use Rattle.chipdb_reader.specs.Database.{Database};
 ghost use Rattle.vlog_module.specs.Names.{IsName};
-ghost use Rattle.net_extract.specs.Fabric.{fabric_with};
-ghost use Rattle.net_extract.specs.Outputs.{outputs_of};
+ghost use Rattle.fabric_model.specs.Fabric.{fabric_with};
+ghost use Rattle.fabric_model.specs.Outputs.{outputs_of};
 ghost use Rattle.fabric.specs.Design.{IsDesignOf};
 ghost use Rattle.fabric_module.specs.Written.{register_item, read_register, ram_memory, class_wire, output_assign, register_items, read_items, write_items, items_of, module_of};
 ghost use Rattle.vlog_emit.specs.Each.{EachFabric};

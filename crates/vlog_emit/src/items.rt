@@ -1,7 +1,7 @@
 // Items.
 ghost use Rattle.std.specs.Prelude.{◌≡◌, ◌<◌, ◌≤◌, ◌==◌, ◌++◌, false, option_to_list, IfOk, OnOk};
-ghost use Rattle.net_extract.specs.Within.{IsNetIn, IsRamIn};
-ghost use Rattle.net_extract.specs.Pins.{is_tri_state};
+ghost use Rattle.fabric_model.specs.Within.{IsNetIn, IsRamIn};
+ghost use Rattle.fabric_model.specs.Pins.{is_tri_state};
 ghost use Rattle.fabric_wiring.specs.Outputs.{output_of};
 ghost use Rattle.fabric.specs.Design.{IsDesign};
 ghost use Rattle.fabric_module.specs.Names.{output_name, register_name};
@@ -14,9 +14,9 @@ use crate::atoms::{
 };
 use crate::rights::class_right;
 use fabric::Design;
+use fabric_model::{Pin, PinKind, RamCell, Register};
 use fabric_module::{enable_name, memory_name, port_name, read_name, register_name, wire_name};
 use fabric_wiring::{ClockEnd, Output};
-use net_extract::{Pin, PinKind, RamCell, Register};
 use std::alloc::{AllocError, Global};
 use vlog_module::{Item, Name, Port};
 
@@ -158,7 +158,7 @@ fn flip_item(
     let reset = input_atom(alloc, design, false, register.sr)?;
     let target = register_name(alloc, register)?;
     let lut = lut_of(alloc, design, &register.table)?;
-    Ok(Item::Flip {
+    Ok(Item::FlipFlop {
         falling: register.neg,
         clock,
         enable,
@@ -183,7 +183,7 @@ fn at_once_item(
     let target = register_name(alloc, register)?;
     let enable = input_atom(alloc, design, true, register.cen)?;
     let lut = lut_of(alloc, design, &register.table)?;
-    Ok(Item::FlipAtOnce {
+    Ok(Item::AsyncFlipFlop {
         falling: register.neg,
         clock,
         reset,
@@ -196,10 +196,10 @@ fn at_once_item(
 
 /// The item of a register with an asynchronous set or reset, but no clock.
 fn set_item(alloc: Global, register: &Register, reset: Name) -> Result<Item, AllocError>
-    ensures { IfOk result (λ item. item ≡ Item.SetAtOnce reset register.now.«set» (register_name register.now)) }
+    ensures { IfOk result (λ item. item ≡ Item.AsyncReset reset register.now.«set» (register_name register.now)) }
 {
     let target = register_name(alloc, register)?;
-    Ok(Item::SetAtOnce {
+    Ok(Item::AsyncReset {
         reset,
         set: register.set,
         target,

@@ -1,6 +1,6 @@
 // The right-hand sides of wires.
 ghost use Rattle.std.specs.Prelude.{◌≡◌, ◌<◌, length, IfOk};
-ghost use Rattle.net_extract.specs.Within.{IsNetIn};
+ghost use Rattle.fabric_model.specs.Within.{IsNetIn};
 ghost use Rattle.fabric_wiring.specs.Drives.{rule_of};
 ghost use Rattle.fabric.specs.Design.{IsDesign};
 ghost use Rattle.fabric_module.specs.Names.{register_name};
@@ -9,9 +9,9 @@ ghost use Rattle.vlog_emit.specs.Each.{EachFabric, IsRuleIn, nets_in};
 
 use crate::atoms::{input_atom, input_name, lut_of, setting_wire};
 use fabric::Design;
+use fabric_model::Register;
 use fabric_module::{read_name, register_name};
 use fabric_wiring::Rule;
-use net_extract::Register;
 use std::alloc::{AllocError, Global};
 use vlog_module::{Atom, Name, Right};
 

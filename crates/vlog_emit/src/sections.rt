@@ -1,7 +1,7 @@
 // The sections of a module.
 ghost use Rattle.std.specs.Prelude.{◌≡◌, ◌<◌, ◌≤◌, ◌++◌, All, map, flat_map, length, IfOk, OnOk};
-ghost use Rattle.net_extract.specs.Fabric.{numbered};
-ghost use Rattle.net_extract.specs.Within.{IsRamIn};
+ghost use Rattle.fabric_model.specs.Fabric.{numbered};
+ghost use Rattle.fabric_model.specs.Within.{IsRamIn};
 ghost use Rattle.fabric_wiring.specs.Outputs.{output_of};
 ghost use Rattle.fabric.specs.Design.{IsDesign};
 ghost use Rattle.fabric_module.specs.Written.{pin_ports, register_item, read_register, ram_memory, class_wire, output_assign, register_items, read_items, write_items, start_items};
@@ -12,9 +12,9 @@ use crate::items::{
     ram_memory, read_register, register_item,
 };
 use fabric::Design;
+use fabric_model::{Pin, RamCell, Register};
 use fabric_module::memory_name;
 use fabric_wiring::Output;
-use net_extract::{Pin, RamCell, Register};
 use std::alloc::{AllocError, Global};
 use vlog_module::{Item, Name, Port};
 

@@ -14,7 +14,7 @@ use Rattle.vlog_forms.specs.declared.form.Form.{Form}
 use Rattle.vlog_forms.specs.declared.form.Form.TheVariants as form
 use Rattle.vlog_forms.specs.declared.fault.VlogCause.TheVariants.{Order, Undeclared, AssignedTwice}
 use Rattle.vlog_forms.specs.declared.slot.Role.{Role}
-use Rattle.vlog_forms.specs.declared.slot.Role.TheVariants.{Declares, Reads, ReadsBit, Takes, Assigns, Chooses, AssignsAtOnce, Starts}
+use Rattle.vlog_forms.specs.declared.slot.Role.TheVariants.{Declares, Reads, ReadsBit, Takes, Assigns, Chooses, AssignsAsync, Starts}
 use Rattle.vlog_forms.specs.declared.slot.Slot.{Slot}
 use Rattle.vlog_forms.specs.declared.slot.Slot.TheVariants as slot
 use Rattle.vlog_forms.specs.Values.{Value}
@@ -114,7 +114,7 @@ role-ranged ReadsBit all place name limit within limited = let top : limit ≤ 1
 role-ranged (Takes sort) all place name limit within limited = tt
 role-ranged (Assigns sort) all place name limit within limited = tt
 role-ranged Chooses all place name limit within limited = tt
-role-ranged AssignsAtOnce all place name limit within limited = tt
+role-ranged AssignsAsync all place name limit within limited = tt
 role-ranged Starts all place name limit within limited = let top : limit ≤ 255 = leb-true limit 255 limited in omega arith
 
 behind-next : (n : ℕ) (values : List Value) → behind (suc n) values ≡ drop 1 (behind n values)
@@ -178,9 +178,9 @@ form-limited form.WireLut = refl
 form-limited form.WireMajority = refl
 form-limited form.WireChoose = refl
 form-limited form.Assign = refl
-form-limited form.Flip = refl
-form-limited form.FlipAtOnce = refl
-form-limited form.SetAtOnce = refl
+form-limited form.FlipFlop = refl
+form-limited form.AsyncFlipFlop = refl
+form-limited form.AsyncReset = refl
 form-limited form.Read = refl
 form-limited form.ReadNarrow = refl
 form-limited form.Write = refl
@@ -200,7 +200,7 @@ role-named ReadsBit all place name named = named
 role-named (Takes sort) all place name named = named
 role-named (Assigns sort) all place name named = named
 role-named Chooses all place name named = named
-role-named AssignsAtOnce all place name named = named
+role-named AssignsAsync all place name named = named
 role-named Starts all place name named = named
 
 uses-named : (all : List Value) (place : ℕ) (values : List Value) → AreSoundValues values → All Named (uses_from all place values)
@@ -256,9 +256,9 @@ item-shaped form.WireLut v sound = (word-small (behind 1 v) (sound-behind 1 v so
 item-shaped form.WireMajority v sound = tt
 item-shaped form.WireChoose v sound = tt
 item-shaped form.Assign v sound = tt
-item-shaped form.Flip v sound = (word-small (behind 6 v) (sound-behind 6 v sound), list-count 4 (drop 1 (behind 6 v)))
-item-shaped form.FlipAtOnce v sound = (word-small (behind 6 v) (sound-behind 6 v sound), list-count 4 (drop 1 (behind 6 v)))
-item-shaped form.SetAtOnce v sound = tt
+item-shaped form.FlipFlop v sound = (word-small (behind 6 v) (sound-behind 6 v sound), list-count 4 (drop 1 (behind 6 v)))
+item-shaped form.AsyncFlipFlop v sound = (word-small (behind 6 v) (sound-behind 6 v sound), list-count 4 (drop 1 (behind 6 v)))
+item-shaped form.AsyncReset v sound = tt
 item-shaped form.Read v sound = list-count 8 (behind 6 v)
 item-shaped form.ReadNarrow v sound = (list-count 8 (behind 6 v), list-count 3 (behind 14 v), word-small (behind 17 v) (sound-behind 17 v sound))
 item-shaped form.Write v sound = (list-count 8 (behind 5 v), list-count 16 (behind 13 v), list-count 16 (behind 29 v))

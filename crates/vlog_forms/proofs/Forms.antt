@@ -26,9 +26,9 @@ among-all form.WireLut = later (later (later (later (later (later (later (later 
 among-all form.WireMajority = later (later (later (later (later (later (later (later (later here))))))))
 among-all form.WireChoose = later (later (later (later (later (later (later (later (later (later here)))))))))
 among-all form.Assign = later (later (later (later (later (later (later (later (later (later (later here))))))))))
-among-all form.Flip = later (later (later (later (later (later (later (later (later (later (later (later here)))))))))))
-among-all form.FlipAtOnce = later (later (later (later (later (later (later (later (later (later (later (later (later here))))))))))))
-among-all form.SetAtOnce = later (later (later (later (later (later (later (later (later (later (later (later (later (later here)))))))))))))
+among-all form.FlipFlop = later (later (later (later (later (later (later (later (later (later (later (later here)))))))))))
+among-all form.AsyncFlipFlop = later (later (later (later (later (later (later (later (later (later (later (later (later here))))))))))))
+among-all form.AsyncReset = later (later (later (later (later (later (later (later (later (later (later (later (later (later here)))))))))))))
 among-all form.Read = later (later (later (later (later (later (later (later (later (later (later (later (later (later (later here))))))))))))))
 among-all form.ReadNarrow = later (later (later (later (later (later (later (later (later (later (later (later (later (later (later (later here)))))))))))))))
 among-all form.Write = later (later (later (later (later (later (later (later (later (later (later (later (later (later (later (later (later here))))))))))))))))
@@ -96,9 +96,9 @@ form-sound form.WireLut = record { closed = refl; before = refl }
 form-sound form.WireMajority = record { closed = refl; before = refl }
 form-sound form.WireChoose = record { closed = refl; before = refl }
 form-sound form.Assign = record { closed = refl; before = refl }
-form-sound form.Flip = record { closed = refl; before = refl }
-form-sound form.FlipAtOnce = record { closed = refl; before = refl }
-form-sound form.SetAtOnce = record { closed = refl; before = refl }
+form-sound form.FlipFlop = record { closed = refl; before = refl }
+form-sound form.AsyncFlipFlop = record { closed = refl; before = refl }
+form-sound form.AsyncReset = record { closed = refl; before = refl }
 form-sound form.Read = record { closed = refl; before = refl }
 form-sound form.ReadNarrow = record { closed = refl; before = refl }
 form-sound form.Write = record { closed = refl; before = refl }

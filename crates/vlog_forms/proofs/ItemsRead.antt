@@ -64,12 +64,12 @@ item-ranged (item.Wire name (right.Majority a b c)) ranged = ranged-small (slots
 item-ranged (item.Wire name (right.Choose reset set target)) ranged =
     ranged-small (slots_of form.WireChoose) (item_values (item.Wire name (right.Choose reset set target))) refl (item-small (item.Wire name (right.Choose reset set target)) ranged)
 item-ranged (item.Assign name value) ranged = ranged-small (slots_of form.Assign) (item_values (item.Assign name value)) refl (item-small (item.Assign name value) ranged)
-item-ranged (item.Flip falling clock enable reset set target lut) ranged =
-    ranged-small (slots_of form.Flip) (item_values (item.Flip falling clock enable reset set target lut)) refl (item-small (item.Flip falling clock enable reset set target lut) ranged)
-item-ranged (item.FlipAtOnce falling clock reset set target enable lut) ranged =
-    ranged-small (slots_of form.FlipAtOnce) (item_values (item.FlipAtOnce falling clock reset set target enable lut)) refl (item-small (item.FlipAtOnce falling clock reset set target enable lut) ranged)
-item-ranged (item.SetAtOnce reset set target) ranged =
-    ranged-small (slots_of form.SetAtOnce) (item_values (item.SetAtOnce reset set target)) refl (item-small (item.SetAtOnce reset set target) ranged)
+item-ranged (item.FlipFlop falling clock enable reset set target lut) ranged =
+    ranged-small (slots_of form.FlipFlop) (item_values (item.FlipFlop falling clock enable reset set target lut)) refl (item-small (item.FlipFlop falling clock enable reset set target lut) ranged)
+item-ranged (item.AsyncFlipFlop falling clock reset set target enable lut) ranged =
+    ranged-small (slots_of form.AsyncFlipFlop) (item_values (item.AsyncFlipFlop falling clock reset set target enable lut)) refl (item-small (item.AsyncFlipFlop falling clock reset set target enable lut) ranged)
+item-ranged (item.AsyncReset reset set target) ranged =
+    ranged-small (slots_of form.AsyncReset) (item_values (item.AsyncReset reset set target)) refl (item-small (item.AsyncReset reset set target) ranged)
 item-ranged (item.Read falling clock clock_enable enable target memory address) ranged =
     ranged-small (slots_of form.Read) (item_values (item.Read falling clock clock_enable enable target memory address)) refl (item-small (item.Read falling clock clock_enable enable target memory address) ranged)
 item-ranged (item.ReadNarrow falling clock clock_enable enable target memory address shift pattern) ranged =
@@ -138,9 +138,9 @@ item-not_end (item.Wire name (right.Lut lut)) = refl
 item-not_end (item.Wire name (right.Majority a b c)) = refl
 item-not_end (item.Wire name (right.Choose reset set target)) = refl
 item-not_end (item.Assign name value) = refl
-item-not_end (item.Flip falling clock enable reset set target lut) = refl
-item-not_end (item.FlipAtOnce falling clock reset set target enable lut) = refl
-item-not_end (item.SetAtOnce reset set target) = refl
+item-not_end (item.FlipFlop falling clock enable reset set target lut) = refl
+item-not_end (item.AsyncFlipFlop falling clock reset set target enable lut) = refl
+item-not_end (item.AsyncReset reset set target) = refl
 item-not_end (item.Read falling clock clock_enable enable target memory address) = refl
 item-not_end (item.ReadNarrow falling clock clock_enable enable target memory address shift pattern) = refl
 item-not_end (item.Write falling clock clock_enable enable memory address mask bits) = refl

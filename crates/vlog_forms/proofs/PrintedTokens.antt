@@ -55,7 +55,7 @@ role-name role.ReadsBit all place name named = named
 role-name (role.Takes sort) all place name named = named
 role-name (role.Assigns sort) all place name named = named
 role-name role.Chooses all place name named = named
-role-name role.AssignsAtOnce all place name named = named
+role-name role.AssignsAsync all place name named = named
 role-name role.Starts all place name named = named
 
 writable : (all : List Value) (place : ℕ) (values : List Value) → All HasName (uses_from all place values) → All IsInRange (uses_from all place values) → AreNumbers values → AreWritable values
@@ -104,9 +104,9 @@ item-numbers (item.Wire name (right.Lut lut)) shaped ranged = (shaped.0, atoms-a
 item-numbers (item.Wire name (right.Majority a b c)) shaped ranged = tt
 item-numbers (item.Wire name (right.Choose reset set target)) shaped ranged = tt
 item-numbers (item.Assign name value) shaped ranged = tt
-item-numbers (item.Flip falling clock enable reset set target lut) shaped ranged = (shaped.0, atoms-alone (reverse lut.ins))
-item-numbers (item.FlipAtOnce falling clock reset set target enable lut) shaped ranged = (shaped.0, atoms-alone (reverse lut.ins))
-item-numbers (item.SetAtOnce reset set target) shaped ranged = tt
+item-numbers (item.FlipFlop falling clock enable reset set target lut) shaped ranged = (shaped.0, atoms-alone (reverse lut.ins))
+item-numbers (item.AsyncFlipFlop falling clock reset set target enable lut) shaped ranged = (shaped.0, atoms-alone (reverse lut.ins))
+item-numbers (item.AsyncReset reset set target) shaped ranged = tt
 item-numbers (item.Read falling clock clock_enable enable target memory address) shaped ranged = atoms-alone (reverse address)
 item-numbers (item.ReadNarrow falling clock clock_enable enable target memory address shift pattern) shaped ranged =
     atoms-numbers (reverse address) (atoms_values shift ++ Word pattern ∷ []) (atoms-numbers (reverse shift) (Word pattern ∷ []) (shaped.2, tt))
@@ -133,9 +133,9 @@ form-shut form.WireLut = refl
 form-shut form.WireMajority = refl
 form-shut form.WireChoose = refl
 form-shut form.Assign = refl
-form-shut form.Flip = refl
-form-shut form.FlipAtOnce = refl
-form-shut form.SetAtOnce = refl
+form-shut form.FlipFlop = refl
+form-shut form.AsyncFlipFlop = refl
+form-shut form.AsyncReset = refl
 form-shut form.Read = refl
 form-shut form.ReadNarrow = refl
 form-shut form.Write = refl

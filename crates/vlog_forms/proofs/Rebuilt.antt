@@ -73,9 +73,9 @@ values-rebuilt form.WireLut v is = refl
 values-rebuilt form.WireMajority v is = refl
 values-rebuilt form.WireChoose v is = refl
 values-rebuilt form.Assign v is = refl
-values-rebuilt form.Flip v is = refl
-values-rebuilt form.FlipAtOnce v is = refl
-values-rebuilt form.SetAtOnce v is = refl
+values-rebuilt form.FlipFlop v is = refl
+values-rebuilt form.AsyncFlipFlop v is = refl
+values-rebuilt form.AsyncReset v is = refl
 values-rebuilt form.Read v is = refl
 values-rebuilt form.ReadNarrow v is = refl
 values-rebuilt form.Write v is = refl
@@ -97,9 +97,9 @@ form-of form.WireLut v is = refl
 form-of form.WireMajority v is = refl
 form-of form.WireChoose v is = refl
 form-of form.Assign v is = refl
-form-of form.Flip v is = refl
-form-of form.FlipAtOnce v is = refl
-form-of form.SetAtOnce v is = refl
+form-of form.FlipFlop v is = refl
+form-of form.AsyncFlipFlop v is = refl
+form-of form.AsyncReset v is = refl
 form-of form.Read v is = refl
 form-of form.ReadNarrow v is = refl
 form-of form.Write v is = refl
@@ -147,11 +147,11 @@ item-back (item.Wire name (right.Lut lut)) shaped = ap (λ table. item.Wire name
 item-back (item.Wire name (right.Majority a b c)) shaped = refl
 item-back (item.Wire name (right.Choose reset set target)) shaped = refl
 item-back (item.Assign name value) shaped = refl
-item-back (item.Flip falling clock enable reset set target lut) shaped =
-    ap (λ table. item.Flip falling clock enable reset set target table) (lut-back lut shaped.1)
-item-back (item.FlipAtOnce falling clock reset set target enable lut) shaped =
-    ap (λ table. item.FlipAtOnce falling clock reset set target enable table) (lut-back lut shaped.1)
-item-back (item.SetAtOnce reset set target) shaped = refl
+item-back (item.FlipFlop falling clock enable reset set target lut) shaped =
+    ap (λ table. item.FlipFlop falling clock enable reset set target table) (lut-back lut shaped.1)
+item-back (item.AsyncFlipFlop falling clock reset set target enable lut) shaped =
+    ap (λ table. item.AsyncFlipFlop falling clock reset set target enable table) (lut-back lut shaped.1)
+item-back (item.AsyncReset reset set target) shaped = refl
 item-back (item.Read falling clock clock_enable enable target memory address) shaped =
     ap (λ list. item.Read falling clock clock_enable enable target memory list) (last-back 8 address shaped)
 item-back (item.ReadNarrow falling clock clock_enable enable target memory address shift pattern) shaped =

@@ -44,7 +44,7 @@ wire_shape tokens = right_shape (get_or tokens 0 token.stray) (drop 1 tokens)
 -- the tokens after the condition of an item on an edge
 abbrev clocked_shape : List TokenValue → Form
 clocked_shape tokens =
-    if is_at sign.Begin tokens 0 then form.Flip
+    if is_at sign.Begin tokens 0 then form.FlipFlop
     else if is_at sign.LessEquals tokens 1 then (if is_at sign.OpenParen tokens 2 then form.ReadNarrow else form.Read)
     else if is_at sign.Not (behind_sign sign.And tokens) 0 then form.WriteNarrow
     else form.Write
@@ -52,9 +52,9 @@ clocked_shape tokens =
 -- after `always`: the word `or` follows the clock, or `if` follows the edge, or neither
 abbrev always_shape : List TokenValue → Form
 always_shape tokens =
-    if is_at sign.OrEdge tokens 4 then form.FlipAtOnce
+    if is_at sign.OrEdge tokens 4 then form.AsyncFlipFlop
     else if is_at sign.If tokens 5 then clocked_shape (behind_sign sign.CloseParen (drop 7 tokens))
-    else form.SetAtOnce
+    else form.AsyncReset
 
 unfoldable pub shape : List TokenValue → Form
 shape tokens =
@@ -170,9 +170,9 @@ module _ (condition : List Slot) (clock_role : Role) (falling : Bool) (clock : L
       ap clocked_shape (sign-behind sign.CloseParen condition edge_values values tail (record { opens = refl; closes = refl; rises = refl; falls = refl }) has)
 
 flip-item : (falling : Bool) (clock : List ℕ) (one : Atom) (values : List Value) (tail : List TokenValue)
-    → shape (filled (slots_of form.Flip) [] (Edge falling ∷ Name (role.Takes sort.Input) clock ∷ AnAtom one ∷ values) ++ tail) ≡ form.Flip
+    → shape (filled (slots_of form.FlipFlop) [] (Edge falling ∷ Name (role.Takes sort.Input) clock ∷ AnAtom one ∷ values) ++ tail) ≡ form.FlipFlop
 unfolding slots_of filled filled_behind has_sign
-flip-item falling clock one values tail = clocked (drop 12 (slots_of form.Flip)) (role.Takes sort.Input) falling clock (AnAtom one ∷ values) tail refl
+flip-item falling clock one values tail = clocked (drop 12 (slots_of form.FlipFlop)) (role.Takes sort.Input) falling clock (AnAtom one ∷ values) tail refl
 
 read-item : (falling : Bool) (clock : List ℕ) (one other : Atom) (target memory : List ℕ) (values : List Value) (tail : List TokenValue)
     → shape (filled (slots_of form.Read) [] (Edge falling ∷ Name (role.Takes sort.Input) clock ∷ AnAtom one ∷ AnAtom other ∷ Name (role.Assigns sort.Word) target ∷ Name (role.Takes sort.Memory) memory ∷ values) ++ tail) ≡ form.Read
@@ -211,14 +211,14 @@ narrow-write falling clock one other memory values tail =
 
 reset-shape : (slots : List Slot) (clock_role : Role) (falling : Bool) (clock : List ℕ) (values : List Value) (tail : List TokenValue)
     → shape (filled (slot.Fixed sign.Always ∷ slot.Space ∷ slot.Fixed sign.At ∷ slot.Fixed sign.OpenParen ∷ slot.Edge ∷ slot.Space ∷ slot.Name clock_role ∷ slot.Space ∷ slot.Fixed sign.OrEdge ∷ slots) []
-    (Edge falling ∷ Name clock_role clock ∷ values) ++ tail) ≡ form.FlipAtOnce
+    (Edge falling ∷ Name clock_role clock ∷ values) ++ tail) ≡ form.AsyncFlipFlop
 unfolding shape filled
 reset-shape slots clock_role falling clock values tail = refl
 
 reset-item : (falling : Bool) (clock : List ℕ) (values : List Value) (tail : List TokenValue)
-    → shape (filled (slots_of form.FlipAtOnce) [] (Edge falling ∷ Name (role.Takes sort.Input) clock ∷ values) ++ tail) ≡ form.FlipAtOnce
+    → shape (filled (slots_of form.AsyncFlipFlop) [] (Edge falling ∷ Name (role.Takes sort.Input) clock ∷ values) ++ tail) ≡ form.AsyncFlipFlop
 unfolding slots_of
-reset-item falling clock values tail = reset-shape (drop 9 (slots_of form.FlipAtOnce)) (role.Takes sort.Input) falling clock values tail
+reset-item falling clock values tail = reset-shape (drop 9 (slots_of form.AsyncFlipFlop)) (role.Takes sort.Input) falling clock values tail
 
 lut-item : (slots : List Slot) (name : List ℕ) (word : ℕ) (values : List Value) (tail : List TokenValue)
     → shape (filled (slot.Fixed sign.Wire ∷ slot.Space ∷ slot.Name (role.Declares sort.Wire) ∷ slot.Space ∷ slot.Fixed sign.Equals ∷ slot.Space ∷ slot.Word ∷ slots) []
@@ -234,8 +234,8 @@ lut-wire name word values tail = lut-item (drop 7 (slots_of form.WireLut)) name 
 -- whether the tokens of an item are few
 abbrev is_small : Item → Bool
 is_small (item.Wire name (right.Lut lut)) = false
-is_small (item.Flip falling clock enable reset set target lut) = false
-is_small (item.FlipAtOnce falling clock reset set target enable lut) = false
+is_small (item.FlipFlop falling clock enable reset set target lut) = false
+is_small (item.AsyncFlipFlop falling clock reset set target enable lut) = false
 is_small (item.Read falling clock clock_enable enable target memory address) = false
 is_small (item.ReadNarrow falling clock clock_enable enable target memory address shift pattern) = false
 is_small (item.Write falling clock clock_enable enable memory address mask bits) = false
@@ -253,7 +253,7 @@ small-shape (item.Wire name (right.Part source k)) tail small = refl
 small-shape (item.Wire name (right.Majority a b c)) tail small = refl
 small-shape (item.Wire name (right.Choose reset set target)) tail small = refl
 small-shape (item.Assign name value) tail small = refl
-small-shape (item.SetAtOnce reset set target) tail small = refl
+small-shape (item.AsyncReset reset set target) tail small = refl
 small-shape (item.Start memory k word) tail small = refl
 small-shape one tail small = absurd cc
 
@@ -269,11 +269,11 @@ item-shape (item.Wire name (right.Lut lut)) tail = lut-wire name lut.word (atoms
 item-shape (item.Wire name (right.Majority a b c)) tail = small-shape (item.Wire name (right.Majority a b c)) tail refl
 item-shape (item.Wire name (right.Choose reset set target)) tail = small-shape (item.Wire name (right.Choose reset set target)) tail refl
 item-shape (item.Assign name value) tail = small-shape (item.Assign name value) tail refl
-item-shape (item.Flip falling clock enable reset set target lut) tail =
+item-shape (item.FlipFlop falling clock enable reset set target lut) tail =
     flip-item falling clock enable (AnAtom reset ∷ Name (role.Assigns sort.Register) target ∷ Bit set ∷ lut_values lut) tail
-item-shape (item.FlipAtOnce falling clock reset set target enable lut) tail =
-    reset-item falling clock (Name (role.Takes sort.Wire) reset ∷ Name role.AssignsAtOnce target ∷ Bit set ∷ AnAtom enable ∷ lut_values lut) tail
-item-shape (item.SetAtOnce reset set target) tail = small-shape (item.SetAtOnce reset set target) tail refl
+item-shape (item.AsyncFlipFlop falling clock reset set target enable lut) tail =
+    reset-item falling clock (Name (role.Takes sort.Wire) reset ∷ Name role.AssignsAsync target ∷ Bit set ∷ AnAtom enable ∷ lut_values lut) tail
+item-shape (item.AsyncReset reset set target) tail = small-shape (item.AsyncReset reset set target) tail refl
 item-shape (item.Read falling clock clock_enable enable target memory address) tail =
     read-item falling clock clock_enable enable target memory (atoms_values address) tail
 item-shape (item.ReadNarrow falling clock clock_enable enable target memory address shift pattern) tail =

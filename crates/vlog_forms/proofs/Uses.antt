@@ -9,7 +9,7 @@ use Rattle.vlog_module.specs.declared.item.Right.TheVariants as right
 use Rattle.vlog_module.specs.declared.item.Item.{Item}
 use Rattle.vlog_module.specs.declared.item.Item.TheVariants as item
 use Rattle.vlog_module.specs.Uses.{Use, uses_of, atom_uses, atoms_uses, lut_uses}
-use Rattle.vlog_module.specs.Uses.Use.{Declares, Takes, Assigns, AssignsAtOnce}
+use Rattle.vlog_module.specs.Uses.Use.{Declares, Takes, Assigns, AssignsAsync}
 use Rattle.vlog_forms.specs.declared.slot.Role.TheVariants as role
 use Rattle.vlog_forms.specs.Values.{Value}
 use Rattle.vlog_forms.specs.Values.{Value as value}
@@ -97,16 +97,16 @@ uses-of-values (item.Wire name (right.Choose reset set target)) = refl
 uses-of-values (item.Assign name one) =
     let all : List Value = item_values (item.Assign name one) in
     ap (λ more. Assigns sort.Output name ∷ more) (atom-next all 1 one [] ∙ append-nil (atom_uses one))
-uses-of-values (item.Flip falling clock enable reset set target lut) =
-    let all : List Value = item_values (item.Flip falling clock enable reset set target lut) in
+uses-of-values (item.FlipFlop falling clock enable reset set target lut) =
+    let all : List Value = item_values (item.FlipFlop falling clock enable reset set target lut) in
     ap (λ more. Takes sort.Input clock ∷ more)
     (two-next all 2 enable reset (value.Name (role.Assigns sort.Register) target ∷ value.Bit set ∷ lut_values lut) (Assigns sort.Register target ∷ lut_uses lut)
     (ap (λ more. Assigns sort.Register target ∷ more) (list-last all 7 lut.ins)))
-uses-of-values (item.FlipAtOnce falling clock reset set target enable lut) =
-    let all : List Value = item_values (item.FlipAtOnce falling clock reset set target enable lut) in
-    ap (λ more. Takes sort.Input clock ∷ Takes sort.Wire reset ∷ AssignsAtOnce reset set target ∷ more)
+uses-of-values (item.AsyncFlipFlop falling clock reset set target enable lut) =
+    let all : List Value = item_values (item.AsyncFlipFlop falling clock reset set target enable lut) in
+    ap (λ more. Takes sort.Input clock ∷ Takes sort.Wire reset ∷ AssignsAsync reset set target ∷ more)
     (atom-next all 5 enable (lut_values lut) ∙ ap (λ more. atom_uses enable ++ more) (list-last all 7 lut.ins))
-uses-of-values (item.SetAtOnce reset set target) = refl
+uses-of-values (item.AsyncReset reset set target) = refl
 uses-of-values (item.Read falling clock clock_enable enable target memory address) =
     let all : List Value = item_values (item.Read falling clock clock_enable enable target memory address) in
     ap (λ more. Takes sort.Input clock ∷ more)

@@ -16,7 +16,7 @@ use Rattle.vlog_module.specs.Parts.{Parts}
 use Rattle.vlog_module.specs.WellFormed.{IsModule}
 use Rattle.vlog_forms.specs.declared.form.Form.{Form}
 use Rattle.vlog_forms.specs.declared.form.Form.TheVariants as form
-use Rattle.vlog_forms.specs.declared.slot.Role.TheVariants.{Declares, Reads, ReadsBit, Takes, Assigns, Chooses, AssignsAtOnce, Starts}
+use Rattle.vlog_forms.specs.declared.slot.Role.TheVariants.{Declares, Reads, ReadsBit, Takes, Assigns, Chooses, AssignsAsync, Starts}
 use Rattle.vlog_forms.specs.Values.{Value}
 use Rattle.vlog_forms.specs.Values.Value.{Name, Edge, Bit, Word, Index, AnAtom}
 use Rattle.vlog_forms.specs.Layout.{slots_of, filled}
@@ -41,9 +41,9 @@ item_form (item.Word name start) = form.Word
 item_form (item.Memory name) = form.Memory
 item_form (item.Wire name right) = wire_form right
 item_form (item.Assign name value) = form.Assign
-item_form (item.Flip falling clock enable reset set target lut) = form.Flip
-item_form (item.FlipAtOnce falling clock reset set target enable lut) = form.FlipAtOnce
-item_form (item.SetAtOnce reset set target) = form.SetAtOnce
+item_form (item.FlipFlop falling clock enable reset set target lut) = form.FlipFlop
+item_form (item.AsyncFlipFlop falling clock reset set target enable lut) = form.AsyncFlipFlop
+item_form (item.AsyncReset reset set target) = form.AsyncReset
 item_form (item.Read falling clock clock_enable enable target memory address) = form.Read
 item_form (item.ReadNarrow falling clock clock_enable enable target memory address shift pattern) = form.ReadNarrow
 item_form (item.Write falling clock clock_enable enable memory address mask bits) = form.Write
@@ -67,14 +67,14 @@ item_values (item.Word name start) = Name (Declares sort.Word) name ∷ Word sta
 item_values (item.Memory name) = Name (Declares sort.Memory) name ∷ []
 item_values (item.Wire name right) = Name (Declares sort.Wire) name ∷ right_values right
 item_values (item.Assign name value) = Name (Assigns sort.Output) name ∷ AnAtom value ∷ []
-item_values (item.Flip falling clock enable reset set target lut) =
+item_values (item.FlipFlop falling clock enable reset set target lut) =
     Edge falling ∷ Name (Takes sort.Input) clock ∷ AnAtom enable ∷ AnAtom reset ∷ Name (Assigns sort.Register) target ∷ Bit set
     ∷ lut_values lut
-item_values (item.FlipAtOnce falling clock reset set target enable lut) =
-    Edge falling ∷ Name (Takes sort.Input) clock ∷ Name (Takes sort.Wire) reset ∷ Name AssignsAtOnce target ∷ Bit set
+item_values (item.AsyncFlipFlop falling clock reset set target enable lut) =
+    Edge falling ∷ Name (Takes sort.Input) clock ∷ Name (Takes sort.Wire) reset ∷ Name AssignsAsync target ∷ Bit set
     ∷ AnAtom enable ∷ lut_values lut
-item_values (item.SetAtOnce reset set target) =
-    Name (Takes sort.Wire) reset ∷ Name AssignsAtOnce target ∷ Bit set ∷ []
+item_values (item.AsyncReset reset set target) =
+    Name (Takes sort.Wire) reset ∷ Name AssignsAsync target ∷ Bit set ∷ []
 item_values (item.Read falling clock clock_enable enable target memory address) =
     Edge falling ∷ Name (Takes sort.Input) clock ∷ AnAtom clock_enable ∷ AnAtom enable ∷ Name (Assigns sort.Word) target
     ∷ Name (Takes sort.Memory) memory ∷ atoms_values address
@@ -183,13 +183,13 @@ item_of form.WireMajority v =
 item_of form.WireChoose v =
     item.Wire (name_in v) (right.Choose (name_in (behind 1 v)) (bit_in (behind 2 v)) (name_in (behind 3 v)))
 item_of form.Assign v = item.Assign (name_in v) (atom_in (behind 1 v))
-item_of form.Flip v =
-    item.Flip (edge_in v) (name_in (behind 1 v)) (atom_in (behind 2 v)) (atom_in (behind 3 v)) (bit_in (behind 5 v))
+item_of form.FlipFlop v =
+    item.FlipFlop (edge_in v) (name_in (behind 1 v)) (atom_in (behind 2 v)) (atom_in (behind 3 v)) (bit_in (behind 5 v))
     (name_in (behind 4 v)) (lut_in (behind 6 v))
-item_of form.FlipAtOnce v =
-    item.FlipAtOnce (edge_in v) (name_in (behind 1 v)) (name_in (behind 2 v)) (bit_in (behind 4 v)) (name_in (behind 3 v))
+item_of form.AsyncFlipFlop v =
+    item.AsyncFlipFlop (edge_in v) (name_in (behind 1 v)) (name_in (behind 2 v)) (bit_in (behind 4 v)) (name_in (behind 3 v))
     (atom_in (behind 5 v)) (lut_in (behind 6 v))
-item_of form.SetAtOnce v = item.SetAtOnce (name_in v) (bit_in (behind 2 v)) (name_in (behind 1 v))
+item_of form.AsyncReset v = item.AsyncReset (name_in v) (bit_in (behind 2 v)) (name_in (behind 1 v))
 item_of form.Read v =
     item.Read (edge_in v) (name_in (behind 1 v)) (atom_in (behind 2 v)) (atom_in (behind 3 v)) (name_in (behind 4 v))
     (name_in (behind 5 v)) (reverse (atoms_in 8 (behind 6 v)))

@@ -17,7 +17,7 @@ use Rattle.vlog_forms.specs.declared.fault.VlogCause.TheVariants.{Syntax, Order,
 use Rattle.vlog_forms.specs.declared.form.Form.{Form}
 use Rattle.vlog_forms.specs.declared.form.Form.TheVariants as form
 use Rattle.vlog_forms.specs.declared.slot.Role.{Role}
-use Rattle.vlog_forms.specs.declared.slot.Role.TheVariants.{Declares, Reads, ReadsBit, Takes, Assigns, Chooses, AssignsAtOnce, Starts}
+use Rattle.vlog_forms.specs.declared.slot.Role.TheVariants.{Declares, Reads, ReadsBit, Takes, Assigns, Chooses, AssignsAsync, Starts}
 use Rattle.vlog_forms.specs.declared.slot.Slot.{Slot}
 use Rattle.vlog_forms.specs.declared.slot.Slot.TheVariants as slot
 use Rattle.vlog_forms.specs.Values.{Value, is_same_token}
@@ -44,8 +44,8 @@ role_use (Takes sort) values place name = use_as.Takes sort name
 role_use (Assigns sort) values place name = use_as.Assigns sort name
 role_use Chooses values place name =
     use_as.Chooses (name_in (behind (place - 2) values)) (bit_in (behind (place - 1) values)) name
-role_use AssignsAtOnce values place name =
-    use_as.AssignsAtOnce (name_in (behind (place - 1) values)) (bit_in (behind (place + 1) values)) name
+role_use AssignsAsync values place name =
+    use_as.AssignsAsync (name_in (behind (place - 1) values)) (bit_in (behind (place + 1) values)) name
 role_use Starts values place name = use_as.Starts name (index_in (behind (place + 1) values))
 
 -- the uses of names in a value; `place` is its index among the values of the item

@@ -164,5 +164,5 @@ port_forms = form.Input ∷ form.Output ∷ []
 abbrev pub all_forms : List Form
 all_forms =
     form.Input ∷ form.Output ∷ form.Register ∷ form.Word ∷ form.Memory ∷ form.WireBit ∷ form.WireWhole ∷ form.WirePart
-    ∷ form.WireLut ∷ form.WireMajority ∷ form.WireChoose ∷ form.Assign ∷ form.Flip ∷ form.FlipAtOnce ∷ form.SetAtOnce
+    ∷ form.WireLut ∷ form.WireMajority ∷ form.WireChoose ∷ form.Assign ∷ form.FlipFlop ∷ form.AsyncFlipFlop ∷ form.AsyncReset
     ∷ form.Read ∷ form.ReadNarrow ∷ form.Write ∷ form.WriteNarrow ∷ form.Start ∷ form.End ∷ []

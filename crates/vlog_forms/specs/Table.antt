@@ -4,7 +4,7 @@ use Rattle.vlog_tokens.specs.declared.fixed.Fixed.TheVariants as sign
 use Rattle.vlog_module.specs.declared.sort.Sort.TheVariants as sort
 use Rattle.vlog_forms.specs.declared.form.Form.{Form}
 use Rattle.vlog_forms.specs.declared.form.Form.TheVariants as form
-use Rattle.vlog_forms.specs.declared.slot.Role.TheVariants.{Declares, Reads, ReadsBit, Takes, Assigns, Chooses, AssignsAtOnce, Starts}
+use Rattle.vlog_forms.specs.declared.slot.Role.TheVariants.{Declares, Reads, ReadsBit, Takes, Assigns, Chooses, AssignsAsync, Starts}
 use Rattle.vlog_forms.specs.declared.slot.Slot.{Slot}
 use Rattle.vlog_forms.specs.declared.slot.Slot.TheVariants.{Space, Fixed, Literal, Again, AtomsAgain, Name, Edge, Bit, Word, Index, Atom, Atoms}
 
@@ -49,7 +49,7 @@ table form.WireChoose =
 table form.Assign =
     Fixed sign.Assign ∷ Space ∷ Name (Assigns sort.Output) ∷ Space ∷ Fixed sign.Equals ∷ Space ∷ Atom ∷
     Fixed sign.Semicolon ∷ []
-table form.Flip =
+table form.FlipFlop =
     Fixed sign.Always ∷ Space ∷ Fixed sign.At ∷ Fixed sign.OpenParen ∷ Edge ∷ Space ∷
     Name (Takes sort.Input) ∷ Fixed sign.CloseParen ∷ Space ∷ Fixed sign.If ∷ Space ∷ Fixed sign.OpenParen ∷
     Atom ∷ Fixed sign.CloseParen ∷ Space ∷ Fixed sign.Begin ∷ Space ∷ Fixed sign.If ∷ Space ∷
@@ -57,17 +57,17 @@ table form.Flip =
     Fixed sign.LessEquals ∷ Space ∷ Bit ∷ Fixed sign.Semicolon ∷ Space ∷ Fixed sign.Else ∷ Space ∷ Again 4 ∷
     Space ∷ Fixed sign.LessEquals ∷ Space ∷ Word ∷ Space ∷ Fixed sign.ShiftRight ∷ Space ∷ Atoms 4 ∷
     Fixed sign.Semicolon ∷ Space ∷ Fixed sign.End ∷ []
-table form.FlipAtOnce =
+table form.AsyncFlipFlop =
     Fixed sign.Always ∷ Space ∷ Fixed sign.At ∷ Fixed sign.OpenParen ∷ Edge ∷ Space ∷
     Name (Takes sort.Input) ∷ Space ∷ Fixed sign.OrEdge ∷ Space ∷ Fixed sign.Posedge ∷ Space ∷
     Name (Takes sort.Wire) ∷ Fixed sign.CloseParen ∷ Space ∷ Fixed sign.If ∷ Space ∷ Fixed sign.OpenParen ∷
-    Again 2 ∷ Fixed sign.CloseParen ∷ Space ∷ Name AssignsAtOnce ∷ Space ∷ Fixed sign.LessEquals ∷ Space ∷ Bit ∷
+    Again 2 ∷ Fixed sign.CloseParen ∷ Space ∷ Name AssignsAsync ∷ Space ∷ Fixed sign.LessEquals ∷ Space ∷ Bit ∷
     Fixed sign.Semicolon ∷ Space ∷ Fixed sign.Else ∷ Space ∷ Fixed sign.If ∷ Space ∷ Fixed sign.OpenParen ∷ Atom ∷
     Fixed sign.CloseParen ∷ Space ∷ Again 3 ∷ Space ∷ Fixed sign.LessEquals ∷ Space ∷ Word ∷ Space ∷
     Fixed sign.ShiftRight ∷ Space ∷ Atoms 4 ∷ Fixed sign.Semicolon ∷ []
-table form.SetAtOnce =
+table form.AsyncReset =
     Fixed sign.Always ∷ Space ∷ Fixed sign.At ∷ Fixed sign.OpenParen ∷ Fixed sign.Posedge ∷ Space ∷
-    Name (Takes sort.Wire) ∷ Fixed sign.CloseParen ∷ Space ∷ Name AssignsAtOnce ∷ Space ∷ Fixed sign.LessEquals ∷
+    Name (Takes sort.Wire) ∷ Fixed sign.CloseParen ∷ Space ∷ Name AssignsAsync ∷ Space ∷ Fixed sign.LessEquals ∷
     Space ∷ Bit ∷ Fixed sign.Semicolon ∷ []
 table form.Read =
     Fixed sign.Always ∷ Space ∷ Fixed sign.At ∷ Fixed sign.OpenParen ∷ Edge ∷ Space ∷

@@ -28,11 +28,11 @@ pub enum Form {
     /// `assign NAME = ATOM;`
     Assign,
     /// `always @(EDGE NAME) if (ATOM) begin if (ATOM) NAME <= BIT; else NAME <= LUT; end`: a flip-flop with synchronous set or reset.
-    Flip,
+    FlipFlop,
     /// `always @(EDGE NAME or posedge SR) if (SR) REG <= BIT; else if (ATOM) REG <= LUT;`: a flip-flop with asynchronous set or reset.
-    FlipAtOnce,
+    AsyncFlipFlop,
     /// `always @(posedge SR) REG <= BIT;`: only an asynchronous set or reset, no clock.
-    SetAtOnce,
+    AsyncReset,
     /// `always @(EDGE NAME) if (ATOM & ATOM) NAME <= NAME[ADDR];`
     Read,
     /// `always @(EDGE NAME) if (ATOM & ATOM) NAME <= (NAME[ADDR] >> {H}) & WORD;`

@@ -20,7 +20,7 @@ pub enum Role {
     /// is the bit while the wire is 1, else the register.
     Chooses,
     /// It assigns the name, a register with an asynchronous set or reset: the value before it is the wire, the next one the bit.
-    AssignsAtOnce,
+    AssignsAsync,
     /// It gives a word of the name, a memory, a start value; the next value is the address of the word.
     Starts,
 }

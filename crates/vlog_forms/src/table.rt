@@ -179,7 +179,7 @@ pub fn slots(form: Form) -> &'static [Slot]
             Slot::Atom,
             Slot::Fixed(Fixed::Semicolon),
         ],
-        Form::Flip => &[
+        Form::FlipFlop => &[
             Slot::Fixed(Fixed::Always),
             Slot::Space,
             Slot::Fixed(Fixed::At),
@@ -225,7 +225,7 @@ pub fn slots(form: Form) -> &'static [Slot]
             Slot::Space,
             Slot::Fixed(Fixed::End),
         ],
-        Form::FlipAtOnce => &[
+        Form::AsyncFlipFlop => &[
             Slot::Fixed(Fixed::Always),
             Slot::Space,
             Slot::Fixed(Fixed::At),
@@ -247,7 +247,7 @@ pub fn slots(form: Form) -> &'static [Slot]
             Slot::Again(2),
             Slot::Fixed(Fixed::CloseParen),
             Slot::Space,
-            Slot::Name(Role::AssignsAtOnce),
+            Slot::Name(Role::AssignsAsync),
             Slot::Space,
             Slot::Fixed(Fixed::LessEquals),
             Slot::Space,
@@ -273,7 +273,7 @@ pub fn slots(form: Form) -> &'static [Slot]
             Slot::Atoms(4),
             Slot::Fixed(Fixed::Semicolon),
         ],
-        Form::SetAtOnce => &[
+        Form::AsyncReset => &[
             Slot::Fixed(Fixed::Always),
             Slot::Space,
             Slot::Fixed(Fixed::At),
@@ -283,7 +283,7 @@ pub fn slots(form: Form) -> &'static [Slot]
             Slot::Name(Role::Takes(Sort::Wire)),
             Slot::Fixed(Fixed::CloseParen),
             Slot::Space,
-            Slot::Name(Role::AssignsAtOnce),
+            Slot::Name(Role::AssignsAsync),
             Slot::Space,
             Slot::Fixed(Fixed::LessEquals),
             Slot::Space,

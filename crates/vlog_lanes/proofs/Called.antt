@@ -1,11 +1,11 @@
 -- The entry of a lane after calls.
 use Rattle.std.proofs.Common.{◌≡◌, ℕ, Bool, true, false, List, [], ◌∷◌, cond, fold, refl, ◌∙◌}
 use Rattle.vlog_module.specs.Parts.{Parts}
-use Rattle.vlog_plan.specs.declared.event.Event.{Event}
-use Rattle.vlog_plan.specs.Entries.{Entry}
-use Rattle.vlog_plan.specs.Run.{followed}
-use Rattle.vlog_plan.specs.Values.{bit_of}
-use Rattle.vlog_plan.proofs.Runs.{last_entry}
+use Rattle.vlog_semantics.specs.declared.event.Event.{Event}
+use Rattle.vlog_semantics.specs.Entries.{Entry}
+use Rattle.vlog_semantics.specs.Run.{followed}
+use Rattle.vlog_semantics.specs.Values.{bit_of}
+use Rattle.vlog_semantics.proofs.Runs.{last_entry}
 use Rattle.vlog_lanes.specs.declared.call.Call.{Call}
 use Rattle.vlog_lanes.specs.Lanes.{lane_event, lane_events}
 

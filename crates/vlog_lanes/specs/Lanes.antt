@@ -1,8 +1,8 @@
 -- Bit-parallel lanes: a word has a bit for each lane; and the events that calls give to a lane.
 use Rattle.std.specs.Prelude.{ℕ, Bool, List, [], ◌∷◌, if◌then◌else◌}
-use Rattle.vlog_plan.specs.declared.event.Event.{Event}
-use Rattle.vlog_plan.specs.Values.{bit_of}
-use Rattle.vlog_cells.specs.Lanes.{lane_bits}
+use Rattle.vlog_semantics.specs.declared.event.Event.{Event}
+use Rattle.vlog_semantics.specs.Values.{bit_of}
+use Rattle.vlog_engine.specs.Lanes.{lane_bits}
 use Rattle.vlog_lanes.specs.declared.call.Call.{Call}
 
 -- the bits that a lane has in words

@@ -4,7 +4,7 @@ ghost use Rattle.std.specs.Option.{option_map};
 
 use crate::call::Call;
 use std::alloc::{AllocError, Global};
-use vlog_cells::Board;
+use vlog_engine::Board;
 use vlog_module::Module;
 
 /// A module that runs in sixty-four bit-parallel lanes, each over its own events.
@@ -29,11 +29,11 @@ pub struct Lanes {
 impl Lanes {
     ghost use Rattle.vlog_module.specs.Maps.{value_in};
     ghost use Rattle.vlog_module.specs.Parts.{Parts};
-    ghost use Rattle.vlog_plan.specs.Entries.{Entry};
-    ghost use Rattle.vlog_plan.specs.ModuleSlots.{memory_names, register_names, word_names};
-    ghost use Rattle.vlog_plan.specs.Named.{has_name, values_of};
-    ghost use Rattle.vlog_plan.specs.Run.{followed, input_names, last_of, module_run, run_from, start};
-    ghost use Rattle.vlog_plan.specs.Values.{bit_of};
+    ghost use Rattle.vlog_semantics.specs.Entries.{Entry};
+    ghost use Rattle.vlog_semantics.specs.ModuleSlots.{memory_names, register_names, word_names};
+    ghost use Rattle.vlog_semantics.specs.Named.{has_name, values_of};
+    ghost use Rattle.vlog_semantics.specs.Run.{followed, input_names, last_of, module_run, run_from, start};
+    ghost use Rattle.vlog_semantics.specs.Values.{bit_of};
     ghost use Rattle.vlog_lanes.specs.Lanes.{lane_event, lane_events, lane_of};
     ghost use Rattle.vlog_lanes.specs.Showing.{Shows, input_count};
 

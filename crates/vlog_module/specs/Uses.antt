@@ -8,7 +8,7 @@ use Rattle.vlog_module.specs.declared.item.Lut.{Lut}
 use Rattle.vlog_module.specs.declared.item.Right.{Right}
 use Rattle.vlog_module.specs.declared.item.Right.TheVariants.{Bit as RightBit, Whole as RightWhole, Part as RightPart, Lut as RightLut, Majority, Choose}
 use Rattle.vlog_module.specs.declared.item.Item.{Item}
-use Rattle.vlog_module.specs.declared.item.Item.TheVariants.{Register as RegisterItem, Word as WordItem, Memory as MemoryItem, Wire as WireItem, Assign, Flip, FlipAtOnce, SetAtOnce, Read, ReadNarrow, Write, WriteNarrow, Start}
+use Rattle.vlog_module.specs.declared.item.Item.TheVariants.{Register as RegisterItem, Word as WordItem, Memory as MemoryItem, Wire as WireItem, Assign, FlipFlop, AsyncFlipFlop, AsyncReset, Read, ReadNarrow, Write, WriteNarrow, Start}
 
 -- how an item uses a name
 pub data Use : Type 0 where
@@ -25,7 +25,7 @@ pub data Use : Type 0 where
   -- it reads the name, a register with an asynchronous set or reset, by way of that: the bit `set` while the wire `reset` is 1
   Chooses : (reset : List ℕ) (set : Bool) (name : List ℕ) → Use
   -- it assigns the name, a register that the wire `reset` sets (if the bit `set` is 1) or resets asynchronously
-  AssignsAtOnce : (reset : List ℕ) (set : Bool) (name : List ℕ) → Use
+  AssignsAsync : (reset : List ℕ) (set : Bool) (name : List ℕ) → Use
   -- it gives word k of the memory its start value
   Starts : (name : List ℕ) (k : ℕ) → Use
 
@@ -37,7 +37,7 @@ used_name (ReadsBit name k) = name
 used_name (Takes sort name) = name
 used_name (Assigns sort name) = name
 used_name (Chooses reset set name) = name
-used_name (AssignsAtOnce reset set name) = name
+used_name (AssignsAsync reset set name) = name
 used_name (Starts name k) = name
 
 abbrev pub atom_uses : Atom → List Use
@@ -68,11 +68,11 @@ uses_of (WordItem name start) = Declares Word name ∷ []
 uses_of (MemoryItem name) = Declares Memory name ∷ []
 uses_of (WireItem name right) = Declares Wire name ∷ right_uses right
 uses_of (Assign name value) = Assigns Output name ∷ atom_uses value
-uses_of (Flip falling clock enable reset set target lut) =
+uses_of (FlipFlop falling clock enable reset set target lut) =
     Takes Input clock ∷ (atom_uses enable ++ atom_uses reset ++ Assigns Register target ∷ lut_uses lut)
-uses_of (FlipAtOnce falling clock reset set target enable lut) =
-    Takes Input clock ∷ Takes Wire reset ∷ AssignsAtOnce reset set target ∷ (atom_uses enable ++ lut_uses lut)
-uses_of (SetAtOnce reset set target) = Takes Wire reset ∷ AssignsAtOnce reset set target ∷ []
+uses_of (AsyncFlipFlop falling clock reset set target enable lut) =
+    Takes Input clock ∷ Takes Wire reset ∷ AssignsAsync reset set target ∷ (atom_uses enable ++ lut_uses lut)
+uses_of (AsyncReset reset set target) = Takes Wire reset ∷ AssignsAsync reset set target ∷ []
 uses_of (Read falling clock clock_enable enable target memory address) =
     Takes Input clock
     ∷ (atom_uses clock_enable ++ atom_uses enable ++ Assigns Word target ∷ Takes Memory memory ∷ atoms_uses address)

@@ -8,13 +8,13 @@ use Rattle.vlog_module.specs.declared.item.Lut.{Lut}
 use Rattle.vlog_module.specs.declared.item.Right.{Right}
 use Rattle.vlog_module.specs.declared.item.Right.TheVariants.{Lut as RightLut}
 use Rattle.vlog_module.specs.declared.item.Item.{Item}
-use Rattle.vlog_module.specs.declared.item.Item.TheVariants.{Register as RegisterItem, Word as WordItem, Memory as MemoryItem, Wire as WireItem, Assign, Flip, FlipAtOnce, SetAtOnce, Read, ReadNarrow, Write, WriteNarrow, Start}
+use Rattle.vlog_module.specs.declared.item.Item.TheVariants.{Register as RegisterItem, Word as WordItem, Memory as MemoryItem, Wire as WireItem, Assign, FlipFlop, AsyncFlipFlop, AsyncReset, Read, ReadNarrow, Write, WriteNarrow, Start}
 use Rattle.vlog_module.specs.declared.modules.Port.{Port}
 use Rattle.vlog_module.specs.Maps.{value_in}
 use Rattle.vlog_module.specs.Names.{IsName}
 use Rattle.vlog_module.specs.Parts.{Parts}
 use Rattle.vlog_module.specs.Uses.{Use, uses_of, right_uses, used_name}
-use Rattle.vlog_module.specs.Uses.Use.{Declares, Reads, ReadsBit, Takes, Assigns, Chooses, AssignsAtOnce, Starts}
+use Rattle.vlog_module.specs.Uses.Use.{Declares, Reads, ReadsBit, Takes, Assigns, Chooses, AssignsAsync, Starts}
 
 -- ---- what comes before an item
 
@@ -25,9 +25,9 @@ section_of (WordItem name start) = 3
 section_of (MemoryItem name) = 4
 section_of (WireItem name right) = 5
 section_of (Assign name value) = 6
-section_of (Flip falling clock enable reset set target lut) = 7
-section_of (FlipAtOnce falling clock reset set target enable lut) = 7
-section_of (SetAtOnce reset set target) = 7
+section_of (FlipFlop falling clock enable reset set target lut) = 7
+section_of (AsyncFlipFlop falling clock reset set target enable lut) = 7
+section_of (AsyncReset reset set target) = 7
 section_of (Read falling clock clock_enable enable target memory address) = 8
 section_of (ReadNarrow falling clock clock_enable enable target memory address shift pattern) = 8
 section_of (Write falling clock clock_enable enable memory address mask bits) = 9
@@ -45,7 +45,7 @@ declared_by _ = []
 -- the name that a use assigns
 abbrev pub assigned_by : Use → List (List ℕ)
 assigned_by (Assigns sort name) = name ∷ []
-assigned_by (AssignsAtOnce reset set name) = name ∷ []
+assigned_by (AssignsAsync reset set name) = name ∷ []
 assigned_by _ = []
 
 -- the memory and the index of its word that a use gives a start value
@@ -134,7 +134,7 @@ is_known scope (ReadsBit name k) = is_sort Word (sort_in scope.declared name)
 is_known scope (Takes sort name) = is_sort sort (sort_in scope.declared name)
 is_known scope (Assigns sort name) = is_sort sort (sort_in scope.declared name)
 is_known scope (Chooses reset set name) = is_sort Register (sort_in scope.declared name)
-is_known scope (AssignsAtOnce reset set name) =
+is_known scope (AssignsAsync reset set name) =
     is_sort Register (sort_in scope.declared name) && is_read_unless scope.read reset set name
 is_known scope (Starts name k) = is_sort Memory (sort_in scope.declared name)
 
@@ -142,7 +142,7 @@ is_known scope (Starts name k) = is_sort Memory (sort_in scope.declared name)
 abbrev pub is_first : Scope → Use → Bool
 is_first scope (Declares sort name) = is_none (sort_in scope.declared name)
 is_first scope (Assigns sort name) = not (list_any (λ other. bytes_eq other name) scope.assigned)
-is_first scope (AssignsAtOnce reset set name) = not (list_any (λ other. bytes_eq other name) scope.assigned)
+is_first scope (AssignsAsync reset set name) = not (list_any (λ other. bytes_eq other name) scope.assigned)
 is_first scope (Starts name k) = not (list_any (λ other. bytes_eq other.0 name && (other.1 == k)) scope.started)
 is_first scope _ = true
 
@@ -164,8 +164,8 @@ IsRight _ = Unit {0}
 abbrev pub IsShaped : Item → Type 0
 IsShaped (WordItem name start) = start < 65536
 IsShaped (WireItem name right) = IsRight right
-IsShaped (Flip falling clock enable reset set target lut) = IsLut lut
-IsShaped (FlipAtOnce falling clock reset set target enable lut) = IsLut lut
+IsShaped (FlipFlop falling clock enable reset set target lut) = IsLut lut
+IsShaped (AsyncFlipFlop falling clock reset set target enable lut) = IsLut lut
 IsShaped (Read falling clock clock_enable enable target memory address) = length address ≡ 8
 IsShaped (ReadNarrow falling clock clock_enable enable target memory address shift pattern) =
     (length address ≡ 8) × (length shift ≡ 3) × (pattern < 65536)

@@ -69,7 +69,7 @@ pub enum Item {
     },
     /// `always @(EDGE clock) if (enable) begin if (reset) target <= set; else target <= lut; end`: a flip-flop with a clock enable and
     /// a synchronous set or reset, as `SB_DFFESS` and `SB_DFFESR`.
-    Flip {
+    FlipFlop {
         /// Whether the edge is `negedge`.
         falling: bool,
         clock: Name,
@@ -81,7 +81,7 @@ pub enum Item {
     },
     /// `always @(EDGE clock or posedge reset) if (reset) target <= set; else if (enable) target <= lut;`: a flip-flop with a clock enable
     /// and an asynchronous set or reset, as `SB_DFFES` and `SB_DFFER`.
-    FlipAtOnce {
+    AsyncFlipFlop {
         /// Whether the edge of the clock is `negedge`.
         falling: bool,
         clock: Name,
@@ -93,7 +93,7 @@ pub enum Item {
         lut: Lut,
     },
     /// `always @(posedge reset) target <= set;`: a flip-flop without a clock, which has only an asynchronous set or reset.
-    SetAtOnce {
+    AsyncReset {
         /// A wire: the asynchronous set or reset.
         reset: Name,
         set: bool,

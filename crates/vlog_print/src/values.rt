@@ -19,9 +19,9 @@ pub(crate) fn item_form(item: &Item) -> Form
         Item::Memory { .. } => Form::Memory,
         Item::Wire { right, .. } => wire_form(right),
         Item::Assign { .. } => Form::Assign,
-        Item::Flip { .. } => Form::Flip,
-        Item::FlipAtOnce { .. } => Form::FlipAtOnce,
-        Item::SetAtOnce { .. } => Form::SetAtOnce,
+        Item::FlipFlop { .. } => Form::FlipFlop,
+        Item::AsyncFlipFlop { .. } => Form::AsyncFlipFlop,
+        Item::AsyncReset { .. } => Form::AsyncReset,
         Item::Read { .. } => Form::Read,
         Item::ReadNarrow { .. } => Form::ReadNarrow,
         Item::Write { .. } => Form::Write,
@@ -75,7 +75,7 @@ fn push_item<'a>(values: &mut Vec<Value<'a>>, item: &'a Item) -> Result<(), Allo
             push_name(values, Role::Assigns(Sort::Output), name)?;
             push_atom(values, value)
         }
-        Item::Flip {
+        Item::FlipFlop {
             falling,
             clock,
             enable,
@@ -89,7 +89,7 @@ fn push_item<'a>(values: &mut Vec<Value<'a>>, item: &'a Item) -> Result<(), Allo
             push(values, Value::Bit(*set))?;
             push_lut(values, lut)
         }
-        Item::FlipAtOnce {
+        Item::AsyncFlipFlop {
             falling,
             clock,
             reset,
@@ -104,7 +104,7 @@ fn push_item<'a>(values: &mut Vec<Value<'a>>, item: &'a Item) -> Result<(), Allo
             push_atom(values, enable)?;
             push_lut(values, lut)
         }
-        Item::SetAtOnce { reset, set, target } => push_at_once(values, reset, *set, target),
+        Item::AsyncReset { reset, set, target } => push_at_once(values, reset, *set, target),
         Item::Read {
             falling,
             clock,
@@ -204,10 +204,10 @@ fn push_at_once<'a>(
     target: &'a Name,
 ) -> Result<(), AllocError>
     ensures { OnOk result (all_seen values.new.items ≡ all_seen values.old.items
-        ++ value.Name (Role.Takes Sort.Wire) reset.now ∷ value.Name Role.AssignsAtOnce target.now ∷ value.Bit set ∷ []) }
+        ++ value.Name (Role.Takes Sort.Wire) reset.now ∷ value.Name Role.AssignsAsync target.now ∷ value.Bit set ∷ []) }
 {
     push_name(values, Role::Takes(Sort::Wire), reset)?;
-    push_name(values, Role::AssignsAtOnce, target)?;
+    push_name(values, Role::AssignsAsync, target)?;
     push(values, Value::Bit(set))
 }
 

@@ -4,8 +4,8 @@ use Rattle.std.specs.Prelude.{map}
 use Rattle.std.specs.Int.{bit_at}
 use Rattle.std.proofs.lemmas.List.{get_or-map, length-map}
 use Rattle.std.proofs.lemmas.Nat.Bits.{bit_at-suc, bit_at-zero, bit_at_lowest}
-use Rattle.vlog_plan.specs.Values.{bit_of, number_of}
-use Rattle.vlog_plan.proofs.Numbers.{number_of-lt}
+use Rattle.vlog_semantics.specs.Values.{bit_of, number_of}
+use Rattle.vlog_semantics.proofs.Numbers.{number_of-lt}
 
 -- ---- as it is computed
 

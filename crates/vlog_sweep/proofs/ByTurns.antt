@@ -4,8 +4,8 @@ use Rattle.std.specs.Prelude.{map}
 use Rattle.std.proofs.lemmas.Bool.{cases_eq}
 use Rattle.std.proofs.lemmas.List.{get_or-set_other, get_or-set_same, get_or_default, length-map, set-get_or}
 use Rattle.vlog_module.specs.Parts.{Parts}
-use Rattle.vlog_plan.specs.Values.{bit_of}
-use Rattle.vlog_cycle.specs.Text.{bit_digit, entry_line}
+use Rattle.vlog_semantics.specs.Values.{bit_of}
+use Rattle.vlog_run.specs.Text.{bit_digit, entry_line}
 use Rattle.vlog_lanes.specs.Lanes.{lane_of}
 use Rattle.vlog_sweep.specs.Strands.{Stands, line_of, line_put, next_entry, stepped}
 use Rattle.vlog_sweep.specs.declared.strand.Strand.{Strand}

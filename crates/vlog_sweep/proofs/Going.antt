@@ -4,11 +4,11 @@ use Rattle.std.specs.List.{sum_by}
 use Rattle.std.specs.Prelude.{map}
 use Rattle.std.proofs.lemmas.List.{length-map}
 use Rattle.vlog_module.specs.Parts.{Parts}
-use Rattle.vlog_plan.specs.Entries.{Entry}
-use Rattle.vlog_plan.specs.Named.{values_of}
-use Rattle.vlog_plan.specs.Run.{followed}
-use Rattle.vlog_plan.specs.Values.{bit_of}
-use Rattle.vlog_cycle.specs.Text.{entry_line}
+use Rattle.vlog_semantics.specs.Entries.{Entry}
+use Rattle.vlog_semantics.specs.Named.{values_of}
+use Rattle.vlog_semantics.specs.Run.{followed}
+use Rattle.vlog_semantics.specs.Values.{bit_of}
+use Rattle.vlog_run.specs.Text.{entry_line}
 use Rattle.vlog_lanes.specs.declared.call.Call.{Call}
 use Rattle.vlog_lanes.specs.declared.lanes.Lanes.{Lanes}
 use Rattle.vlog_lanes.specs.Lanes.{lane_event, lane_of}

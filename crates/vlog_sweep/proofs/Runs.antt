@@ -9,12 +9,12 @@ use Rattle.std.proofs.lemmas.List.Sums.{fold_more}
 use Rattle.vlog_module.specs.declared.item.Item.{Item}
 use Rattle.vlog_module.specs.declared.item.Item.TheVariants.{Assign}
 use Rattle.vlog_module.specs.Parts.{Parts}
-use Rattle.vlog_plan.specs.declared.event.Event.{Event}
-use Rattle.vlog_plan.specs.Entries.{Entry, put}
-use Rattle.vlog_plan.specs.Named.{values_of}
-use Rattle.vlog_plan.specs.Run.{changed, followed, input_bit, is_same_bit, output_start, output_step, run_from, settled, start}
-use Rattle.vlog_plan.specs.Values.{Readable}
-use Rattle.vlog_cycle.specs.Text.{entry_line}
+use Rattle.vlog_semantics.specs.declared.event.Event.{Event}
+use Rattle.vlog_semantics.specs.Entries.{Entry, put}
+use Rattle.vlog_semantics.specs.Named.{values_of}
+use Rattle.vlog_semantics.specs.Run.{changed, followed, input_bit, is_same_bit, output_start, output_step, run_from, settled, start}
+use Rattle.vlog_semantics.specs.Values.{Readable}
+use Rattle.vlog_run.specs.Text.{entry_line}
 use Rattle.vlog_sweep.specs.Strands.{entry_of, has_bit, is_on, next_of, stepped}
 use Rattle.vlog_sweep.specs.declared.strand.Strand.{Strand}
 

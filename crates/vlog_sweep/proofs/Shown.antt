@@ -3,12 +3,12 @@ use Rattle.std.proofs.Common.{◌≡◌, ℕ, ◌<◌, cond, false, true, List, 
 use Rattle.std.specs.Prelude.{All, map}
 use Rattle.std.proofs.lemmas.List.{get_or-map, length-map}
 use Rattle.vlog_module.specs.Parts.{Parts}
-use Rattle.vlog_plan.specs.declared.event.Event.{Event}
-use Rattle.vlog_plan.specs.Entries.{Entry}
-use Rattle.vlog_plan.specs.Named.{values_of}
-use Rattle.vlog_plan.specs.Run.{followed, input_names}
-use Rattle.vlog_plan.specs.Values.{bit_of, number_of}
-use Rattle.vlog_cycle.specs.Text.{bit_digit, entry_line}
+use Rattle.vlog_semantics.specs.declared.event.Event.{Event}
+use Rattle.vlog_semantics.specs.Entries.{Entry}
+use Rattle.vlog_semantics.specs.Named.{values_of}
+use Rattle.vlog_semantics.specs.Run.{followed, input_names}
+use Rattle.vlog_semantics.specs.Values.{bit_of, number_of}
+use Rattle.vlog_run.specs.Text.{bit_digit, entry_line}
 use Rattle.vlog_lanes.specs.declared.call.Call.{Call}
 use Rattle.vlog_lanes.specs.declared.lanes.Lanes.{Lanes}
 use Rattle.vlog_lanes.specs.Lanes.{lane_event, lane_of}

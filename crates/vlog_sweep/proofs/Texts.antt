@@ -5,9 +5,9 @@ use Rattle.std.proofs.lemmas.Bool.{cases_eq, cases_lt}
 use Rattle.std.proofs.lemmas.List.{drop-drop, drop_all, drop_at, drop_more, get_or-set_other, get_or-set_same, get_or_append_left, get_or_default, get_or_push, length-set, length_push, set-get_or, take-append-le, take_at}
 use Rattle.std.proofs.lemmas.List.Concat.{flat_map-append}
 use Rattle.vlog_module.specs.Parts.{Parts}
-use Rattle.vlog_plan.specs.declared.event.Event.{Event}
-use Rattle.vlog_plan.specs.Run.{module_run, run_from, start}
-use Rattle.vlog_cycle.specs.Text.{entry_line, run_text}
+use Rattle.vlog_semantics.specs.declared.event.Event.{Event}
+use Rattle.vlog_semantics.specs.Run.{module_run, run_from, start}
+use Rattle.vlog_run.specs.Text.{entry_line, run_text}
 use Rattle.vlog_sweep.specs.Strands.{Stands, begun_text, had, left_of, line_put, next_entry, part, stepped, written}
 use Rattle.vlog_sweep.specs.Sweep.{list_text}
 use Rattle.vlog_sweep.specs.declared.strand.Strand.{Strand}

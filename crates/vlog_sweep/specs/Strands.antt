@@ -1,10 +1,10 @@
 -- Lists of events that are being run, each in its lane (strands), and the text with room for each of their lines.
 use Rattle.std.specs.Prelude.{◌≡◌, ℕ, ◌+◌, ◌-◌, ◌<◌, ◌≤◌, Bool, false, ◌==◌, List, [], ◌∷◌, ◌++◌, Option, None, Some, drop, flat_map, fold, get_or, length, map, slice_get, take}
 use Rattle.vlog_module.specs.Parts.{Parts}
-use Rattle.vlog_plan.specs.declared.event.Event.{Event}
-use Rattle.vlog_plan.specs.Entries.{Entry}
-use Rattle.vlog_plan.specs.Run.{followed, run_from, start}
-use Rattle.vlog_cycle.specs.Text.{bit_digit, entry_line}
+use Rattle.vlog_semantics.specs.declared.event.Event.{Event}
+use Rattle.vlog_semantics.specs.Entries.{Entry}
+use Rattle.vlog_semantics.specs.Run.{followed, run_from, start}
+use Rattle.vlog_run.specs.Text.{bit_digit, entry_line}
 use Rattle.vlog_lanes.specs.Lanes.{lane_of}
 use Rattle.vlog_sweep.specs.declared.list.EventList.{EventList}
 use Rattle.vlog_sweep.specs.declared.strand.Strand.{Strand}

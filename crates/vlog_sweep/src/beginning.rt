@@ -1,14 +1,14 @@
 // The text before the first event. Each list has its heading, and the line of the start in place of each of its lines.
 ghost use Rattle.std.specs.Prelude.{◌≡◌, ◌+◌, ◌++◌, [], All, IfOk, OnOk, false, flat_map, length, map};
-ghost use Rattle.vlog_cycle.specs.Text.{entry_line};
+ghost use Rattle.vlog_run.specs.Text.{entry_line};
 ghost use Rattle.vlog_module.specs.Parts.{Parts};
-ghost use Rattle.vlog_plan.specs.Run.{start};
+ghost use Rattle.vlog_semantics.specs.Run.{start};
 ghost use Rattle.vlog_sweep.specs.Strands.{Stands, begun_text};
 
 use crate::list::EventList;
 use crate::strand::Strand;
 use std::alloc::{AllocError, Global};
-use vlog_plan::Event;
+use vlog_semantics::Event;
 
 /// How many bytes the part of a list has, if each line has `width` bytes. None if the number doesn't fit.
 fn list_size(list: &EventList, width: usize) -> Option<usize> {

@@ -1,12 +1,12 @@
 // Which lists take their next event together.
 ghost use Rattle.std.specs.Prelude.{◌≡◌, ◌<◌, ◌≤◌, ℕ, None, Some, get_or, length, map, true};
-ghost use Rattle.vlog_plan.specs.Values.{number_of};
+ghost use Rattle.vlog_semantics.specs.Values.{number_of};
 ghost use Rattle.vlog_sweep.specs.Strands.{has_bit, is_on, left_of, next_of};
 ghost use Rattle.vlog_sweep.specs.declared.strand.Strand.{Strand as strand_of};
 
 use crate::strand::{Strand, left, next_event, next_input};
 use vlog_lanes::Call;
-use vlog_plan::Event;
+use vlog_semantics::Event;
 
 /// The input of the next event of a list that has most events left, so that lists with the same inputs go in step. None if no list has an
 /// event left.

@@ -13,4 +13,4 @@ pub use list::EventList;
 pub use sweeping::sweep;
 
 // The events of a list.
-pub use vlog_plan::Event;
+pub use vlog_semantics::Event;

@@ -1,7 +1,7 @@
 // Lines of outputs, each at its offset in the text.
 ghost use Rattle.std.specs.Prelude.{◌≡◌, ◌<◌, ◌≤◌, ◌+◌, ◌++◌, length, IfOk};
-ghost use Rattle.vlog_cycle.specs.Text.{bit_digit};
-ghost use Rattle.vlog_plan.specs.Values.{bit_of};
+ghost use Rattle.vlog_run.specs.Text.{bit_digit};
+ghost use Rattle.vlog_semantics.specs.Values.{bit_of};
 ghost use Rattle.vlog_sweep.specs.Strands.{line_of, line_put};
 
 use std::alloc::{AllocError, Global};

@@ -1,6 +1,6 @@
 // Lists of events.
 
-use vlog_plan::Event;
+use vlog_semantics::Event;
 
 /// A list of events, and the heading: the bytes that come before the lines of its run.
 #[derive(Drop)]

@@ -4,7 +4,7 @@ ghost use Rattle.std.specs.Option.{option_map};
 ghost use Rattle.vlog_sweep.specs.Strands.{left_of, next_of};
 
 use crate::list::EventList;
-use vlog_plan::Event;
+use vlog_semantics::Event;
 
 /// A list in its lane.
 #[derive(Clone, Copy)]

@@ -1,6 +1,6 @@
 // The runs of a module over many lists of events.
 ghost use Rattle.std.specs.Prelude.{◌≡◌, ◌<◌, ◌≤◌, All, IfOk, flat_map, length};
-ghost use Rattle.vlog_plan.specs.Run.{input_names};
+ghost use Rattle.vlog_semantics.specs.Run.{input_names};
 ghost use Rattle.vlog_sweep.specs.Sweep.{list_text};
 
 use crate::beginning::begin;

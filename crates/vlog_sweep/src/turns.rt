@@ -1,8 +1,8 @@
 // Writes the lines of the lanes that had an event.
 ghost use Rattle.std.specs.Prelude.{◌≡◌, ◌<◌, ◌≤◌, ◌+◌, ℕ, List, false, get_or, length, true, if◌then◌else◌};
-ghost use Rattle.vlog_cycle.specs.Text.{entry_line};
+ghost use Rattle.vlog_run.specs.Text.{entry_line};
 ghost use Rattle.vlog_module.specs.Parts.{Parts};
-ghost use Rattle.vlog_plan.specs.Values.{bit_of};
+ghost use Rattle.vlog_semantics.specs.Values.{bit_of};
 ghost use Rattle.vlog_sweep.specs.Strands.{Stands, line_of, line_put, next_entry, stepped};
 ghost use Rattle.vlog_sweep.specs.declared.strand.Strand.{Strand as strand_of};
 

@@ -2,7 +2,7 @@
 
 use std::alloc::Global;
 use vlog_lanes::Lanes;
-use vlog_text::parse;
+use vlog_parser::parse;
 
 /// The module of an input pin, a LUT that inverts it, and an output pin.
 const INVERTER: &[u8] = b"module chip (io_0_1_0, io_0_2_0);

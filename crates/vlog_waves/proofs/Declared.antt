@@ -6,8 +6,8 @@ use Rattle.std.proofs.Common.{drop_of_length-le}
 use Rattle.text_lines.specs.Written.{text_of}
 use Rattle.vlog_module.specs.declared.item.Item.{Item}
 use Rattle.vlog_module.specs.declared.modules.Port.{Port}
-use Rattle.vlog_plan.specs.ModuleSlots.{wire_start}
-use Rattle.vlog_plan.specs.Run.{register_start, word_start}
+use Rattle.vlog_semantics.specs.ModuleSlots.{wire_start}
+use Rattle.vlog_semantics.specs.Run.{register_start, word_start}
 use Rattle.vlog_waves.specs.Variables.{Kind as kind_told, Variable, of_kind}
 use Rattle.vlog_waves.specs.Variables.Kind.{wire_kind}
 use Rattle.vlog_waves.specs.Waves.{variable_line, variable_lines}

@@ -5,11 +5,11 @@ use Rattle.std.proofs.lemmas.List.{drop_more}
 use Rattle.ice_io.specs.declared.sink.PutFault.{PutFault}
 use Rattle.text_lines.specs.Written.{text_of}
 use Rattle.vlog_module.specs.Parts.{Parts}
-use Rattle.vlog_plan.specs.declared.event.Event.{Event}
-use Rattle.vlog_plan.specs.Entries.{Entry}
-use Rattle.vlog_plan.specs.Run.{followed, input_names, module_run, run_from, start}
-use Rattle.vlog_plan.proofs.Runs.{last_entry, last-more}
-use Rattle.vlog_cycle.specs.Showing.{input_count}
+use Rattle.vlog_semantics.specs.declared.event.Event.{Event}
+use Rattle.vlog_semantics.specs.Entries.{Entry}
+use Rattle.vlog_semantics.specs.Run.{followed, input_names, module_run, run_from, start}
+use Rattle.vlog_semantics.proofs.Runs.{last_entry, last-more}
+use Rattle.vlog_run.specs.Showing.{input_count}
 use Rattle.vlog_waves.specs.Variables.{values_in}
 use Rattle.vlog_waves.specs.Waves.{event_lines, head_lines, run_lines, start_lines, waves_text}
 use Rattle.vlog_waves.specs.declared.tracer.Tracer.{Tracer}

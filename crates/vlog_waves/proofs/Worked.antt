@@ -4,11 +4,11 @@ use Rattle.std.specs.Prelude.{codes}
 use Rattle.std.specs.Fmt.{digits}
 use Rattle.text_lines.specs.Written.{text_of}
 use Rattle.vlog_module.specs.declared.atoms.Atom.TheVariants.{Bit, Whole}
-use Rattle.vlog_module.specs.declared.item.Item.TheVariants.{Register, Word, Wire, Assign, Flip}
+use Rattle.vlog_module.specs.declared.item.Item.TheVariants.{Register, Word, Wire, Assign, FlipFlop}
 use Rattle.vlog_module.specs.declared.item.Right.TheVariants.{Whole as RightWhole}
 use Rattle.vlog_module.specs.Parts.{Parts}
-use Rattle.vlog_plan.specs.declared.event.Event.{Event}
-use Rattle.vlog_plan.specs.Run.{changed, followed, module_run, run_from, settled, start}
+use Rattle.vlog_semantics.specs.declared.event.Event.{Event}
+use Rattle.vlog_semantics.specs.Run.{changed, followed, module_run, run_from, settled, start}
 use Rattle.vlog_waves.specs.Variables.{values_in, variables_of}
 use Rattle.vlog_waves.specs.Waves.{head_lines, identifier, identifier_digits, waves_text, word_digits}
 
@@ -45,7 +45,7 @@ small = record {
   name = codes "m";
   ports = record { name = codes "c"; output = false } ∷ record { name = codes "q"; output = true } ∷ [];
   items = Register (codes "r") true ∷ Word (codes "w") 4660 ∷ Wire (codes "n") (RightWhole (codes "c")) ∷ Assign (codes "q") (Whole (codes "n"))
-      ∷ Flip false (codes "c") (Bit true) (Bit false) false (codes "r") (record { word = 0; ins = Bit false ∷ Bit false ∷ Bit false ∷ Bit false ∷ [] }) ∷ [];
+      ∷ FlipFlop false (codes "c") (Bit true) (Bit false) false (codes "r") (record { word = 0; ins = Bit false ∷ Bit false ∷ Bit false ∷ Bit false ∷ [] }) ∷ [];
 }
 
 told : waves_text small (event 0 true ∷ event 0 true ∷ [])

@@ -3,9 +3,9 @@
 use Rattle.std.specs.Prelude.{ℕ, Bool, false, List, [], ◌∷◌, ◌++◌, drop, get_or, map, if◌then◌else◌}
 use Rattle.vlog_module.specs.declared.modules.Port.{Port}
 use Rattle.vlog_module.specs.Parts.{Parts}
-use Rattle.vlog_plan.specs.Entries.{Entry}
-use Rattle.vlog_plan.specs.ModuleSlots.{register_names, wire_names, word_names}
-use Rattle.vlog_plan.specs.Named.{values_of}
+use Rattle.vlog_semantics.specs.Entries.{Entry}
+use Rattle.vlog_semantics.specs.ModuleSlots.{register_names, wire_names, word_names}
+use Rattle.vlog_semantics.specs.Named.{values_of}
 
 -- the type of a variable: a wire of one bit, a register of one bit, or a register of 16 bits
 pub data Kind : Type 0 where

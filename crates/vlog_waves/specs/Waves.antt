@@ -2,10 +2,10 @@
 use Rattle.std.specs.Prelude.{ℕ, zero, suc, ◌+◌, ◌/◌, ◌%◌, ◌^◌, ◌==◌, Bool, false, not, List, [], ◌∷◌, ◌++◌, codes, decimal, map, nat_lt, if◌then◌else◌}
 use Rattle.text_lines.specs.Written.{text_of}
 use Rattle.vlog_module.specs.Parts.{Parts}
-use Rattle.vlog_plan.specs.declared.event.Event.{Event}
-use Rattle.vlog_plan.specs.Entries.{Entry}
-use Rattle.vlog_plan.specs.Run.{module_run}
-use Rattle.vlog_cycle.specs.Text.{bit_digit}
+use Rattle.vlog_semantics.specs.declared.event.Event.{Event}
+use Rattle.vlog_semantics.specs.Entries.{Entry}
+use Rattle.vlog_semantics.specs.Run.{module_run}
+use Rattle.vlog_run.specs.Text.{bit_digit}
 use Rattle.vlog_waves.specs.Variables.{Kind, Value, Variable, values_in, variables_of}
 use Rattle.vlog_waves.specs.Variables.Kind.{wire_kind, register_kind, word_kind}
 use Rattle.vlog_waves.specs.Variables.Value.{one_bit, sixteen_bits}

@@ -1,6 +1,6 @@
 // The variables that items declare.
 ghost use Rattle.std.specs.Prelude.{◌≡◌, ◌≤◌, ◌∷◌, [], IfNone, IfSome, length};
-ghost use Rattle.vlog_plan.specs.ModuleSlots.{wire_names};
+ghost use Rattle.vlog_semantics.specs.ModuleSlots.{wire_names};
 ghost use Rattle.vlog_waves.specs.inside.Declared.{declared_by};
 
 use vlog_module::{Item, Name};

@@ -15,4 +15,4 @@ mod waves;
 pub use waves::Waves;
 
 // The events of a run.
-pub use vlog_plan::Event;
+pub use vlog_semantics::Event;

@@ -2,7 +2,7 @@
 // if the text has too little room.
 ghost use Rattle.std.specs.Prelude.{◌≡◌, ◌+◌, ◌<◌, ◌≤◌, [], ◌∷◌, ◌++◌, decimal, length, vec_len, vec_capacity, OnOk, OnErr};
 ghost use Rattle.text_lines.specs.Written.{text_of};
-ghost use Rattle.vlog_cycle.specs.Text.{bit_digit};
+ghost use Rattle.vlog_run.specs.Text.{bit_digit};
 ghost use Rattle.vlog_waves.specs.Variables.Value.{one_bit, sixteen_bits};
 ghost use Rattle.vlog_waves.specs.Waves.{identifier, time_line, value_line, word_digits};
 

@@ -3,9 +3,9 @@ ghost use Rattle.std.specs.Prelude.{◌≡◌, ◌+◌, ◌*◌, ◌<◌, ◌≤
 ghost use Rattle.ice_io.specs.Faults.{Rose};
 ghost use Rattle.text_lines.specs.Written.{text_of};
 ghost use Rattle.vlog_module.specs.Parts.{Parts};
-ghost use Rattle.vlog_plan.specs.Entries.{Entry};
-ghost use Rattle.vlog_plan.specs.Run.{start};
-ghost use Rattle.vlog_cycle.specs.Showing.{input_count};
+ghost use Rattle.vlog_semantics.specs.Entries.{Entry};
+ghost use Rattle.vlog_semantics.specs.Run.{start};
+ghost use Rattle.vlog_run.specs.Showing.{input_count};
 ghost use Rattle.vlog_waves.specs.Variables.{values_in};
 ghost use Rattle.vlog_waves.specs.Waves.{head_lines, start_lines, waves_text};
 ghost use Rattle.vlog_waves.specs.inside.Sent.{Sends};
@@ -15,7 +15,7 @@ ghost use Rattle.vlog_waves.specs.inside.Values.{event_room};
 use crate::tracer::Tracer;
 use ice_io::{PutFault, Sink, write_whole};
 use vlog_module::{Module, Port};
-use vlog_plan::Event;
+use vlog_semantics::Event;
 
 /// Writes a piece of a text after its first `sent` bytes, and returns how many bytes of it are written then.
 fn write_piece<K: Sink>(sink: &mut K, piece: &[u8], sent: usize) -> Result<usize, PutFault>

@@ -6,9 +6,9 @@ use crate::changes::push_event;
 use crate::values::Values;
 use std::alloc::{AllocError, Global};
 use std::mem;
-use vlog_cycle::Runner;
 use vlog_module::{Module, Port};
-use vlog_plan::Event;
+use vlog_run::Runner;
+use vlog_semantics::Event;
 
 /// A run whose changes are dumped. All memory is taken when it is made.
 #[derive(Drop)]
@@ -28,9 +28,9 @@ impl Tracer {
     ghost use Rattle.std.specs.Prelude.{◌≡◌, ◌<◌, ◌∷◌, IfOk, vec_len};
     ghost use Rattle.text_lines.specs.Written.{text_of};
     ghost use Rattle.vlog_module.specs.Parts.{Parts};
-    ghost use Rattle.vlog_plan.specs.Entries.{Entry};
-    ghost use Rattle.vlog_plan.specs.Run.{followed, start};
-    ghost use Rattle.vlog_cycle.specs.Showing.{input_count};
+    ghost use Rattle.vlog_semantics.specs.Entries.{Entry};
+    ghost use Rattle.vlog_semantics.specs.Run.{followed, start};
+    ghost use Rattle.vlog_run.specs.Showing.{input_count};
     ghost use Rattle.vlog_waves.specs.Variables.{values_in};
     ghost use Rattle.vlog_waves.specs.Waves.{changed_lines, time_line};
     ghost use Rattle.vlog_waves.specs.inside.Tracing.{Traces};

@@ -4,9 +4,9 @@ ghost use Rattle.vlog_waves.specs.Variables.{port_bits};
 
 use crate::items::count_wires;
 use std::alloc::{AllocError, Global};
-use vlog_cycle::Runner;
 use vlog_module::{Module, Port};
-use vlog_plan::{bit_at, copy_bits, copy_words};
+use vlog_run::Runner;
+use vlog_semantics::{bit_at, copy_bits, copy_words};
 
 /// The values of the ports, the registers of one bit, the registers of 16 bits and the wires, each in their order. There are fewer than
 /// 2^56 of each, since no memory has room for more.
@@ -22,8 +22,8 @@ pub(crate) struct Values {
 impl Values {
     ghost use Rattle.std.specs.Prelude.{IfOk};
     ghost use Rattle.vlog_module.specs.Parts.{Parts};
-    ghost use Rattle.vlog_plan.specs.Entries.{Entry};
-    ghost use Rattle.vlog_cycle.specs.Showing.{Shows};
+    ghost use Rattle.vlog_semantics.specs.Entries.{Entry};
+    ghost use Rattle.vlog_run.specs.Showing.{Shows};
     ghost use Rattle.vlog_waves.specs.Variables.{values_in};
     ghost use Rattle.vlog_waves.specs.inside.Values.{AreAlike, Fits, event_room, values_held};
 

@@ -1,8 +1,8 @@
 // The VCD of a run, made while it is written.
 ghost use Rattle.std.specs.Prelude.{◌≡◌, ◌+◌, ◌*◌, ◌<◌, ◌^◌, ◌++◌, All, true, vec_len};
 ghost use Rattle.text_lines.specs.Written.{text_of};
-ghost use Rattle.vlog_plan.specs.Run.{start};
-ghost use Rattle.vlog_cycle.specs.Showing.{input_count};
+ghost use Rattle.vlog_semantics.specs.Run.{start};
+ghost use Rattle.vlog_run.specs.Showing.{input_count};
 ghost use Rattle.vlog_waves.specs.Variables.{values_in};
 ghost use Rattle.vlog_waves.specs.Waves.{head_lines, start_lines};
 ghost use Rattle.vlog_waves.specs.inside.Tracing.{Traces};
@@ -14,7 +14,7 @@ use crate::tracer::Tracer;
 use ice_io::{Content, PutFault, Sink};
 use std::alloc::{AllocError, Global};
 use vlog_module::Module;
-use vlog_plan::Event;
+use vlog_semantics::Event;
 
 /// The VCD of a module's run over events, which is made while it is written. Only the lines before the first event and the lines of one
 /// event are in memory at a time.
@@ -42,7 +42,7 @@ pub struct Waves {
 
 impl Waves {
     ghost use Rattle.std.specs.Prelude.{IfOk, length};
-    ghost use Rattle.vlog_plan.specs.Run.{input_names};
+    ghost use Rattle.vlog_semantics.specs.Run.{input_names};
     ghost use Rattle.vlog_waves.specs.Waves.{waves_text};
     ghost use Rattle.vlog_waves.specs.Whole.{waves_in};
 

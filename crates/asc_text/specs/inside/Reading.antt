@@ -3,8 +3,8 @@
 use Rattle.std.specs.Prelude.{◌≡◌, ℕ, zero, suc, ◌+◌, ◌<◌, Bool, true, false, not, ◌&&◌, ◌||◌, List, [], ◌∷◌, ◌++◌, length, get_or, nat_lt, ◌==◌, if◌then◌else◌, Option, Some, None, is_some, unwrap_or, replicate}
 use Rattle.std.specs.Bool.{MatchBool}
 use Rattle.text_lines.specs.Lines.{lines_of, line_at, trimmed}
-use Rattle.place_search.specs.Places.{or_else}
-use Rattle.plane_map.specs.Layout.{kind_of, columns_of}
+use Rattle.index_search.specs.Places.{or_else}
+use Rattle.plane_map.specs.Layout.{kind_of, columns_of, max_side}
 use Rattle.plane_map.specs.declared.device.DeviceName.{DeviceName}
 use Rattle.plane_map.specs.declared.tile.TileKind.{TileKind}
 use Rattle.plane_map.specs.declared.tile.TileKind.TheVariants.{RamB}
@@ -23,11 +23,11 @@ use Rattle.asc_text.specs.declared.fault.AscCause.{AscCause}
 use Rattle.asc_text.specs.declared.fault.AscCause.TheVariants.{Statement as StatementCause, NoDevice, Row as RowCause, Repeated, Hex, ExtraPlace, Setting}
 use Rattle.asc_text.specs.declared.fault.AscFault.{AscFault}
 use Rattle.asc_text.specs.declared.fault.AscFault.TheVariants.{At, Memory as OutOfMemory}
-use Rattle.asc_text.specs.declared.reading.reader.Reader.{Reader}
+use Rattle.asc_text.specs.declared.reading.reader.TextReader.{TextReader}
 use Rattle.asc_text.specs.declared.reading.reader.Expected.{Expected}
 use Rattle.asc_text.specs.declared.reading.reader.Expected.TheVariants.{Statement as AnyStatement, Row, Memory}
-use Rattle.asc_text.specs.declared.reading.reader.Refusal.{Refusal}
-use Rattle.asc_text.specs.declared.reading.reader.Refusal.TheVariants.{Cause, Memory as NoMemory}
+use Rattle.asc_text.specs.declared.reading.reader.LineRefusal.{LineRefusal}
+use Rattle.asc_text.specs.declared.reading.reader.LineRefusal.TheVariants.{Cause, Memory as NoMemory}
 use Rattle.asc_text.specs.Statements.{statement_in, begins_with_dot}
 use Rattle.asc_text.specs.inside.TileSets.{has_tile}
 use Rattle.asc_text.specs.Rows.{is_row, is_memory_line, memory_bytes}
@@ -51,7 +51,7 @@ pub record ReaderState : Type 0 where
   pub rams : List Bool
   pub expected : Expected
 
-abbrev pub state_of : Reader → ReaderState
+abbrev pub state_of : TextReader → ReaderState
 state_of reader = record {
   layouts = reader.layouts;
   warm_boot = reader.warm_boot;
@@ -104,12 +104,12 @@ first_line text = line_at (lines_of text) 0
 -- ---- what is wrong
 
 -- a cause that is reported is this one
-abbrev pub Reports : Option AscCause → Refusal → Type 0
+abbrev pub Reports : Option AscCause → LineRefusal → Type 0
 Reports cause (Cause told) = cause ≡ Some told
 Reports cause (NoMemory e) = Unit {0}
 
 -- a refusal as the fault of a line and a tile
-abbrev pub located : Refusal → ℕ → Option TileXy → AscFault
+abbrev pub located : LineRefusal → ℕ → Option TileXy → AscFault
 located (Cause cause) line tile = At line tile cause
 located (NoMemory e) line tile = OutOfMemory e
 
@@ -195,7 +195,7 @@ IsBlank layouts None image = ⊥
 
 -- the tiles with one more
 abbrev pub HasInserted : ℕ → ℕ → List Bool → List Bool → Type 0
-HasInserted x y before after = (v w : ℕ) → v < 34 → w < 34 → has_tile after v w ≡ (has_tile before v w || ((v == x) && (w == y)))
+HasInserted x y before after = (v w : ℕ) → v < max_side → w < max_side → has_tile after v w ≡ (has_tile before v w || ((v == x) && (w == y)))
 
 -- the comment with one more line, if there is a comment
 abbrev pub with_line : Option (List (List ℕ)) → List ℕ → Option (List (List ℕ))

@@ -1,5 +1,6 @@
 -- How much room the text of a place of the grid needs at most.
 use Rattle.std.specs.Prelude.{ℕ, ◌+◌, ◌*◌}
+use Rattle.plane_map.specs.Layout.{max_side}
 
 -- a tile: a statement of at most 34 bytes, and sixteen rows of at most 65, with the ends of their lines
 abbrev pub tile_room : ℕ
@@ -13,6 +14,6 @@ ram_room = 32 + 16 * 65
 abbrev pub place_room : ℕ
 place_room = tile_room + ram_room
 
--- a row of the grid, of at most 34 places
+-- a row of the grid
 abbrev pub row_room : ℕ
-row_room = 34 * place_room
+row_room = max_side * place_room

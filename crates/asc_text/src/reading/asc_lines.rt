@@ -1,14 +1,14 @@
 // The lines of a text that comes in pieces.
 
 use crate::fault::AscFault;
-use crate::reading::reader::Reader;
+use crate::reading::reader::TextReader;
 use std::alloc::AllocError;
 use text_lines::LineTaker;
 
 /// What the lines so far have given, and the number of these lines.
 #[derive(Drop)]
 pub(crate) struct AscLines {
-    pub(crate) reader: Reader,
+    pub(crate) reader: TextReader,
     pub(crate) count: u64,
 }
 

@@ -6,7 +6,7 @@ ghost use Rattle.asc_text.specs.inside.Feeding.{CanTake};
 
 use crate::fault::AscFault;
 use crate::reading::asc_lines::AscLines;
-use crate::reading::reader::Reader;
+use crate::reading::reader::TextReader;
 use ice_image::AnyImage;
 use layout_file::Layouts;
 use std::alloc::Global;
@@ -42,7 +42,7 @@ impl AscReader {
         ensures fed { fed_to result ≡ 0 }
         ensures fresh { refusal_of result ≡ None }
     {
-        let reader = Reader::new(alloc, layouts);
+        let reader = TextReader::new(alloc, layouts);
         AscReader {
             fed: 0,
             lines: LineFeed::new(alloc, AscLines { reader, count: 0 }),

@@ -95,32 +95,32 @@ impl Expected {
 
 /// Why a line is refused.
 #[derive(Clone, Copy, Debug, PartialEq, Eq)]
-pub(crate) enum Refusal {
+pub(crate) enum LineRefusal {
     Cause(AscCause),
     Memory(AllocError),
 }
 
-impl From<AscCause> for Refusal {
-    ghost use Rattle.asc_text.specs.declared.reading.reader.Refusal.TheVariants.{Cause};
+impl From<AscCause> for LineRefusal {
+    ghost use Rattle.asc_text.specs.declared.reading.reader.LineRefusal.TheVariants.{Cause};
 
     ghost from_gives = { λ cause refusal. refusal ≡ Cause cause };
 
-    fn from(cause: AscCause) -> Refusal {
-        Refusal::Cause(cause)
+    fn from(cause: AscCause) -> LineRefusal {
+        LineRefusal::Cause(cause)
     }
 }
 
-impl From<AllocError> for Refusal {
-    ghost use Rattle.asc_text.specs.declared.reading.reader.Refusal.TheVariants.{Memory};
+impl From<AllocError> for LineRefusal {
+    ghost use Rattle.asc_text.specs.declared.reading.reader.LineRefusal.TheVariants.{Memory};
 
     ghost from_gives = { λ e refusal. refusal ≡ Memory e };
 
-    fn from(e: AllocError) -> Refusal {
-        Refusal::Memory(e)
+    fn from(e: AllocError) -> LineRefusal {
+        LineRefusal::Memory(e)
     }
 }
 
-impl Refusal {
+impl LineRefusal {
     ghost use Rattle.asc_text.specs.inside.Reading.{located};
 
     /// The fault at a line and a tile.
@@ -128,15 +128,15 @@ impl Refusal {
         ensures { result ≡ located self line tile }
     {
         match self {
-            Refusal::Cause(cause) => cause.at(line, tile),
-            Refusal::Memory(e) => AscFault::Memory(e),
+            LineRefusal::Cause(cause) => cause.at(line, tile),
+            LineRefusal::Memory(e) => AscFault::Memory(e),
         }
     }
 }
 
 /// What the lines so far have given, and what comes next.
 #[derive(Drop)]
-pub(crate) struct Reader {
+pub(crate) struct TextReader {
     alloc: Global,
     layouts: Layouts,
     warm_boot: Option<bool>,
@@ -150,16 +150,16 @@ pub(crate) struct Reader {
     expected: Expected,
 }
 
-impl Reader {
+impl TextReader {
     ghost use Rattle.asc_text.specs.Faults.{Tells, fault_with, tile_named};
     ghost use Rattle.asc_text.specs.inside.Reading.{state_of, begun, IsReady, Takes, TakesDotted, TakesFirst, first_line, dotted_refusal, line_refusal, statement_of, text_refusal, after_text, Reports, end_refusal, Finishes, settings_in};
     ghost use Rattle.asc_text.specs.Statements.{statement_in};
 
     /// A reader that has read nothing.
-    pub(crate) fn new(alloc: Global, layouts: Layouts) -> Reader
+    pub(crate) fn new(alloc: Global, layouts: Layouts) -> TextReader
         ensures { state_of result ≡ begun layouts }
     {
-        Reader {
+        TextReader {
             alloc,
             layouts,
             warm_boot: None,
@@ -215,7 +215,7 @@ impl Reader {
     }
 
     /// Takes the next line as what it has to be.
-    fn accept_as(&mut self, expected: Expected, line: &[u8]) -> Result<(), Refusal>
+    fn accept_as(&mut self, expected: Expected, line: &[u8]) -> Result<(), LineRefusal>
         requires { IsReady self.old.image expected }
         ensures taken { IfOk result (λ _. Takes (state_of self.old) expected line.now (state_of self.new)) }
         ensures accepted { OnOk result (line_refusal (state_of self.old) expected line.now ≡ None) }
@@ -237,7 +237,7 @@ impl Reader {
     }
 
     /// Takes a line that begins with a dot, by its statement: `None` if it is not a valid one.
-    fn accept_statement(&mut self, statement: Option<Statement>) -> Result<(), Refusal>
+    fn accept_statement(&mut self, statement: Option<Statement>) -> Result<(), LineRefusal>
         ensures taken { IfOk result (λ _. TakesDotted (state_of self.old) statement (state_of self.new)) }
         ensures accepted { OnOk result (dotted_refusal (state_of self.old) statement ≡ None) }
         ensures refused { IfErr result (Reports (dotted_refusal (state_of self.old) statement)) }
@@ -245,12 +245,12 @@ impl Reader {
         self.in_comment = false;
         match statement {
             Some(statement) => self.take(statement),
-            None => Err(Refusal::Cause(AscCause::Statement)),
+            None => Err(LineRefusal::Cause(AscCause::Statement)),
         }
     }
 
     /// Takes a line that is not a statement: a line of a comment, or an empty one.
-    fn accept_text(&mut self, line: &[u8]) -> Result<(), Refusal>
+    fn accept_text(&mut self, line: &[u8]) -> Result<(), LineRefusal>
         requires { begins_with_dot line.now ≡ false }
         ensures taken { IfOk result (λ _. state_of self.new ≡ after_text (state_of self.old) line.now) }
         ensures accepted { OnOk result (text_refusal self.old.in_comment line.now ≡ None) }
@@ -258,10 +258,10 @@ impl Reader {
     {
         if !self.in_comment {
             if !trimmed(line).is_empty() {
-                return Err(Refusal::Cause(AscCause::StrayData));
+                return Err(LineRefusal::Cause(AscCause::StrayData));
             }
         } else if !is_printable(line) {
-            return Err(Refusal::Cause(AscCause::CommentByte));
+            return Err(LineRefusal::Cause(AscCause::CommentByte));
         } else if !line.is_empty() {
             if let Some(comment) = &mut self.comment {
                 comment.push(line)?;
@@ -279,7 +279,7 @@ impl Reader {
             number (tile_named (statement_of self.expected [])))) }
     {
         let settings = self.settings();
-        let Reader {
+        let TextReader {
             alloc: _,
             layouts: _,
             warm_boot: _,

@@ -2,6 +2,7 @@
 ghost use Rattle.std.specs.Prelude.{◌≡◌, ◌+◌, ◌*◌, ◌≤◌, ◌<◌, ◌^◌, ◌++◌, length, vec_len, vec_capacity, IfOk, OnErr};
 ghost use Rattle.ice_io.specs.Faults.{Rose};
 ghost use Rattle.text_lines.specs.Written.{text_of};
+ghost use Rattle.plane_map.specs.Layout.{max_side};
 ghost use Rattle.ice_image.specs.Either.{configuration_of};
 ghost use Rattle.asc_text.specs.Canonical.{all_tile_lines};
 ghost use Rattle.asc_text.specs.inside.Room.{row_room};
@@ -12,10 +13,11 @@ use crate::writing::tiles::append_grid_row;
 use crate::writing::writer::append_head;
 use ice_image::AnyImage;
 use ice_io::{Content, PutFault, Sink, write_whole};
+use plane_map::MAX_SIDE;
 use std::alloc::{AllocError, Global};
 
-/// Room for the text of a row of the grid: 34 tiles and RAMs, each with sixteen lines of at most 65 bytes below its statement.
-const ROW_ROOM: usize = 34 * (66 + 32 * 65);
+/// Room for the text of a row of the grid: `MAX_SIDE` tiles and RAMs, each with sixteen lines of at most 65 bytes below its statement.
+const ROW_ROOM: usize = MAX_SIDE * (66 + 32 * 65);
 
 /// The canonical text of an image, made while it is written. Only the text of one row of the grid is in memory at a time, besides
 /// the lines before and after the tiles.
@@ -127,7 +129,7 @@ fn write_tiles<K: Sink>(
     requires room { row_room ≤ vec_capacity row.old }
     requires before { before < 2 ^ 63 }
     ensures sends { Sends (K.held sink.old) (K.held sink.new) before (text_of (all_tile_lines (configuration_of image.now))) result }
-    ensures few { IfOk result (λ end. end ≤ before + 34 * row_room) }
+    ensures few { IfOk result (λ end. end ≤ before + max_side * row_room) }
     ensures never_falls { K.faults sink.old ≤ K.faults sink.new }
     ensures failed { OnErr result (Rose (K.faults sink.old) (K.faults sink.new)) }
 {

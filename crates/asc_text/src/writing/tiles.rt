@@ -1,7 +1,7 @@
 // The lines of the tiles, and of the contents of the RAMs. The clauses `room`, `most` and `full` say that the text's capacity
 // doesn't fall, how many bytes are added at most, and that a call fails only if there is no room for that many.
 ghost use Rattle.std.specs.Prelude.{◌≡◌, ℕ, ◌+◌, ◌<◌, ◌≤◌, [], ◌∷◌, ◌++◌, get_or, length, vec_len, vec_capacity, Some, OnOk, OnErr};
-ghost use Rattle.place_search.specs.Places.{gathered_below};
+ghost use Rattle.index_search.specs.Places.{gathered_below};
 ghost use Rattle.text_lines.specs.Written.{text_of};
 ghost use Rattle.bit_plane.specs.Rows.{row_from};
 ghost use Rattle.hex.specs.Hex.{encode_lower};
@@ -18,7 +18,7 @@ use plane_map::{TileKind, kind_on, tile_width};
 use std::alloc::AllocError;
 
 /// Appends all tiles, row of the grid by row of the grid.
-#[tactic(auto, using(crate::proofs::Pieces::joined), unfolding(place_search::specs::Places::gathered_below))]
+#[tactic(auto, using(crate::proofs::Pieces::joined), unfolding(index_search::specs::Places::gathered_below))]
 pub(crate) fn append_tiles(text: &mut Vec<u8>, image: &AnyImage) -> Result<(), AllocError>
     ensures { OnOk result (text.new.items ≡ text.old.items ++ text_of (all_tile_lines (configuration_of image.now))) }
 {
@@ -29,7 +29,7 @@ pub(crate) fn append_tiles(text: &mut Vec<u8>, image: &AnyImage) -> Result<(), A
 }
 
 /// Appends the tiles of a row of the grid.
-#[tactic(auto, using(crate::proofs::Pieces::joined), unfolding(place_search::specs::Places::gathered_below))]
+#[tactic(auto, using(crate::proofs::Pieces::joined), unfolding(index_search::specs::Places::gathered_below))]
 pub(crate) fn append_grid_row(text: &mut Vec<u8>, image: &AnyImage, y: u8) -> Result<(), AllocError>
     ensures text { OnOk result (text.new.items ≡ text.old.items ++ text_of (gathered_below (grid_width (configuration_of image.now).layout.device) (λ x. lines_of_tile_at (configuration_of image.now) x y (kind_of (configuration_of image.now).layout.device x y)))) }
     ensures room { vec_capacity text.old ≤ vec_capacity text.new }
@@ -134,7 +134,7 @@ fn bit_character(bit: bool) -> u8
 }
 
 /// Appends the contents of the RAM whose lower tile is at a place.
-#[tactic(auto, using(crate::proofs::Pieces::joined), unfolding(place_search::specs::Places::gathered_below))]
+#[tactic(auto, using(crate::proofs::Pieces::joined), unfolding(index_search::specs::Places::gathered_below))]
 fn append_ram(text: &mut Vec<u8>, image: &AnyImage, x: u8, y: u8) -> Result<(), AllocError>
     requires { kind_of (device_of image.now) x y ≡ Some TileKind.RamB }
     ensures text { OnOk result (text.new.items ≡ text.old.items ++ text_of (ram_lines (configuration_of image.now) x y)) }

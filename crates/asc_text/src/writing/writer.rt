@@ -25,7 +25,7 @@ use std::alloc::{AllocError, Global};
 ///
 /// # Example
 /// ```ignore
-/// let image = AnyImage::zeroed(alloc, DeviceName::L384)?;
+/// let image = AnyImage::zeroed(alloc, DeviceName::Lp384)?;
 /// let text = write(alloc, &image)?;
 /// let lines = text.iter().filter(|byte| **byte == b'\n').count();
 /// ```
@@ -59,9 +59,9 @@ fn usual_len(device: DeviceName) -> usize
     ensures { result ≤ 2 ^ 20 }
 {
     match device {
-        DeviceName::L384 => 1 << 16,
-        DeviceName::K1 => 1 << 18,
-        DeviceName::K8 => 1 << 20,
+        DeviceName::Lp384 => 1 << 16,
+        DeviceName::Hx1k => 1 << 18,
+        DeviceName::Hx8k => 1 << 20,
     }
 }
 

@@ -1,6 +1,6 @@
 // Narrow words of a RAM: word 5 is 1234, into which A5 is put at the address 105 of mode 1.
 
-use rams_narrow::{get, narrow, put};
+use narrow_words::{get, narrow, put};
 
 #[test]
 fn a_narrow_word_is_put(rt: HostRuntime) {

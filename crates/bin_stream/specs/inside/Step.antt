@@ -1,6 +1,6 @@
 -- What a step of a decoder does.
 use Rattle.std.specs.Prelude.{◌≡◌, ℕ, ◌+◌, ◌<◌, Bool, true, false, List, [], ◌∷◌, ◌++◌, length, drop, Option, Some, None}
-use Rattle.place_search.specs.Places.{or_else}
+use Rattle.index_search.specs.Places.{or_else}
 use Rattle.bit_plane.specs.BitList.{bits_of}
 use Rattle.bit_plane.specs.Rows.{rows_of}
 use Rattle.plane_map.specs.declared.device.DeviceName.{DeviceName}

@@ -300,12 +300,12 @@ fn has_width(kind: PlaneKind, device: DeviceName, columns: usize) -> bool
 fn device_with(kind: PlaneKind, columns: usize) -> Option<DeviceName>
     ensures { result ≡ device_with kind columns }
 {
-    if has_width(kind, DeviceName::L384, columns) {
-        Some(DeviceName::L384)
-    } else if has_width(kind, DeviceName::K1, columns) {
-        Some(DeviceName::K1)
-    } else if has_width(kind, DeviceName::K8, columns) {
-        Some(DeviceName::K8)
+    if has_width(kind, DeviceName::Lp384, columns) {
+        Some(DeviceName::Lp384)
+    } else if has_width(kind, DeviceName::Hx1k, columns) {
+        Some(DeviceName::Hx1k)
+    } else if has_width(kind, DeviceName::Hx8k, columns) {
+        Some(DeviceName::Hx8k)
     } else {
         None
     }

@@ -29,7 +29,7 @@ const WARM_BOOT: u8 = 32;
 ///
 /// # Example
 /// ```ignore
-/// let mut image = AnyImage::zeroed(alloc, DeviceName::K1)?;
+/// let mut image = AnyImage::zeroed(alloc, DeviceName::Hx1k)?;
 /// image.set_comment(Some(Comment::new(alloc)));
 /// let bytes = encode(alloc, &image)?;
 /// ```
@@ -62,9 +62,9 @@ fn usual_size(device: DeviceName) -> usize
     ensures { result ≤ planes_size device + 1024 }
 {
     match device {
-        DeviceName::L384 => 8_000,
-        DeviceName::K1 => 33_000,
-        DeviceName::K8 => 136_000,
+        DeviceName::Lp384 => 8_000,
+        DeviceName::Hx1k => 33_000,
+        DeviceName::Hx8k => 136_000,
     }
 }
 

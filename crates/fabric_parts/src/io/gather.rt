@@ -2,14 +2,14 @@
 ghost use Rattle.std.specs.Prelude.{◌≡◌, ◌++◌, All, IfOk, IfErr, OnOk, None};
 ghost use Rattle.std.specs.List.{flat_map};
 ghost use Rattle.plane_map.specs.declared.tile.TileKind.TheVariants.{Io};
-ghost use Rattle.place_search.specs.Places.{gathered_below};
+ghost use Rattle.index_search.specs.Places.{gathered_below};
 ghost use Rattle.ice_image.specs.Either.{configuration_of};
 ghost use Rattle.chipdb_reader.specs.Kept.{database_in};
-ghost use Rattle.net_extract.specs.Pins.{pins_of, globals_of, port_at};
-ghost use Rattle.net_extract.specs.Faults.{pins_fault};
-ghost use Rattle.net_extract.specs.Links.{AreLinks};
-ghost use Rattle.net_extract.specs.TilesOfKind.{HasTile, tiles_of};
-ghost use Rattle.net_extract.specs.BelongTogether.{BelongTogether};
+ghost use Rattle.fabric_model.specs.Pins.{pins_of, globals_of, port_at};
+ghost use Rattle.fabric_model.specs.Faults.{pins_fault};
+ghost use Rattle.fabric_model.specs.Links.{AreLinks};
+ghost use Rattle.fabric_model.specs.TilesOfKind.{HasTile, tiles_of};
+ghost use Rattle.fabric_model.specs.BelongTogether.{BelongTogether};
 ghost use Rattle.fabric_parts.specs.PinFaults.{IsCause};
 
 use crate::io::fault::PinFault;
@@ -18,8 +18,8 @@ use crate::io::pin::{PinSet, is_net_read, pin};
 use crate::io::pintype::{is_port, pintype};
 use crate::io::refused::{first_pll, first_refused};
 use chipdb_reader::{ChipDb, TileXy8};
+use fabric_model::{Links, Pin, tiles_of_image};
 use ice_image::AnyImage;
-use net_extract::{Links, Pin, tiles_of_image};
 use plane_map::TileKind;
 use std::alloc::{AllocError, Global};
 

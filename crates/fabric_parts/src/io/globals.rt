@@ -4,15 +4,15 @@ ghost use Rattle.std.specs.List.{list_any};
 ghost use Rattle.ice_image.specs.Either.{configuration_of};
 ghost use Rattle.chipdb_reader.specs.Fit.{IsFit};
 ghost use Rattle.chipdb_reader.specs.Kept.{database_in};
-ghost use Rattle.net_extract.specs.On.{is_extra_on};
-ghost use Rattle.net_extract.specs.Pins.{global_pad, global_fabout, global_source, global_nets, globals_of, is_global_net, nets_from};
-ghost use Rattle.net_extract.specs.Nets.{ending_in};
-ghost use Rattle.net_extract.specs.Tiles.{item_if};
+ghost use Rattle.fabric_model.specs.On.{is_extra_on};
+ghost use Rattle.fabric_model.specs.Pins.{global_pad, global_fabout, global_source, global_nets, globals_of, is_global_net, nets_from};
+ghost use Rattle.fabric_model.specs.Nets.{ending_in};
+ghost use Rattle.fabric_model.specs.Tiles.{item_if};
 ghost use Rattle.fabric_parts.specs.Globals.{global_net, AreOneDevice};
 
 use chipdb_reader::{ChipDb, PinXy};
+use fabric_model::{GlobalFrom, GlobalNet, Name};
 use ice_image::AnyImage;
-use net_extract::{GlobalFrom, GlobalNet, Name};
 use std::alloc::{AllocError, Global};
 
 /// The nets of global networks 0 to 7, with what drives them.
@@ -132,7 +132,7 @@ fn global_fabout(db: &ChipDb, g: u8) -> Option<u32>
 }
 
 /// Whether the first extra bit of that name is set.
-#[tactic(auto, unfolding(net_extract::specs::On::is_extra_on))]
+#[tactic(auto, unfolding(fabric_model::specs::On::is_extra_on))]
 fn is_extra_on(db: &ChipDb, image: &AnyImage, name: &[u8]) -> bool
     requires { AreOneDevice db.now image.now }
     ensures { result ≡ is_extra_on (database_in db.now) (configuration_of image.now) name.now }

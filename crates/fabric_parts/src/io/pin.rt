@@ -2,14 +2,14 @@
 ghost use Rattle.std.specs.Prelude.{◌≡◌, ◌≤◌, ◌&&◌, ◌||◌, length};
 ghost use Rattle.chipdb_reader.specs.Kept.{database_in};
 ghost use Rattle.chipdb_reader.specs.Fit.{IsFit};
-ghost use Rattle.net_extract.specs.Pins.{io_net, pin_with, has_plain_output, has_registered_output, has_plain_input};
-ghost use Rattle.net_extract.specs.BelongTogether.{is_some_read_in};
+ghost use Rattle.fabric_model.specs.Pins.{io_net, pin_with, has_plain_output, has_registered_output, has_plain_input};
+ghost use Rattle.fabric_model.specs.BelongTogether.{is_some_read_in};
 
 use crate::io::pintype::{
     has_plain_input, has_plain_output, has_registered_output, is_output_pin, kind_of,
 };
 use chipdb_reader::ChipDb;
-use net_extract::{GlobalNet, Links, Name, Pin, is_some_read};
+use fabric_model::{GlobalNet, Links, Name, Pin, is_some_read};
 
 /// The pins that are ports, by tile and number, and the nets of global networks 0 to 7, by network and net. Tiles are ordered by row, then
 /// by column.
@@ -45,7 +45,7 @@ fn can_be_read(pintype: u8) -> bool
 }
 
 /// Pin `n` of the tile at (x, y), which has that type.
-#[tactic(auto, unfolding(net_extract::specs::Pins::pin_with))]
+#[tactic(auto, unfolding(fabric_model::specs::Pins::pin_with))]
 pub(crate) fn pin(db: &ChipDb, x: u8, y: u8, n: u8, pintype: u8) -> Pin
     ensures { result ≡ pin_with (database_in db.now) x y n pintype }
 {

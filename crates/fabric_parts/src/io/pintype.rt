@@ -3,12 +3,12 @@ ghost use Rattle.std.specs.Prelude.{◌≡◌, ◌<◌};
 ghost use Rattle.plane_map.specs.declared.tile.TileKind.TheVariants.{Io};
 ghost use Rattle.ice_image.specs.Either.{configuration_of};
 ghost use Rattle.chipdb_reader.specs.Kept.{database_in};
-ghost use Rattle.net_extract.specs.Pins.{pintype_of, pintype_bit, has_no_output, has_plain_output, has_registered_output, has_tri_state_output, has_plain_input, has_registered_input, is_plain_input, is_registered_input, is_output_pin, is_port, kind_of};
-ghost use Rattle.net_extract.specs.TilesOfKind.{HasTile};
+ghost use Rattle.fabric_model.specs.Pins.{pintype_of, pintype_bit, has_no_output, has_plain_output, has_registered_output, has_tri_state_output, has_plain_input, has_registered_input, is_plain_input, is_registered_input, is_output_pin, is_port, kind_of};
+ghost use Rattle.fabric_model.specs.TilesOfKind.{HasTile};
 
 use chipdb_reader::ChipDb;
+use fabric_model::{Name, PinKind, is_on};
 use ice_image::AnyImage;
-use net_extract::{Name, PinKind, is_on};
 use plane_map::TileKind;
 
 /// The type of pin `n` of the io tile at (x, y), the PIN_TYPE of `SB_IO`: a number of six bits.

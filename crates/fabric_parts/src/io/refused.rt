@@ -4,12 +4,12 @@ ghost use Rattle.std.specs.List.{flat_map};
 ghost use Rattle.plane_map.specs.declared.tile.TileKind.TheVariants.{Io};
 ghost use Rattle.ice_image.specs.Either.{configuration_of};
 ghost use Rattle.chipdb_reader.specs.Kept.{database_in};
-ghost use Rattle.net_extract.specs.Pins.{has_no_output, has_tri_state_output, has_plain_input, is_plain_input, is_registered_input, is_output_pin, is_port, io_net, is_global_pad, is_pin_at, is_refused_with};
-ghost use Rattle.net_extract.specs.On.{is_function_on};
+ghost use Rattle.fabric_model.specs.Pins.{has_no_output, has_tri_state_output, has_plain_input, is_plain_input, is_registered_input, is_output_pin, is_port, io_net, is_global_pad, is_pin_at, is_refused_with};
+ghost use Rattle.fabric_model.specs.On.{is_function_on};
 ghost use Rattle.chipdb_reader.specs.Fit.{IsFit};
-ghost use Rattle.net_extract.specs.Tiles.{first_of};
-ghost use Rattle.net_extract.specs.TilesOfKind.{HasTile};
-ghost use Rattle.net_extract.specs.BelongTogether.{BelongTogether, is_some_read_in};
+ghost use Rattle.fabric_model.specs.Tiles.{first_of};
+ghost use Rattle.fabric_model.specs.TilesOfKind.{HasTile};
+ghost use Rattle.fabric_model.specs.BelongTogether.{BelongTogether, is_some_read_in};
 ghost use Rattle.fabric_parts.specs.Globals.{AreOneDevice};
 ghost use Rattle.fabric_parts.specs.PinFaults.{pll_at, pin_faults_in, pll_fault, pin_fault};
 
@@ -20,8 +20,8 @@ use crate::io::pintype::{
     is_registered_input, pintype,
 };
 use chipdb_reader::{ChipDb, PinXy, TileXy8};
+use fabric_model::{Links, is_any_on, is_on};
 use ice_image::AnyImage;
-use net_extract::{Links, is_any_on, is_on};
 use plane_map::TileKind;
 
 /// Pin `n` of the tile at (x, y), and its type.

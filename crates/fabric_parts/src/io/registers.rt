@@ -3,15 +3,17 @@ ghost use Rattle.std.specs.Prelude.{◌≡◌, ◌++◌, filter, codes, not, All
 ghost use Rattle.plane_map.specs.declared.tile.TileKind.TheVariants.{Io};
 ghost use Rattle.ice_image.specs.Either.{configuration_of};
 ghost use Rattle.chipdb_reader.specs.Kept.{database_in};
-ghost use Rattle.net_extract.specs.Tiles.{item_if};
-ghost use Rattle.net_extract.specs.TilesOfKind.{HasTile};
-ghost use Rattle.net_extract.specs.Pins.{is_registered};
-ghost use Rattle.net_extract.specs.Registers.{io_shared_net, pin_register, pin_registers_of, pin_source};
-ghost use Rattle.net_extract.specs.declared.driver.ClockUser.TheVariants.{Input, Output};
+ghost use Rattle.fabric_model.specs.Tiles.{item_if};
+ghost use Rattle.fabric_model.specs.TilesOfKind.{HasTile};
+ghost use Rattle.fabric_model.specs.Pins.{is_registered};
+ghost use Rattle.fabric_model.specs.Registers.{io_shared_net, pin_register, pin_registers_of, pin_source};
+ghost use Rattle.fabric_model.specs.declared.driver.ClockUser.TheVariants.{Input, Output};
 
 use chipdb_reader::ChipDb;
+use fabric_model::{
+    ClockUser, LutSource, LutTable, Pin, Register, inputs, is_on, place_among, place_of,
+};
 use ice_image::AnyImage;
-use net_extract::{ClockUser, Pin, Register, Source, Table, inputs, is_on, place_among, place_of};
 use plane_map::TileKind;
 use std::alloc::{AllocError, Global};
 
@@ -72,7 +74,7 @@ fn append_register(
 }
 
 /// The register of a pin. `inputs` are the input pins.
-#[tactic(auto, unfolding(net_extract::specs::Registers::pin_register))]
+#[tactic(auto, unfolding(fabric_model::specs::Registers::pin_register))]
 fn pin_register(
     db: &ChipDb,
     image: &AnyImage,
@@ -93,14 +95,14 @@ fn pin_register(
         cen: db.net_of(pin.x, pin.y, b"io_global/cen"),
         sr: None,
         set: false,
-        at_once: false,
-        table: Table {
+        is_async: false,
+        table: LutTable {
             word: SAME,
             ins: [
                 source,
-                Source::Net(None),
-                Source::Net(None),
-                Source::Net(None),
+                LutSource::Net(None),
+                LutSource::Net(None),
+                LutSource::Net(None),
             ],
         },
     })
@@ -129,12 +131,12 @@ fn clock(db: &ChipDb, pin: Pin) -> Option<u32>
 }
 
 /// What the register of a pin takes: `io_n/D_OUT_0` for an output pin, and the pin's value for an input pin.
-fn source(inputs: &[Pin], pin: Pin) -> Result<Source, AllocError>
+fn source(inputs: &[Pin], pin: Pin) -> Result<LutSource, AllocError>
     ensures { IfOk result (λ source. source ≡ pin_source inputs.now pin) }
 {
     if pin.output {
-        return Ok(Source::Net(pin.dout));
+        return Ok(LutSource::Net(pin.dout));
     }
     let place = place_of(place_among(inputs, pin.x, pin.y, pin.n))?;
-    Ok(Source::Pin(place))
+    Ok(LutSource::Pin(place))
 }

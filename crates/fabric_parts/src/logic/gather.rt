@@ -4,13 +4,13 @@ ghost use Rattle.std.specs.List.{flat_map};
 ghost use Rattle.plane_map.specs.declared.tile.TileKind.TheVariants.{Logic};
 ghost use Rattle.ice_image.specs.Either.{configuration_of};
 ghost use Rattle.chipdb_reader.specs.Kept.{database_in};
-ghost use Rattle.net_extract.specs.Cells.{cells_of, cells_at, sets_of, sets_at, used_cell};
-ghost use Rattle.net_extract.specs.TilesOfKind.{HasTile};
+ghost use Rattle.fabric_model.specs.Cells.{cells_of, cells_at, sets_of, sets_at, used_cell};
+ghost use Rattle.fabric_model.specs.TilesOfKind.{HasTile};
 
 use crate::logic::cell::{Cells, cell};
 use chipdb_reader::{ChipDb, TileXy8};
+use fabric_model::{CarrySet, LogicCell, cell_places, is_on, is_one_set, tiles_of_image};
 use ice_image::AnyImage;
-use net_extract::{CarrySet, Lc, cell_places, is_on, is_one_set, tiles_of_image};
 use plane_map::TileKind;
 use std::alloc::{AllocError, Global};
 
@@ -34,7 +34,7 @@ fn used_cells(
     db: &ChipDb,
     image: &AnyImage,
     tiles: &[TileXy8],
-) -> Result<Vec<Lc>, AllocError>
+) -> Result<Vec<LogicCell>, AllocError>
     requires { All (λ tile. HasTile image.now Logic tile.x tile.y) tiles.now }
     ensures { IfOk result (λ lcs. lcs.items ≡ flat_map (λ tile. cells_at (database_in db.now) (configuration_of image.now) tile.x tile.y) tiles.now) }
 {
@@ -47,7 +47,7 @@ fn used_cells(
 
 /// Appends the used cells of a tile.
 fn append_cells(
-    lcs: &mut Vec<Lc>,
+    lcs: &mut Vec<LogicCell>,
     db: &ChipDb,
     image: &AnyImage,
     x: u8,
@@ -63,9 +63,9 @@ fn append_cells(
 }
 
 /// Appends a cell if it is used.
-#[tactic(auto, unfolding(net_extract::specs::Cells::cell_bits))]
+#[tactic(auto, unfolding(fabric_model::specs::Cells::cell_bits))]
 fn append_cell(
-    lcs: &mut Vec<Lc>,
+    lcs: &mut Vec<LogicCell>,
     db: &ChipDb,
     image: &AnyImage,
     x: u8,

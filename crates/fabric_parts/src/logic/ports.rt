@@ -1,12 +1,12 @@
 // The nets of a cell's ports.
 ghost use Rattle.std.specs.Prelude.{◌≡◌, ◌≤◌, codes, length};
 ghost use Rattle.chipdb_reader.specs.Kept.{database_in};
-ghost use Rattle.net_extract.specs.Cells.{lutff_net, carry_in_net};
-ghost use Rattle.net_extract.specs.Nets.{ending_in};
-ghost use Rattle.net_extract.specs.Tiles.{each_below};
+ghost use Rattle.fabric_model.specs.Cells.{lutff_net, carry_in_net};
+ghost use Rattle.fabric_model.specs.Nets.{ending_in};
+ghost use Rattle.fabric_model.specs.Tiles.{each_below};
 
 use chipdb_reader::ChipDb;
-use net_extract::Name;
+use fabric_model::Name;
 
 /// The net of a port of cell `i`. The port is the part of the name after the cell, such as `/out`.
 pub(crate) fn lutff_net(db: &ChipDb, x: u8, y: u8, i: u8, port: &[u8]) -> Option<u32>
@@ -24,7 +24,7 @@ fn input_net(db: &ChipDb, x: u8, y: u8, i: u8, k: u8) -> Option<u32>
 }
 
 /// The nets of the four inputs of cell `i`.
-#[tactic(auto, unfolding(place_search::specs::Places::gathered_below))]
+#[tactic(auto, unfolding(index_search::specs::Places::gathered_below))]
 pub(crate) fn input_nets(db: &ChipDb, x: u8, y: u8, i: u8) -> [Option<u32>; 4]
     ensures { result ≡ each_below 4 (λ k. lutff_net (database_in db.now) x y i (ending_in (codes "/in_") k)) }
 {

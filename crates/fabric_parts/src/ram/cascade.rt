@@ -3,14 +3,14 @@ ghost use Rattle.std.specs.Prelude.{◌≡◌, All};
 ghost use Rattle.std.specs.List.{flat_map};
 ghost use Rattle.ice_image.specs.Either.{configuration_of};
 ghost use Rattle.chipdb_reader.specs.Kept.{database_in};
-ghost use Rattle.net_extract.specs.Rams.{is_cascaded};
-ghost use Rattle.net_extract.specs.Tiles.{first_of};
+ghost use Rattle.fabric_model.specs.Rams.{is_cascaded};
+ghost use Rattle.fabric_model.specs.Tiles.{first_of};
 ghost use Rattle.fabric_parts.specs.Rams.{HasRam};
 ghost use Rattle.fabric_parts.specs.RamFaults.{cascade_at, cascade_fault};
 
 use chipdb_reader::{ChipDb, TileXy8};
+use fabric_model::is_any_on;
 use ice_image::AnyImage;
-use net_extract::is_any_on;
 use plane_map::TileKind;
 
 /// The first cascaded RAM.

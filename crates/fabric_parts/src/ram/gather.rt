@@ -4,10 +4,10 @@ ghost use Rattle.std.specs.List.{flat_map};
 ghost use Rattle.plane_map.specs.declared.tile.TileKind.TheVariants.{RamB};
 ghost use Rattle.ice_image.specs.Either.{configuration_of};
 ghost use Rattle.chipdb_reader.specs.Kept.{database_in};
-ghost use Rattle.net_extract.specs.Rams.{is_ram_used, ram_at, rams_of};
-ghost use Rattle.net_extract.specs.Faults.{rams_fault};
-ghost use Rattle.net_extract.specs.Links.{AreLinks};
-ghost use Rattle.net_extract.specs.TilesOfKind.{tiles_of};
+ghost use Rattle.fabric_model.specs.Rams.{is_ram_used, ram_at, rams_of};
+ghost use Rattle.fabric_model.specs.Faults.{rams_fault};
+ghost use Rattle.fabric_model.specs.Links.{AreLinks};
+ghost use Rattle.fabric_model.specs.TilesOfKind.{tiles_of};
 ghost use Rattle.fabric_parts.specs.Rams.{HasRam};
 ghost use Rattle.fabric_parts.specs.RamFaults.{IsCause};
 
@@ -16,8 +16,8 @@ use crate::ram::fault::RamFault;
 use crate::ram::ram::ram;
 use crate::ram::used::used_rams;
 use chipdb_reader::{ChipDb, TileXy8};
+use fabric_model::{Links, RamCell, tiles_of_image};
 use ice_image::AnyImage;
-use net_extract::{Links, RamCell, tiles_of_image};
 use plane_map::TileKind;
 use std::alloc::{AllocError, Global};
 

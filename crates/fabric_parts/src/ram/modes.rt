@@ -2,15 +2,15 @@
 ghost use Rattle.std.specs.Prelude.{◌≡◌, ◌+◌, codes};
 ghost use Rattle.ice_image.specs.Either.{configuration_of};
 ghost use Rattle.chipdb_reader.specs.Kept.{database_in};
-ghost use Rattle.net_extract.specs.Rams.{mode_of, read_mode, write_mode};
+ghost use Rattle.fabric_model.specs.Rams.{mode_of, read_mode, write_mode};
 ghost use Rattle.plane_map.specs.declared.tile.TileKind.TheVariants.{RamT};
-ghost use Rattle.net_extract.specs.Nets.{ending_in};
-ghost use Rattle.net_extract.specs.On.{is_function_on};
+ghost use Rattle.fabric_model.specs.Nets.{ending_in};
+ghost use Rattle.fabric_model.specs.On.{is_function_on};
 ghost use Rattle.fabric_parts.specs.Rams.{HasRam};
 
 use chipdb_reader::ChipDb;
+use fabric_model::{Name, is_on};
 use ice_image::AnyImage;
-use net_extract::{Name, is_on};
 use plane_map::TileKind;
 
 /// The mode in which the words of a RAM are read.

@@ -1,12 +1,12 @@
 // The nets of a RAM's ports. A port's name is looked up at the lower tile, then at the upper one.
 ghost use Rattle.std.specs.Prelude.{◌≡◌, ◌<◌, ◌≤◌, length};
 ghost use Rattle.chipdb_reader.specs.Kept.{database_in};
-ghost use Rattle.net_extract.specs.Nets.{ending_in};
-ghost use Rattle.net_extract.specs.Rams.{port_net};
-ghost use Rattle.net_extract.specs.Tiles.{each_below};
+ghost use Rattle.fabric_model.specs.Nets.{ending_in};
+ghost use Rattle.fabric_model.specs.Rams.{port_net};
+ghost use Rattle.fabric_model.specs.Tiles.{each_below};
 
 use chipdb_reader::ChipDb;
-use net_extract::Name;
+use fabric_model::Name;
 
 /// The net of a port of the RAM at (x, y), or `None` if neither tile has such a net.
 pub(crate) fn port_net(db: &ChipDb, x: u8, y: u8, name: &[u8]) -> Option<u32>

@@ -2,18 +2,18 @@
 ghost use Rattle.std.specs.Prelude.{◌≡◌, ◌<◌};
 ghost use Rattle.ice_image.specs.Either.{configuration_of};
 ghost use Rattle.chipdb_reader.specs.Kept.{database_in};
-ghost use Rattle.net_extract.specs.Rams.{is_port_inverted, ram_at};
+ghost use Rattle.fabric_model.specs.Rams.{is_port_inverted, ram_at};
 ghost use Rattle.fabric_parts.specs.Rams.{HasRam};
 
 use crate::ram::modes::{read_mode, write_mode};
 use crate::ram::ports::{numbered_nets, port_net};
 use chipdb_reader::ChipDb;
+use fabric_model::{RamCell, is_on};
 use ice_image::AnyImage;
-use net_extract::{RamCell, is_on};
 use plane_map::TileKind;
 
 /// The RAM at (x, y).
-#[tactic(auto, unfolding(net_extract::specs::Rams::ram_at))]
+#[tactic(auto, unfolding(fabric_model::specs::Rams::ram_at))]
 pub(crate) fn ram(db: &ChipDb, image: &AnyImage, x: u8, y: u8) -> RamCell
     requires { HasRam image.now x y }
     ensures { result ≡ ram_at (database_in db.now) (configuration_of image.now) x y }

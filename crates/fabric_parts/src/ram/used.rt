@@ -2,13 +2,13 @@
 ghost use Rattle.std.specs.Prelude.{◌≡◌, ◌<◌, All, IfOk, filter};
 ghost use Rattle.ice_image.specs.Either.{configuration_of};
 ghost use Rattle.chipdb_reader.specs.Kept.{database_in};
-ghost use Rattle.net_extract.specs.Rams.{is_ram_used};
-ghost use Rattle.net_extract.specs.BelongTogether.{BelongTogether};
+ghost use Rattle.fabric_model.specs.Rams.{is_ram_used};
+ghost use Rattle.fabric_model.specs.BelongTogether.{BelongTogether};
 
 use crate::ram::ports::numbered_net;
 use chipdb_reader::{ChipDb, TileXy8};
+use fabric_model::{Links, is_some_read};
 use ice_image::AnyImage;
-use net_extract::{Links, is_some_read};
 use std::alloc::{AllocError, Global};
 
 /// The lower tiles, among these, whose RAMs are used.

@@ -1,7 +1,7 @@
 // What is counted of an image.
 
 use ice_image::AnyImage;
-use ice_stat::stat;
+use image_stat::stat;
 use sample_images::{CELL, INVERTER, database, image_with, set_bits};
 use std::alloc::{AllocError, Global};
 

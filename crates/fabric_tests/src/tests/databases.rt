@@ -45,7 +45,7 @@ fn read_short(alloc: Global, text: &[u8]) -> Result<ChipDb, DbFault> {
 
 /// Whether the nets of the first database are found.
 fn has_nets(db: &ChipDb) -> bool {
-    db.device() == DeviceName::K1
+    db.device() == DeviceName::Hx1k
         && db.net_count() == 6
         && db.net_of(1, 1, b"lutff_0/out") == Some(2)
         && db.net_of(1, 2, b"lutff_0/out").is_none()

@@ -1,7 +1,7 @@
 // Designs of a clocked inverter, and of one that is fed back.
 
 use super::{Case, Gives, is_so};
-use net_extract::{ClockUser, LutInputs, Register, Source, Table};
+use fabric_model::{ClockUser, LutInputs, LutSource, LutTable, Register};
 use sample_images::{INVERTER, SampleBit};
 use std::alloc::Global;
 
@@ -100,14 +100,14 @@ const REGISTER: Register = Register {
     cen: None,
     sr: Some(5),
     set: true,
-    at_once: true,
-    table: Table {
+    is_async: true,
+    table: LutTable {
         word: 0x5555,
         ins: [
-            Source::Net(Some(1)),
-            Source::Net(None),
-            Source::Net(None),
-            Source::Net(None),
+            LutSource::Net(Some(1)),
+            LutSource::Net(None),
+            LutSource::Net(None),
+            LutSource::Net(None),
         ],
     },
 };

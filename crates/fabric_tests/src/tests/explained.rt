@@ -1,9 +1,9 @@
 // An image explained, and one tile of it.
 
 use ice_image::AnyImage;
+use image_explain::{TileXy, explain};
 use sample_images::{CELL, INVERTER, database, image_with, set_bits};
 use std::alloc::{AllocError, Global};
-use tile_bits::{TileXy, explain};
 
 /// The explanation of an inverter between two pins, and that of its cell's tile.
 const INVERTED: &[u8] = b".device 1k

@@ -1,8 +1,8 @@
 // Pins and global networks.
 
 use super::{Case, Gives, is_so};
+use fabric_model::{GlobalFrom, GlobalNet, Pin, PinKind};
 use fabric_wiring::{Output, Rule};
-use net_extract::{GlobalFrom, GlobalNet, Pin, PinKind};
 use sample_images::SampleBit;
 use std::alloc::Global;
 

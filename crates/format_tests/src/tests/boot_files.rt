@@ -30,8 +30,8 @@ fn joined(alloc: Global, first: Vec<u8>, second: Vec<u8>) -> Result<Vec<u8>, Mul
 
 /// The boot file of a blank image of either device.
 fn two_blank(alloc: Global) -> Result<Vec<u8>, MultiFault> {
-    let first = blank(alloc, DeviceName::K1)?;
-    let second = blank(alloc, DeviceName::K8)?;
+    let first = blank(alloc, DeviceName::Hx1k)?;
+    let second = blank(alloc, DeviceName::Hx8k)?;
     joined(alloc, first, second)
 }
 
@@ -46,8 +46,8 @@ fn place(images: &[BootImage], index: usize) -> Option<(u32, DeviceName)> {
 /// Whether a boot file has a blank image of either device, and what its headers say of them.
 fn has_both(file: &BootFile) -> bool {
     let images = file.images.as_slice();
-    let placed = place(images, 0) == Some((160, DeviceName::K1))
-        && place(images, 1) == Some((32_512, DeviceName::K8));
+    let placed = place(images, 0) == Some((160, DeviceName::Hx1k))
+        && place(images, 1) == Some((32_512, DeviceName::Hx8k));
     placed && images.len() == 2 && !file.cold && file.power == 0 && file.entries == [0, 1, 0, 0]
 }
 

@@ -36,7 +36,7 @@ fn has_piece(
 #[test]
 fn a_text_has_its_piece_at_its_place(rt: HostRuntime) {
     let piece = b".net 16\n2 1 lutff_6/out\n3 1 lutff_0/in_1\n8 1 ram/WDATA_14\n";
-    assert!(rt; has_piece(rt.alloc(), DeviceName::K8, 1_016_817, 41_975, piece) == Ok(true));
+    assert!(rt; has_piece(rt.alloc(), DeviceName::Hx8k, 1_016_817, 41_975, piece) == Ok(true));
 }
 
 /// The image that a device and a seed fix, or a blank one if the device has no databases.
@@ -65,7 +65,7 @@ fn row_and_word(alloc: Global, device: DeviceName, seed: u64) -> Result<(u64, u1
 
 #[test]
 fn rows_and_words_are_draws(rt: HostRuntime) {
-    assert!(rt; row_and_word(rt.alloc(), DeviceName::K1, 7) == Ok((0x216000000003, 0xDAB6)));
+    assert!(rt; row_and_word(rt.alloc(), DeviceName::Hx1k, 7) == Ok((0x216000000003, 0xDAB6)));
 }
 
 /// Whether the first events of a seed are these.

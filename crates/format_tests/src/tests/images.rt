@@ -61,10 +61,10 @@ fn exchanged(device: DeviceName) -> Layout {
 
 #[test]
 fn bits_of_tiles_lie_where_the_layout_puts_them(rt: HostRuntime) {
-    let standard = Layout::standard(DeviceName::L384);
+    let standard = Layout::standard(DeviceName::Lp384);
     let last = bit(6, 8, 0, 0);
     assert!(rt; lies_at(rt.alloc(), standard, last, at(3, 71, 31)) == Ok(true));
-    let layout = exchanged(DeviceName::K8);
+    let layout = exchanged(DeviceName::Hx8k);
     let corner = bit(32, 1, 15, 53);
     assert!(rt; lies_at(rt.alloc(), layout, corner, at(0, 71, 31)) == Ok(true));
 }
@@ -96,7 +96,7 @@ fn keeps_a_tile(alloc: Global, device: DeviceName, x: u8, y: u8) -> Result<bool,
 
 #[test]
 fn a_tile_is_read_and_written_whole(rt: HostRuntime) {
-    assert!(rt; keeps_a_tile(rt.alloc(), DeviceName::K1, 12, 1) == Ok(true));
+    assert!(rt; keeps_a_tile(rt.alloc(), DeviceName::Hx1k, 12, 1) == Ok(true));
 }
 
 /// Whether the first bit of a row, and then all of its bits, are set by the ones of words, and the first one at that place.
@@ -125,7 +125,7 @@ fn has_row(
 #[test]
 fn rows_of_tiles_gain_the_ones_of_words(rt: HostRuntime) {
     let first = at(0, 17, 16);
-    assert!(rt; has_row(rt.alloc(), DeviceName::K1, 0, 1, first, 0x3_ffff) == Ok(true));
+    assert!(rt; has_row(rt.alloc(), DeviceName::Hx1k, 0, 1, first, 0x3_ffff) == Ok(true));
 }
 
 // ---- words and planes
@@ -148,7 +148,7 @@ fn keeps_a_word(alloc: Global, device: DeviceName, x: u8, y: u8) -> Result<bool,
 
 #[test]
 fn a_word_is_read_and_written(rt: HostRuntime) {
-    assert!(rt; keeps_a_word(rt.alloc(), DeviceName::K8, 8, 17) == Ok(true));
+    assert!(rt; keeps_a_word(rt.alloc(), DeviceName::Hx8k, 8, 17) == Ok(true));
 }
 
 /// Whether a bit of a configuration plane is the one at its place.
@@ -234,5 +234,5 @@ fn keeps_what_was_set(alloc: Global, device: DeviceName) -> Result<bool, AllocEr
 
 #[test]
 fn settings_and_comments_are_kept(rt: HostRuntime) {
-    assert!(rt; keeps_what_was_set(rt.alloc(), DeviceName::K1) == Ok(true));
+    assert!(rt; keeps_what_was_set(rt.alloc(), DeviceName::Hx1k) == Ok(true));
 }

@@ -33,5 +33,5 @@ fn place_under(text: &str, device: DeviceName, x: u8, y: u8) -> Option<Place> {
 #[test]
 fn lays_bits_out_as_the_text_says(rt: HostRuntime) {
     let widths = ".layout 1k\nwidths 20 54 54 42 54 54 54";
-    assert!(rt; place_under(widths, DeviceName::K1, 12, 16) == Some(at(3, 73, 31)));
+    assert!(rt; place_under(widths, DeviceName::Hx1k, 12, 16) == Some(at(3, 73, 31)));
 }

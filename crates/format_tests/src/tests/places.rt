@@ -25,9 +25,9 @@ fn place_of(layout: &Layout, bit: TileBit) -> Option<Place> {
 
 #[test]
 fn places_bits_of_tiles(rt: HostRuntime) {
-    let k1 = Layout::standard(DeviceName::K1);
-    assert!(rt; place_of(&k1, bit(1, 17, 2, 4)) == Some(at(1, 34, 12)));
-    assert!(rt; place_of(&k1, bit(3, 1, 0, 42)).is_none());
+    let hx1k = Layout::standard(DeviceName::Hx1k);
+    assert!(rt; place_of(&hx1k, bit(1, 17, 2, 4)) == Some(at(1, 34, 12)));
+    assert!(rt; place_of(&hx1k, bit(3, 1, 0, 42)).is_none());
 }
 
 /// Where a bit of a word of the RAM at (x, y) lies, if there is one.
@@ -41,8 +41,8 @@ fn place_of_word(layout: &Layout, x: u8, y: u8, word: u8, bit: u8) -> Option<Pla
 
 #[test]
 fn places_bits_of_words(rt: HostRuntime) {
-    let k8 = Layout::standard(DeviceName::K8);
-    assert!(rt; place_of_word(&k8, 8, 17, 7, 3) == Some(at(1, 124, 7)));
+    let hx8k = Layout::standard(DeviceName::Hx8k);
+    assert!(rt; place_of_word(&hx8k, 8, 17, 7, 3) == Some(at(1, 124, 7)));
 }
 
 /// Whether a place is in the planes and belongs to `owner`.
@@ -55,9 +55,9 @@ fn has_owner(layout: &Layout, at: Place, owner: Option<TileBit>) -> bool {
 
 #[test]
 fn finds_the_owners_of_places(rt: HostRuntime) {
-    let k1 = Layout::standard(DeviceName::K1);
-    assert!(rt; has_owner(&k1, at(1, 23, 12), Some(bit(1, 17, 2, 17))));
-    assert!(rt; has_owner(&k1, at(0, 330, 143), None));
+    let hx1k = Layout::standard(DeviceName::Hx1k);
+    assert!(rt; has_owner(&hx1k, at(1, 23, 12), Some(bit(1, 17, 2, 17))));
+    assert!(rt; has_owner(&hx1k, at(0, 330, 143), None));
 }
 
 /// The run in which a row of the tile at (x, y) lies, and how many bits it has, if there is a tile.
@@ -80,8 +80,8 @@ fn run(bank: u8, px: u16, py: u16, backwards: bool) -> Run {
 
 #[test]
 fn finds_the_runs_of_rows(rt: HostRuntime) {
-    let k1 = Layout::standard(DeviceName::K1);
-    assert!(rt; run_of_row(&k1, 12, 16, 0) == Some((run(3, 18, 31, true), 54)));
+    let hx1k = Layout::standard(DeviceName::Hx1k);
+    assert!(rt; run_of_row(&hx1k, 12, 16, 0) == Some((run(3, 18, 31, true), 54)));
 }
 
 /// The bit of its run that a column of the tile at (x, y) is, if it is an io tile.
@@ -92,8 +92,8 @@ fn io_column(layout: &Layout, x: u8, y: u8, col: usize) -> Option<u8> {
 
 #[test]
 fn finds_the_columns_of_io_tiles(rt: HostRuntime) {
-    let k1 = Layout::standard(DeviceName::K1);
-    assert!(rt; io_column(&k1, 1, 17, 17) == Some(5));
+    let hx1k = Layout::standard(DeviceName::Hx1k);
+    assert!(rt; io_column(&hx1k, 1, 17, 17) == Some(5));
 }
 
 /// The run of a word of the RAM at (x, y), if there is one.
@@ -107,12 +107,12 @@ fn run_of_word(layout: &Layout, x: u8, y: u8, word: u8) -> Option<Run> {
 
 #[test]
 fn finds_the_runs_of_words(rt: HostRuntime) {
-    let k8 = Layout::standard(DeviceName::K8);
-    assert!(rt; run_of_word(&k8, 8, 17, 7) == Some(run(1, 112, 7, true)));
+    let hx8k = Layout::standard(DeviceName::Hx8k);
+    assert!(rt; run_of_word(&hx8k, 8, 17, 7) == Some(run(1, 112, 7, true)));
 }
 
 #[test]
 fn finds_the_rows_of_tiles_in_rows_of_bits(rt: HostRuntime) {
-    let k1 = Layout::standard(DeviceName::K1);
-    assert!(rt; k1.tile_row_at(1, 12) == TileRow { y: 17, row: 2 });
+    let hx1k = Layout::standard(DeviceName::Hx1k);
+    assert!(rt; hx1k.tile_row_at(1, 12) == TileRow { y: 17, row: 2 });
 }

@@ -10,7 +10,7 @@ use std::test::Fail;
 
 /// The bitstream of a blank image of the HX1K, with a comment without lines.
 fn blank_stream(alloc: Global) -> Result<Vec<u8>, AllocError> {
-    let mut image = AnyImage::zeroed(alloc, DeviceName::K1)?;
+    let mut image = AnyImage::zeroed(alloc, DeviceName::Hx1k)?;
     image.set_comment(Some(Comment::new(alloc)));
     encode(alloc, &image)
 }

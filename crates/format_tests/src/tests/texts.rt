@@ -58,7 +58,7 @@ fn is_read(alloc: Global) -> bool {
     };
     match read(alloc, TEXT.as_bytes()) {
         Ok(file) => {
-            file.image.device() == DeviceName::K1
+            file.image.device() == DeviceName::Hx1k
                 && file.image.settings() == settings
                 && has_bit(&file.image)
                 && has_comment(&file.image)
@@ -82,7 +82,7 @@ fn line_count(alloc: Global, device: DeviceName) -> Result<usize, AllocError> {
 
 #[test]
 fn writes_each_tile(rt: HostRuntime) {
-    assert!(rt; line_count(rt.alloc(), DeviceName::L384) == Ok(1293));
+    assert!(rt; line_count(rt.alloc(), DeviceName::Lp384) == Ok(1293));
 }
 
 #[test]

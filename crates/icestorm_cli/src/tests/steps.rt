@@ -4,12 +4,12 @@ use bin_stream::{decode, encode};
 use chipdb_reader::read;
 use fabric::design;
 use ice_gen::{chipdb, events, image};
+use image_explain::explain;
 use plane_map::DeviceName;
 use std::alloc::Global;
-use tile_bits::explain;
-use vlog_cycle::Runner;
 use vlog_emit::emit;
-use vlog_text::{parse, print};
+use vlog_parser::{parse, print};
+use vlog_run::Runner;
 
 /// The most bytes that a chip database has here.
 const MOST_BYTES: usize = 268_435_456;
@@ -20,11 +20,11 @@ type Counts = (usize, usize, usize, usize, usize);
 /// The counts on the way from a seed to a runner, or `None` if a call fails.
 #[tactic(auto, unfolding(vlog_module::specs::Names::is_name, vlog_module::specs::Names::reserved_words))]
 fn counted(alloc: Global) -> Option<Counts> {
-    let text = chipdb(alloc, DeviceName::K1).ok()?;
+    let text = chipdb(alloc, DeviceName::Hx1k).ok()?;
     if text.len() > MOST_BYTES {
         return None;
     }
-    let made = image(alloc, DeviceName::K1, 7).ok()?;
+    let made = image(alloc, DeviceName::Hx1k, 7).ok()?;
     let events = events(alloc, 7, 10).ok()?;
     let db = read(alloc, &text).ok()?;
     let stream = encode(alloc, &made).ok()?;

@@ -1,8 +1,8 @@
 -- What a reader of a layout file keeps between the lines, and how it takes one.
 use Rattle.std.specs.Prelude.{◌≡◌, ℕ, Bool, true, false, not, List, length, nat_lt, ◌==◌, Option, Some, None}
-use Rattle.place_search.specs.Places.{or_else}
+use Rattle.index_search.specs.Places.{or_else}
 use Rattle.plane_map.specs.declared.device.DeviceName.{DeviceName}
-use Rattle.plane_map.specs.declared.device.DeviceName.TheVariants.{L384, K1, K8}
+use Rattle.plane_map.specs.declared.device.DeviceName.TheVariants.{Lp384, Hx1k, Hx8k}
 use Rattle.plane_map.specs.DeviceWords.{device_named}
 use Rattle.plane_map.specs.Layout.{standard_layout}
 use Rattle.layout_file.specs.declared.field.Numbers.{Numbers}
@@ -16,7 +16,7 @@ use Rattle.layout_file.specs.declared.line.LineKind.{LineKind}
 use Rattle.layout_file.specs.declared.line.LineKind.TheVariants as kind
 use Rattle.layout_file.specs.declared.section.Given.{Given}
 use Rattle.layout_file.specs.declared.section.Section.{Section as Part}
-use Rattle.layout_file.specs.declared.reader.Reader.{Reader}
+use Rattle.layout_file.specs.declared.reader.SectionReader.{SectionReader}
 use Rattle.layout_file.specs.Lines.{Line, Passed, Section, List_of, Flag_of, Unknown}
 use Rattle.layout_file.specs.Layouts.{layouts_by}
 use Rattle.layout_file.specs.Faults.{is_section, device_in, cause_if, count_of, numbers_cause}
@@ -91,70 +91,70 @@ with_flag section RamFlip value =
 -- ---- the reader
 
 -- a reader by the sections that it keeps
-abbrev pub reader_of : (DeviceName → Part) → Option DeviceName → Reader
-reader_of section current = record { k384 = section L384; k1 = section K1; k8 = section K8; current = current }
+abbrev pub reader_of : (DeviceName → Part) → Option DeviceName → SectionReader
+reader_of section current = record { lp384 = section Lp384; hx1k = section Hx1k; hx8k = section Hx8k; current = current }
 
 -- the section of a device
-abbrev pub section_for : Reader → DeviceName → Part
-section_for reader L384 = reader.k384
-section_for reader K1 = reader.k1
-section_for reader K8 = reader.k8
+abbrev pub section_for : SectionReader → DeviceName → Part
+section_for reader Lp384 = reader.lp384
+section_for reader Hx1k = reader.hx1k
+section_for reader Hx8k = reader.hx8k
 
 -- the reader with that section for a device
-abbrev pub with_section : Reader → DeviceName → Part → Reader
-with_section reader L384 section = record reader { k384 = section }
-with_section reader K1 section = record reader { k1 = section }
-with_section reader K8 section = record reader { k8 = section }
+abbrev pub with_section : SectionReader → DeviceName → Part → SectionReader
+with_section reader Lp384 section = record reader { lp384 = section }
+with_section reader Hx1k section = record reader { hx1k = section }
+with_section reader Hx8k section = record reader { hx8k = section }
 
 -- no line was read
-abbrev pub unread : Reader
+abbrev pub unread : SectionReader
 unread = reader_of unread_section None
 
 -- the layouts that were given
-abbrev pub layouts_of : Reader → Layouts
+abbrev pub layouts_of : SectionReader → Layouts
 layouts_of reader = layouts_by (λ device. (section_for reader device).layout)
 
 -- a section begins
-abbrev pub begin_refusal : Reader → Option DeviceName → Option LayoutCause
+abbrev pub begin_refusal : SectionReader → Option DeviceName → Option LayoutCause
 begin_refusal reader None = Some Device
 begin_refusal reader (Some device) = cause_if (section_for reader device).begun Repeated
 
-abbrev pub begun_with : Reader → Option DeviceName → Reader
+abbrev pub begun_with : SectionReader → Option DeviceName → SectionReader
 begun_with reader None = reader
 begun_with reader (Some device) = record (with_section reader device (record (section_for reader device) { begun = true })) { current = Some device }
 
 -- a field of numbers in the section of a device
-abbrev pub list_refusal_at : Reader → Option DeviceName → Numbers → List ℕ → Option LayoutCause
+abbrev pub list_refusal_at : SectionReader → Option DeviceName → Numbers → List ℕ → Option LayoutCause
 list_refusal_at reader None field numbers = Some Statement
 list_refusal_at reader (Some device) field numbers = numbers_refusal (section_for reader device) field numbers
 
-abbrev pub with_list_at : Reader → Option DeviceName → Numbers → List ℕ → Reader
+abbrev pub with_list_at : SectionReader → Option DeviceName → Numbers → List ℕ → SectionReader
 with_list_at reader None field numbers = reader
 with_list_at reader (Some device) field numbers = with_section reader device (with_numbers (section_for reader device) field numbers)
 
-abbrev pub list_refusal : Reader → Numbers → List ℕ → Option LayoutCause
+abbrev pub list_refusal : SectionReader → Numbers → List ℕ → Option LayoutCause
 list_refusal reader field numbers = list_refusal_at reader reader.current field numbers
 
-abbrev pub with_list : Reader → Numbers → List ℕ → Reader
+abbrev pub with_list : SectionReader → Numbers → List ℕ → SectionReader
 with_list reader field numbers = with_list_at reader reader.current field numbers
 
 -- a field of `yes` or `no` in the section of a device
-abbrev pub flag_refusal_at : Reader → Option DeviceName → Flag → Option LayoutCause
+abbrev pub flag_refusal_at : SectionReader → Option DeviceName → Flag → Option LayoutCause
 flag_refusal_at reader None field = Some Statement
 flag_refusal_at reader (Some device) field = flag_refusal (section_for reader device) field
 
-abbrev pub with_flag_at : Reader → Option DeviceName → Flag → Bool → Reader
+abbrev pub with_flag_at : SectionReader → Option DeviceName → Flag → Bool → SectionReader
 with_flag_at reader None field value = reader
 with_flag_at reader (Some device) field value = with_section reader device (with_flag (section_for reader device) field value)
 
-abbrev pub flag_refusal_in : Reader → Flag → Option LayoutCause
+abbrev pub flag_refusal_in : SectionReader → Flag → Option LayoutCause
 flag_refusal_in reader field = flag_refusal_at reader reader.current field
 
-abbrev pub with_flag_in : Reader → Flag → Bool → Reader
+abbrev pub with_flag_in : SectionReader → Flag → Bool → SectionReader
 with_flag_in reader field value = with_flag_at reader reader.current field value
 
 -- why the reader refuses a line
-abbrev pub refusal : Reader → Line → Option LayoutCause
+abbrev pub refusal : SectionReader → Line → Option LayoutCause
 refusal reader Passed = None
 refusal reader (Section word) = begin_refusal reader (device_named word)
 refusal reader (List_of field numbers) = list_refusal reader field numbers
@@ -162,7 +162,7 @@ refusal reader (Flag_of field value) = flag_refusal_in reader field
 refusal reader Unknown = Some Statement
 
 -- the reader after a line
-abbrev pub taken : Reader → Line → Reader
+abbrev pub taken : SectionReader → Line → SectionReader
 taken reader Passed = reader
 taken reader (Section word) = begun_with reader (device_named word)
 taken reader (List_of field numbers) = with_list reader field numbers

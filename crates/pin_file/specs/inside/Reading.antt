@@ -1,13 +1,13 @@
 -- How the code represents lines, and what it keeps of a pin file between them.
 use Rattle.std.specs.Prelude.{◌≡◌, List, [], ◌∷◌, ℕ, Vec, Option, Some, None}
 use Rattle.std.specs.Global.{Global}
-use Rattle.pin_file.specs.declared.fault.PinCause.{PinCause}
+use Rattle.pin_file.specs.declared.fault.PinFileCause.{PinFileCause}
 use Rattle.pin_file.specs.declared.line.LineKind.{LineKind}
 use Rattle.pin_file.specs.declared.line.LineKind.TheVariants as kind
 use Rattle.pin_file.specs.declared.place.PinPlace.{PinPlace}
 use Rattle.pin_file.specs.declared.ports.Ports.{Ports}
-use Rattle.pin_file.specs.declared.refusal.Refusal.{Refusal}
-use Rattle.pin_file.specs.declared.refusal.Refusal.TheVariants.{Cause, Memory}
+use Rattle.pin_file.specs.declared.refusal.PinLineRefusal.{PinLineRefusal}
+use Rattle.pin_file.specs.declared.refusal.PinLineRefusal.TheVariants.{Cause, Memory}
 use Rattle.pin_file.specs.Lines.{Line, Passed, Port, Unknown}
 use Rattle.pin_file.specs.PortNames.{places_of, all_names}
 
@@ -18,7 +18,7 @@ said_by (kind.Port name pin) = Port name.now pin.now
 said_by kind.Unknown = Unknown
 
 -- a refusal is for that cause, or for out of memory
-abbrev pub RefusesFor : Option PinCause → Refusal → Type 0
+abbrev pub RefusesFor : Option PinFileCause → PinLineRefusal → Type 0
 RefusesFor cause (Cause told) = cause ≡ Some told
 RefusesFor cause (Memory e) = Unit {0}
 

@@ -11,9 +11,9 @@ pub(crate) fn standard_widths(device: DeviceName) -> [u16; 17]
     ensures { result ≡ standard_widths device ++ replicate (17 - half_width device) 0 }
 {
     match device {
-        DeviceName::L384 => [18, 54, 54, 54, 0, 0, 0, 0, 0, 0, 0, 0, 0, 0, 0, 0, 0],
-        DeviceName::K1 => [18, 54, 54, 42, 54, 54, 54, 0, 0, 0, 0, 0, 0, 0, 0, 0, 0],
-        DeviceName::K8 => [
+        DeviceName::Lp384 => [18, 54, 54, 54, 0, 0, 0, 0, 0, 0, 0, 0, 0, 0, 0, 0, 0],
+        DeviceName::Hx1k => [18, 54, 54, 42, 54, 54, 54, 0, 0, 0, 0, 0, 0, 0, 0, 0, 0],
+        DeviceName::Hx8k => [
             18, 54, 54, 54, 54, 54, 54, 54, 42, 54, 54, 54, 54, 54, 54, 54, 54,
         ],
     }

@@ -3,7 +3,7 @@
 use super::MEMORY;
 use std::alloc::Global;
 use vlog_lanes::{Call, Lanes};
-use vlog_text::parse;
+use vlog_parser::parse;
 
 /// Gives lane 0 alone the rising edge, if there is an input.
 fn take_edge(lanes: &mut Lanes) {

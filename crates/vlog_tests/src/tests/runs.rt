@@ -1,12 +1,12 @@
 // Runs of a module with a memory, and of registers with asynchronous set and reset.
 
 ghost use Rattle.std.specs.Prelude.{◌<◌, All, length};
-ghost use Rattle.vlog_plan.specs.Run.{input_names};
+ghost use Rattle.vlog_semantics.specs.Run.{input_names};
 
 use super::MEMORY;
 use std::alloc::{AllocError, Global};
-use vlog_cycle::{Event, Runner, read_events, run_text};
-use vlog_text::{Module, parse};
+use vlog_parser::{Module, parse};
+use vlog_run::{Event, Runner, read_events, run_text};
 
 /// Gives the runner the rising edge, if there is an input.
 fn take_edge(runner: &mut Runner) {

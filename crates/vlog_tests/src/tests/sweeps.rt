@@ -1,12 +1,12 @@
 // Runs over several lists of events at once.
 ghost use Rattle.std.specs.Prelude.{◌≡◌, ◌<◌, ◌++◌, ◌∷◌, [], All, IfSome, OnSome, length};
-ghost use Rattle.vlog_plan.specs.Run.{input_names};
+ghost use Rattle.vlog_semantics.specs.Run.{input_names};
 
 use std::alloc::Global;
-use vlog_cycle::read_events;
 use vlog_module::Module;
+use vlog_parser::parse;
+use vlog_run::read_events;
 use vlog_sweep::{EventList, sweep};
-use vlog_text::parse;
 
 /// The heading and the text of a list of events.
 #[derive(Clone, Copy)]

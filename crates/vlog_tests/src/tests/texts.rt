@@ -1,7 +1,7 @@
 // The text of a module: what is read of it, and what is printed again.
 
 use std::alloc::{AllocError, Global};
-use vlog_text::{Module, VlogFault, from_own_text, parse, print};
+use vlog_parser::{Module, VlogFault, from_own_text, parse, print};
 
 const ALL: &str = "module all (c, d, q);
   input c;

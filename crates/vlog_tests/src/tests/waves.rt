@@ -1,12 +1,12 @@
 // The VCD of a register that takes a wire at rising edges, and of another that reads word 5 of a memory.
 
 ghost use Rattle.std.specs.Prelude.{◌<◌, All, length};
-ghost use Rattle.vlog_plan.specs.Run.{input_names};
+ghost use Rattle.vlog_semantics.specs.Run.{input_names};
 
 use ice_io::{Content, MemSink, PutFault};
 use std::alloc::{AllocError, Global};
-use vlog_cycle::{Event, read_events};
-use vlog_text::{Module, parse};
+use vlog_parser::{Module, parse};
+use vlog_run::{Event, read_events};
 use vlog_waves::Waves;
 
 const MODULE: &[u8] = b"module m (c, q, d);

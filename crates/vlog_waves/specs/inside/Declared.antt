@@ -1,9 +1,9 @@
 -- The names of the variables of one kind that items declare.
 use Rattle.std.specs.Prelude.{ℕ, List}
 use Rattle.vlog_module.specs.declared.item.Item.{Item}
-use Rattle.vlog_plan.specs.ModuleSlots.{register_names, wire_names, wire_start, word_names}
-use Rattle.vlog_plan.specs.Named.{names_of}
-use Rattle.vlog_plan.specs.Run.{register_start, word_start}
+use Rattle.vlog_semantics.specs.ModuleSlots.{register_names, wire_names, wire_start, word_names}
+use Rattle.vlog_semantics.specs.Named.{names_of}
+use Rattle.vlog_semantics.specs.Run.{register_start, word_start}
 use Rattle.vlog_waves.specs.Variables.{Kind as kind_told}
 use Rattle.vlog_waves.specs.Variables.Kind.{wire_kind, register_kind, word_kind}
 use Rattle.vlog_waves.specs.declared.items.Kind.{Kind}

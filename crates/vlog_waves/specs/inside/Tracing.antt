@@ -1,10 +1,10 @@
 -- Runs whose changes are dumped.
 use Rattle.std.specs.Prelude.{◌≡◌, ℕ, suc, List, [], ◌∷◌, ◌++◌}
 use Rattle.vlog_module.specs.Parts.{Parts}
-use Rattle.vlog_plan.specs.declared.event.Event.{Event}
-use Rattle.vlog_plan.specs.Entries.{Entry}
-use Rattle.vlog_plan.specs.Run.{followed}
-use Rattle.vlog_cycle.specs.Showing.{Shows}
+use Rattle.vlog_semantics.specs.declared.event.Event.{Event}
+use Rattle.vlog_semantics.specs.Entries.{Entry}
+use Rattle.vlog_semantics.specs.Run.{followed}
+use Rattle.vlog_run.specs.Showing.{Shows}
 use Rattle.vlog_waves.specs.Variables.{values_in}
 use Rattle.vlog_waves.specs.Waves.{changed_lines, time_line}
 use Rattle.vlog_waves.specs.declared.tracer.Tracer.{Tracer}

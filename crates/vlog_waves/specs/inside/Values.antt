@@ -1,7 +1,7 @@
 -- The values of variables as they are kept: each kind in a list of its own.
 use Rattle.std.specs.Prelude.{◌≡◌, ℕ, ◌+◌, ◌*◌, ◌++◌, List, length, map, vec_len}
 use Rattle.vlog_module.specs.Parts.{Parts}
-use Rattle.vlog_plan.specs.ModuleSlots.{register_names, wire_names, word_names}
+use Rattle.vlog_semantics.specs.ModuleSlots.{register_names, wire_names, word_names}
 use Rattle.vlog_waves.specs.Variables.{Value}
 use Rattle.vlog_waves.specs.Variables.Value.{one_bit, sixteen_bits}
 use Rattle.vlog_waves.specs.declared.values.Values.{Values}

@@ -6,12 +6,12 @@ ghost use Rattle.asc_text.specs.inside.Reading.{state_of, HasKind, row_refusal, 
 
 use crate::fault::AscCause;
 use crate::reading::bits;
-use crate::reading::reader::{Expected, Reader};
+use crate::reading::reader::{Expected, TextReader};
 use crate::reading::rows::{memory_bytes, row_ones};
 use ice_image::AnyImage;
 use plane_map::TileKind;
 
-impl Reader {
+impl TextReader {
     /// Takes a row of a tile, without the blanks at its end.
     pub(super) fn accept_row(
         &mut self,

@@ -5,9 +5,9 @@ ghost use Rattle.asc_text.specs.inside.Reading.{state_of};
 ghost use Rattle.asc_text.specs.inside.LinesTaken.{TakesEach, StopsIn, IsReached};
 
 use crate::fault::AscFault;
-use crate::reading::reader::Reader;
+use crate::reading::reader::TextReader;
 
-impl Reader {
+impl TextReader {
     /// Takes the lines of a text, before which `before` lines were taken, and returns how many lines have been taken in all.
     #[inline(never)]
     pub(crate) fn take_lines(&mut self, before: u64, text: &[u8]) -> Result<u64, AscFault>

@@ -14,7 +14,7 @@ ghost use Rattle.asc_text.specs.inside.Reading.{state_of, HasKind, IsReady, Take
 
 use crate::reading::bits::set_memory_line;
 use crate::reading::reader::names::take_names;
-use crate::reading::reader::{Expected, Reader};
+use crate::reading::reader::{Expected, TextReader};
 use crate::reading::rows::{memory_bytes, ones_of};
 use ice_image::AnyImage;
 use plane_map::{TileKind, TileRuns};
@@ -28,7 +28,7 @@ pub(crate) struct TakenLines<'a> {
     pub(crate) rest: &'a [u8],
 }
 
-impl Reader {
+impl TextReader {
     /// Takes the lines at the front of a text that are the expected rows or digits with LF right after them, or name nets in their usual
     /// form. There may be none. The line after them is left to `accept_any`.
     #[inline(always)]

@@ -1,5 +1,6 @@
 // What statements change.
 ghost use Rattle.std.specs.Prelude.{◌≡◌, ◌<◌, [], Some, None, true, IfOk, IfErr, OnOk, is_some, MatchOption};
+ghost use Rattle.plane_map.specs.Layout.{max_side};
 ghost use Rattle.ice_image.specs.Configuration.{blank_image, IsWhole};
 ghost use Rattle.ice_image.specs.Either.{configuration_of};
 ghost use Rattle.asc_text.specs.Meaning.{extra_sets};
@@ -8,15 +9,15 @@ ghost use Rattle.asc_text.specs.inside.Reading.{state_of, statement_refusal, set
 
 use crate::fault::{AscCause, TileXy};
 use crate::reading::bits;
-use crate::reading::reader::{Expected, Reader, Refusal};
+use crate::reading::reader::{Expected, LineRefusal, TextReader};
 use crate::statement::Statement;
 use ice_image::{AnyImage, Comment};
 use plane_map::{DeviceName, Layout, TileKind, kind_on};
 use std::alloc::{AllocError, Global};
 
-impl Reader {
+impl TextReader {
     /// Takes a statement.
-    pub(super) fn take(&mut self, statement: Statement) -> Result<(), Refusal>
+    pub(super) fn take(&mut self, statement: Statement) -> Result<(), LineRefusal>
         ensures taken { IfOk result (λ _. TakesStatement (state_of self.old) statement (state_of self.new)) }
         ensures accepted { OnOk result (statement_refusal (state_of self.old) statement ≡ None) }
         ensures refused { IfErr result (Reports (statement_refusal (state_of self.old) statement)) }
@@ -46,16 +47,16 @@ impl Reader {
     }
 
     /// Takes the device, if the text has named none before.
-    fn take_device(&mut self, device: Option<DeviceName>) -> Result<(), Refusal>
+    fn take_device(&mut self, device: Option<DeviceName>) -> Result<(), LineRefusal>
         ensures taken { IfOk result (λ _. TakesStatement (state_of self.old) (Statement.Device device) (state_of self.new)) }
         ensures accepted { OnOk result (statement_refusal (state_of self.old) (Statement.Device device) ≡ None) }
         ensures refused { IfErr result (Reports (statement_refusal (state_of self.old) (Statement.Device device))) }
     {
         let Some(device) = device else {
-            return Err(Refusal::Cause(AscCause::Device));
+            return Err(LineRefusal::Cause(AscCause::Device));
         };
         if self.image.is_some() {
-            return Err(Refusal::Cause(AscCause::Repeated));
+            return Err(LineRefusal::Cause(AscCause::Repeated));
         }
         self.image = Some(blank_image(self.alloc, self.layouts.of(device))?);
         Ok(())
@@ -135,7 +136,7 @@ fn set_once<T: Copy>(slot: &mut Option<T>, setting: Option<T>) -> Result<(), Asc
 /// What is wrong with the tile of a statement.
 fn tile_refusal(image: &Option<AnyImage>, kind: TileKind, x: u32, y: u32) -> Option<AscCause>
     ensures refusal { result ≡ tile_refusal image.now kind x y }
-    ensures in_grid { MatchOption result ((x < 34) × (y < 34)) (λ _. Unit {0}) }
+    ensures in_grid { MatchOption result ((x < max_side) × (y < max_side)) (λ _. Unit {0}) }
 {
     match image {
         Some(image) => match kind_on(image.device(), x, y) {

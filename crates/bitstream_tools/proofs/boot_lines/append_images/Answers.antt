@@ -2,8 +2,8 @@ use Rattle.std.proofs.Common.{◌≡◌, ◌<◌, ◌++◌, ℕ, List, length, g
 use Rattle.std.specs.Prelude.{Some, Option, map, slice_get}
 use Rattle.std.proofs.lemmas.List.{get_or-map, length-map}
 use Rattle.std.proofs.lemmas.Option.{slice_get_read}
-use Rattle.place_search.specs.Places.{gathered_below}
-use Rattle.place_search.proofs.Gathered.{appended-more, appended-none}
+use Rattle.index_search.specs.Places.{gathered_below}
+use Rattle.index_search.proofs.Gathered.{appended-more, appended-none}
 use Rattle.boot_file.specs.declared.file.BootImage.{BootImage}
 use Rattle.boot_file.specs.Meaning.{PlacedImage, placed_of}
 use Rattle.bitstream_tools.specs.Split.{image_line_at}

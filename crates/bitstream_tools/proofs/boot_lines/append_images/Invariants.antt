@@ -1,6 +1,6 @@
 use Rattle.std.proofs.Common.{◌≡◌, ◌++◌}
 use Rattle.std.specs.Prelude.{map, slice_get}
-use Rattle.place_search.specs.Places.{gathered_below}
+use Rattle.index_search.specs.Places.{gathered_below}
 use Rattle.boot_file.specs.Meaning.{placed_of}
 use Rattle.bitstream_tools.specs.Split.{image_line_at}
 use Rattle.bitstream_tools.proofs.boot_lines.append_images.Given as goal

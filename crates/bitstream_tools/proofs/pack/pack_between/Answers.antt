@@ -3,7 +3,7 @@ use Rattle.tool_run.specs.Needs.{IsSound, Need, text_of}
 use Rattle.tool_run.specs.Tasks.{Task}
 use Rattle.tool_run.proofs.Same.{Does-same}
 use Rattle.bitstream_tools.specs.Pack.{icepack_name, pack_answer, text_limit}
-use Rattle.tool_parts.proofs.UnderLayouts.{named-is, needs-are, needs-sound, one-sound}
+use Rattle.tool_inputs.proofs.UnderLayouts.{named-is, needs-are, needs-sound, one-sound}
 use Rattle.bitstream_tools.proofs.pack.pack_between.Goals as goal
 
 pub perform_in_pieces-requires : goal.perform_in_pieces-requires

@@ -1,6 +1,6 @@
 use Rattle.std.proofs.lemmas.Result.{IfOk-weaker, IfErr-weaker}
 use Rattle.std.specs.Prelude.{[], get_or}
-use Rattle.tool_parts.specs.Layouts.{behind_layout}
+use Rattle.tool_inputs.specs.Layouts.{behind_layout}
 use Rattle.bitstream_tools.specs.Pack.{packed_under}
 use Rattle.bitstream_tools.proofs.FirstText.{answer_is, answer_stops}
 use Rattle.bitstream_tools.proofs.packing.packed_after.Goals as goal

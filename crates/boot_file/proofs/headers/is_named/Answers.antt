@@ -1,6 +1,6 @@
 use Rattle.std.proofs.Common.{false, sym, ◌∙◌, ◌==◌, arith}
 use Rattle.std.proofs.lemmas.Bool.{eq-eqb, ne_eqb}
-use Rattle.place_search.proofs.Places.{any_below-at, any_below-none}
+use Rattle.index_search.proofs.Places.{any_below-at, any_below-none}
 use Rattle.boot_file.specs.Headers.{entry_address}
 use Rattle.boot_file.proofs.Below.{below-more}
 use Rattle.boot_file.proofs.headers.is_named.Goals as goal

@@ -1,6 +1,6 @@
 use Rattle.std.proofs.Common.{◌≡◌, ◌<◌, ℕ, List, length, get_or, refl, sym, ap, ◌∙◌, subst, rules, arith}
 use Rattle.std.specs.Prelude.{map}
-use Rattle.place_search.specs.Places.{first_below}
+use Rattle.index_search.specs.Places.{first_below}
 use Rattle.boot_file.specs.Parts.{image_addresses}
 use Rattle.boot_file.specs.Meaning.{placed_of}
 use Rattle.boot_file.specs.Faults.{image_fault, images_fault}

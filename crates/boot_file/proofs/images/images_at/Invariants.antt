@@ -1,6 +1,6 @@
 use Rattle.std.proofs.Common.{◌≡◌, get_or, take}
 use Rattle.std.specs.Prelude.{None, filter_map, map}
-use Rattle.place_search.specs.Places.{first_below}
+use Rattle.index_search.specs.Places.{first_below}
 use Rattle.boot_file.specs.Parts.{image_addresses}
 use Rattle.boot_file.specs.Meaning.{placed_of}
 use Rattle.boot_file.specs.Faults.{image_fault}

@@ -3,7 +3,7 @@ use Rattle.std.specs.Prelude.{Vec, if◌then◌else◌, Bool, ℕ}
 use Rattle.std.specs.List.{list_any}
 use Rattle.std.proofs.lemmas.List.{append-nil}
 use Rattle.std.specs.declared.alloc.Global.{Global}
-use Rattle.place_search.specs.Places.{gathered_below}
+use Rattle.index_search.specs.Places.{gathered_below}
 use Rattle.boot_file.specs.Parts.{first_named, image_addresses}
 use Rattle.boot_file.proofs.Named.{few_addresses, listed-more}
 use Rattle.boot_file.proofs.parts.image_addresses.Goals.{then-not-contains+in_ok-push, else-not-contains}

@@ -1,5 +1,5 @@
 use Rattle.std.proofs.Common.{◌≡◌}
-use Rattle.place_search.specs.Places.{gathered_below}
+use Rattle.index_search.specs.Places.{gathered_below}
 use Rattle.boot_file.specs.Parts.{first_named}
 use Rattle.boot_file.proofs.parts.image_addresses.Given as goal
 

@@ -1,6 +1,6 @@
 use Rattle.std.proofs.Common.{◌≡◌, ◌+◌, ◌-◌, ◌*◌, ◌++◌}
 use Rattle.hex.specs.Hex.{encode_lower}
-use Rattle.place_search.specs.Places.{gathered_below}
+use Rattle.index_search.specs.Places.{gathered_below}
 use Rattle.asc_text.specs.Canonical.{two_bytes}
 use Rattle.bram_replace.specs.Replaced.{word_with}
 use Rattle.bram_replace.specs.Rams.{listed}

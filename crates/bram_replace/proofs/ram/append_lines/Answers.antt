@@ -2,7 +2,7 @@ use Rattle.std.proofs.Common.{◌++◌, refl, sym, ap, ◌∙◌, arith}
 use Rattle.text_lines.specs.Lines.{lines_of, whole_lines_of, line_at}
 use Rattle.bram_replace.specs.Replaced.{memory_line_with}
 use Rattle.bram_replace.specs.Rams.{listed}
-use Rattle.place_search.proofs.Gathered.{appended-none, appended-more}
+use Rattle.index_search.proofs.Gathered.{appended-none, appended-more}
 use Rattle.bram_replace.proofs.Putting.{not_ended, next-digits, next-lines, next-wholes, next-whole, next-size}
 use Rattle.bram_replace.proofs.ram.append_lines.Goals as goal
 

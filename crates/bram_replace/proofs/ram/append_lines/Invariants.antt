@@ -1,5 +1,5 @@
 use Rattle.std.proofs.Common.{◌≡◌, ◌++◌, drop}
-use Rattle.place_search.specs.Places.{gathered_below}
+use Rattle.index_search.specs.Places.{gathered_below}
 use Rattle.text_lines.specs.Lines.{lines_of, whole_lines_of, line_at}
 use Rattle.bram_replace.specs.Replaced.{memory_line_with}
 use Rattle.bram_replace.specs.Rams.{listed}

@@ -1,6 +1,6 @@
 use Rattle.std.proofs.Common.{◌≡◌, ℕ, ◌+◌, ◌^◌, ◌<◌, length, get_or}
 use Rattle.std.specs.Prelude.{nat_lt, if◌then◌else◌}
-use Rattle.place_search.specs.Places.{gathered_below}
+use Rattle.index_search.specs.Places.{gathered_below}
 use Rattle.bram_replace.specs.Columns.{column_count}
 use Rattle.bram_replace.specs.Replaced.{column_found}
 use Rattle.bram_replace.specs.Rams.{columns_after, listed}

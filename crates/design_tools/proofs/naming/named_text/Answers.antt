@@ -1,7 +1,7 @@
 use Rattle.std.proofs.Common.{◌∙◌, ap, subst, sym}
 use Rattle.std.proofs.lemmas.Result.{IfOk-weaker}
 use Rattle.vlog_module.specs.Names.{IsName}
-use Rattle.net_extract.specs.Fabric.{fabric_with}
+use Rattle.fabric_model.specs.Fabric.{fabric_with}
 use Rattle.fabric_module.specs.Written.{module_of}
 use Rattle.design_tools.proofs.Written.{named_done}
 use Rattle.design_tools.proofs.naming.named_text.Goals as goal

@@ -4,9 +4,9 @@ use Rattle.tool_run.specs.Needs.{IsSound, Need, text_of}
 use Rattle.tool_run.specs.Tasks.{Task}
 use Rattle.tool_run.proofs.Same.{Does-same}
 use Rattle.tool_run.specs.declared.load.Load.{Load}
-use Rattle.tool_parts.specs.Images.{image_limit}
-use Rattle.tool_parts.proofs.UnderLayouts.{file-sound, named-is, needs-are, needs-sound, one-sound}
-use Rattle.tool_parts.specs.Databases.{database_limit}
+use Rattle.tool_inputs.specs.Images.{image_limit}
+use Rattle.tool_inputs.proofs.UnderLayouts.{file-sound, named-is, needs-are, needs-sound, one-sound}
+use Rattle.tool_inputs.specs.Databases.{database_limit}
 use Rattle.design_tools.specs.Vlog.{named_answer, pins_limit, vlog_name}
 use Rattle.design_tools.proofs.naming.write_named.Goals as goal
 

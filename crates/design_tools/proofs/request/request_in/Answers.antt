@@ -3,7 +3,7 @@ use Rattle.std.specs.Prelude.{Option, codes}
 use Rattle.std.specs.Option.{option_map}
 use Rattle.clap.specs.Words.{Text, first_of, found_of, rows_of}
 use Rattle.tool_run.specs.Needs.{text_of}
-use Rattle.tool_parts.specs.Commands.{has_flag}
+use Rattle.tool_inputs.specs.Commands.{has_flag}
 use Rattle.design_tools.specs.Names.{name_given}
 use Rattle.design_tools.specs.Vlog.{Named, name_text, named_by, pins_in, pins_of_request, vlog_task_of}
 use Rattle.design_tools.proofs.CommandLines.{name_text-map}

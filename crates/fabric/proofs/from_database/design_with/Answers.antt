@@ -5,11 +5,11 @@ use Rattle.ice_image.specs.Configuration.{Configuration}
 use Rattle.ice_image.specs.Either.{configuration_of, device_of}
 use Rattle.chipdb_reader.specs.Database.{Database}
 use Rattle.chipdb_reader.specs.Kept.{database_in}
-use Rattle.net_extract.specs.declared.lut_inputs.LutInputs.{LutInputs}
-use Rattle.net_extract.specs.Fabric.{fabric_with}
-use Rattle.net_extract.specs.Faults.{design_fault}
-use Rattle.net_extract.proofs.Alike.{design-value, design-run}
-use Rattle.net_extract.proofs.Once.{first-differ}
+use Rattle.fabric_model.specs.declared.lut_inputs.LutInputs.{LutInputs}
+use Rattle.fabric_model.specs.Fabric.{fabric_with}
+use Rattle.fabric_model.specs.Faults.{design_fault}
+use Rattle.fabric_model.proofs.Alike.{design-value, design-run}
+use Rattle.fabric_model.proofs.Once.{first-differ}
 use Rattle.fabric_wiring.specs.Parts.{ArePartsOf}
 use Rattle.fabric_wiring.specs.declared.parts.Parts.{Parts}
 use Rattle.fabric.specs.Faults.{IsCause}

@@ -1,5 +1,5 @@
 use Rattle.std.proofs.Common.{sym, ◌∙◌}
-use Rattle.net_extract.specs.Wiring.{wiring_of as wiring_of_fabric}
+use Rattle.fabric_model.specs.Wiring.{wiring_of as wiring_of_fabric}
 use Rattle.graph_order.proofs.Alike.{order-alike, is_on_cycle-alike}
 use Rattle.fabric.proofs.Evidence.{loop-told, loop-none}
 use Rattle.fabric.proofs.order.order_of.Goals as goal

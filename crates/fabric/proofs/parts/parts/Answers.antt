@@ -1,7 +1,7 @@
 use Rattle.std.proofs.Common.{◌++◌, refl, ap, ◌∙◌}
 use Rattle.ice_image.specs.Either.{configuration_of}
 use Rattle.chipdb_reader.specs.Kept.{database_in}
-use Rattle.net_extract.specs.Registers.{registers_of, pin_registers_of}
+use Rattle.fabric_model.specs.Registers.{registers_of, pin_registers_of}
 use Rattle.fabric.specs.Buffers.{buffers_at}
 use Rattle.fabric.proofs.Buffers.{buffers-on}
 use Rattle.fabric.proofs.Refused.{links-cause, pins-cause, rams-cause, told}

@@ -1,9 +1,9 @@
 use Rattle.std.proofs.Common.{◌≡◌, sym, subst}
 use Rattle.std.specs.Prelude.{None}
-use Rattle.net_extract.specs.Tiles.{first_of}
-use Rattle.net_extract.specs.Faults.{clock_faults}
-use Rattle.net_extract.proofs.Chains.{clock_end-leads}
-use Rattle.net_extract.proofs.Within.{within-parts}
+use Rattle.fabric_model.specs.Tiles.{first_of}
+use Rattle.fabric_model.specs.Faults.{clock_faults}
+use Rattle.fabric_model.proofs.Chains.{clock_end-leads}
+use Rattle.fabric_model.proofs.Within.{within-parts}
 use Rattle.fabric_wiring.specs.Ends.{AreEndsOf}
 use Rattle.fabric.specs.Faults.{IsCause}
 use Rattle.fabric.proofs.Refused.{told}

@@ -1,8 +1,8 @@
 use Rattle.std.proofs.Common.{◌≡◌, ◌++◌, [], ◌∷◌, arith, ap, ◌∙◌}
-use Rattle.place_search.proofs.Gathered.{appended-none, appended-more}
+use Rattle.index_search.proofs.Gathered.{appended-none, appended-more}
 use Rattle.ice_image.specs.Either.{configuration_of}
 use Rattle.ice_image.specs.Bits.{ram_word_of}
-use Rattle.net_extract.specs.Tiles.{each_below}
+use Rattle.fabric_model.specs.Tiles.{each_below}
 use Rattle.fabric.proofs.words.append_words.Goals as goal
 
 pub loop-word-init : goal.loop-word-init

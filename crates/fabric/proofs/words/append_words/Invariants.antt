@@ -1,7 +1,7 @@
 use Rattle.std.proofs.Common.{◌≡◌, ◌++◌}
 use Rattle.ice_image.specs.Either.{configuration_of}
 use Rattle.ice_image.specs.Bits.{ram_word_of}
-use Rattle.net_extract.specs.Tiles.{each_below}
+use Rattle.fabric_model.specs.Tiles.{each_below}
 use Rattle.fabric.proofs.words.append_words.Given as goal
 
 abbrev pub invariant-loop-word : goal.invariant-loop-word

@@ -2,8 +2,8 @@ use Rattle.std.proofs.Common.{◌≡◌, take}
 use Rattle.std.specs.List.{flat_map}
 use Rattle.ice_image.specs.Either.{configuration_of}
 use Rattle.ice_image.specs.Bits.{ram_word_of}
-use Rattle.net_extract.specs.declared.ram.RamCell.{RamCell}
-use Rattle.net_extract.specs.Tiles.{each_below}
+use Rattle.fabric_model.specs.declared.ram.RamCell.{RamCell}
+use Rattle.fabric_model.specs.Tiles.{each_below}
 use Rattle.fabric.proofs.words.start_words.Given as goal
 
 abbrev pub invariant-loop-ram : goal.invariant-loop-ram

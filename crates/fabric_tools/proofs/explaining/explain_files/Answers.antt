@@ -3,9 +3,9 @@ use Rattle.std.specs.Prelude.{None, Some}
 use Rattle.tool_run.specs.Needs.{IsSound, Need, text_of}
 use Rattle.tool_run.specs.Tasks.{Task}
 use Rattle.tool_run.proofs.Same.{Does-same}
-use Rattle.tool_parts.specs.Images.{image_limit}
-use Rattle.tool_parts.proofs.UnderLayouts.{file-sound, named-is, needs-are, needs-sound, one-sound}
-use Rattle.tool_parts.specs.Databases.{database_limit}
+use Rattle.tool_inputs.specs.Images.{image_limit}
+use Rattle.tool_inputs.proofs.UnderLayouts.{file-sound, named-is, needs-are, needs-sound, one-sound}
+use Rattle.tool_inputs.specs.Databases.{database_limit}
 use Rattle.fabric_tools.specs.Explain.{explain_answer, explain_name}
 use Rattle.fabric_tools.proofs.explaining.explain_files.Goals as goal
 

@@ -1,9 +1,9 @@
 use Rattle.std.proofs.Common.{◌≡◌, ◌++◌, map, take}
 use Rattle.std.specs.Prelude.{flat_map, filter}
-use Rattle.net_extract.specs.Drivers.{carry_drives}
+use Rattle.fabric_model.specs.Drivers.{carry_drives}
 use Rattle.fabric_wiring.specs.Drives.{drive_of}
-use Rattle.net_extract.specs.declared.cell.Lc.{Lc}
+use Rattle.fabric_model.specs.declared.cell.LogicCell.{LogicCell}
 use Rattle.fabric_wiring.proofs.cells.append_carries.Given as goal
 
 abbrev pub invariant-loop-lc : goal.invariant-loop-lc
-invariant-loop-lc l = map drive_of l.drives.items ≡ map drive_of l.initial.drives.items ++ flat_map carry_drives (filter (λ (lc : Lc). lc.carry) (take l.lc-index l.lcs))
+invariant-loop-lc l = map drive_of l.drives.items ≡ map drive_of l.initial.drives.items ++ flat_map carry_drives (filter (λ (lc : LogicCell). lc.carry) (take l.lc-index l.lcs))

@@ -1,5 +1,5 @@
 use Rattle.std.proofs.Common.{ap}
-use Rattle.net_extract.specs.Clocks.{turn_by}
+use Rattle.fabric_model.specs.Clocks.{turn_by}
 use Rattle.fabric_wiring.specs.Drives.{rule_of}
 use Rattle.fabric_wiring.proofs.ends.end_along.Goals as goal
 

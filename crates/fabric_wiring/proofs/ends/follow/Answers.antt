@@ -1,8 +1,8 @@
 use Rattle.std.proofs.Common.{◌≡◌, take, get_or, sym, ◌∙◌, ap, subst, arith}
 use Rattle.std.proofs.lemmas.List.{length-set, take_all}
-use Rattle.net_extract.specs.Clocks.{end_by}
-use Rattle.net_extract.specs.Links.{class_in}
-use Rattle.net_extract.proofs.Within.{within-parts}
+use Rattle.fabric_model.specs.Clocks.{end_by}
+use Rattle.fabric_model.specs.Links.{class_in}
+use Rattle.fabric_model.proofs.Within.{within-parts}
 use Rattle.fabric_wiring.specs.Ends.{end_in}
 use Rattle.fabric_wiring.proofs.Drives.{goes-within, turn-kept}
 use Rattle.fabric_wiring.proofs.Following.{AreFound, still-found, next-below, next-found, found-ends}

@@ -1,6 +1,6 @@
 use Rattle.std.proofs.Common.{◌≡◌, ◌++◌, map, take}
 use Rattle.std.specs.Prelude.{flat_map}
-use Rattle.net_extract.specs.Drivers.{buffer_drives}
+use Rattle.fabric_model.specs.Drivers.{buffer_drives}
 use Rattle.fabric_wiring.specs.Drives.{drive_of}
 use Rattle.fabric_wiring.specs.Parts.{buffer_of}
 use Rattle.fabric_wiring.proofs.every_driver.append_buffers.Given as goal

@@ -1,7 +1,7 @@
 use Rattle.std.proofs.Common.{◌≡◌, List, map, rules, ap, sym, ◌∙◌, subst}
 use Rattle.std.specs.Prelude.{All}
-use Rattle.net_extract.specs.Tiles.{first_of}
-use Rattle.net_extract.specs.Faults.{driver_faults}
+use Rattle.fabric_model.specs.Tiles.{first_of}
+use Rattle.fabric_model.specs.Faults.{driver_faults}
 use Rattle.fabric_wiring.specs.declared.drive.Drive.{Drive as KeptDrive}
 use Rattle.fabric_wiring.specs.Drives.{drive_of}
 use Rattle.fabric_wiring.specs.Passed.{IsDriveIn, faults_in}

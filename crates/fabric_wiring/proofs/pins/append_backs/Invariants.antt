@@ -1,8 +1,8 @@
 use Rattle.std.proofs.Common.{◌≡◌, ◌++◌, map, take}
 use Rattle.std.specs.Prelude.{flat_map, filter}
-use Rattle.net_extract.specs.Drivers.{back_drives}
+use Rattle.fabric_model.specs.Drivers.{back_drives}
 use Rattle.fabric_wiring.specs.Drives.{drive_of}
-use Rattle.net_extract.specs.declared.pin.Pin.{Pin}
+use Rattle.fabric_model.specs.declared.pin.Pin.{Pin}
 use Rattle.fabric_wiring.proofs.pins.append_backs.Given as goal
 
 abbrev pub invariant-loop-pin : goal.invariant-loop-pin

@@ -1,6 +1,6 @@
 use Rattle.std.proofs.Common.{arith}
-use Rattle.net_extract.specs.Drivers.{ram_drive}
-use Rattle.net_extract.proofs.Numbered.{numbered-none, numbered-more}
+use Rattle.fabric_model.specs.Drivers.{ram_drive}
+use Rattle.fabric_model.proofs.Numbered.{numbered-none, numbered-more}
 use Rattle.fabric_wiring.proofs.rams.append_ram.Goals as goal
 
 pub loop-bit-init : goal.loop-bit-init

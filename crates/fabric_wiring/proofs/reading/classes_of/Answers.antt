@@ -1,4 +1,4 @@
-use Rattle.net_extract.proofs.Facts.{has-input}
+use Rattle.fabric_model.proofs.Facts.{has-input}
 use Rattle.fabric_wiring.proofs.reading.classes_of.Goals as goal
 
 pub class_of-requires : goal.class_of-requires

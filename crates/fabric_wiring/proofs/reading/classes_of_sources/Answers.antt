@@ -1,7 +1,7 @@
 use Rattle.std.proofs.Common.{◌≡◌, Some, get_or, rules}
 use Rattle.std.specs.Prelude.{None}
-use Rattle.net_extract.specs.declared.register.Source.TheVariants.{Net}
-use Rattle.net_extract.proofs.Facts.{has-source}
+use Rattle.fabric_model.specs.declared.register.LutSource.TheVariants.{Net}
+use Rattle.fabric_model.proofs.Facts.{has-source}
 use Rattle.fabric_wiring.proofs.reading.classes_of_sources.Goals as goal
 
 pub class_of-requires : goal.class_of-requires

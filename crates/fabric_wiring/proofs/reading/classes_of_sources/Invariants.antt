@@ -1,7 +1,7 @@
 use Rattle.std.proofs.Common.{◌≡◌, map, take}
 use Rattle.std.specs.Prelude.{flat_map}
-use Rattle.net_extract.specs.Drivers.{source_nets}
-use Rattle.net_extract.specs.Links.{class_in}
+use Rattle.fabric_model.specs.Drivers.{source_nets}
+use Rattle.fabric_model.specs.Links.{class_in}
 use Rattle.fabric_wiring.proofs.reading.classes_of_sources.Given as goal
 
 abbrev pub invariant-loop-source : goal.invariant-loop-source

@@ -1,8 +1,8 @@
 use Rattle.std.proofs.Common.{◌≡◌, map, sym, ap, ◌∙◌, subst}
 use Rattle.std.specs.Prelude.{IfOk}
-use Rattle.net_extract.specs.Drivers.{nets_read}
+use Rattle.fabric_model.specs.Drivers.{nets_read}
 use Rattle.graph_order.specs.Wiring.{has}
-use Rattle.net_extract.specs.Links.{class_in}
+use Rattle.fabric_model.specs.Links.{class_in}
 use Rattle.fabric_wiring.specs.Drives.{rule_of}
 use Rattle.fabric_wiring.proofs.ReadRows.{read-input, read-majority}
 use Rattle.fabric_wiring.proofs.reading.row_by.Goals as goal

@@ -1,5 +1,5 @@
 use Rattle.std.proofs.Common.{◌≡◌, ◌∙◌, arith}
-use Rattle.net_extract.proofs.Within.{within-parts}
+use Rattle.fabric_model.proofs.Within.{within-parts}
 use Rattle.fabric_wiring.proofs.ReadRows.{reads-links, wires-kept}
 use Rattle.fabric_wiring.proofs.reading.wires.Goals as goal
 

@@ -1,6 +1,6 @@
 use Rattle.std.proofs.Common.{arith}
-use Rattle.net_extract.specs.Drivers.{flip_drives}
-use Rattle.net_extract.proofs.Numbered.{numbered-none, numbered-more}
+use Rattle.fabric_model.specs.Drivers.{flip_drives}
+use Rattle.fabric_model.proofs.Numbered.{numbered-none, numbered-more}
 use Rattle.fabric_wiring.proofs.registers.append_flips.Goals as goal
 
 pub loop-i-init : goal.loop-i-init

@@ -1,8 +1,8 @@
 use Rattle.std.proofs.Common.{◌≡◌, ◌++◌, map, take}
 use Rattle.std.specs.Prelude.{flat_map}
-use Rattle.net_extract.specs.Drivers.{flip_drives}
+use Rattle.fabric_model.specs.Drivers.{flip_drives}
 use Rattle.fabric_wiring.specs.Drives.{drive_of}
-use Rattle.net_extract.specs.Fabric.{numbered}
+use Rattle.fabric_model.specs.Fabric.{numbered}
 use Rattle.fabric_wiring.proofs.registers.append_flips.Given as goal
 
 abbrev pub invariant-loop-i : goal.invariant-loop-i

@@ -1,9 +1,9 @@
 use Rattle.std.proofs.Common.{◌++◌, ap, ◌∙◌}
 use Rattle.std.specs.Prelude.{flat_map}
 use Rattle.std.proofs.lemmas.List.Elements.{All-weaker}
-use Rattle.net_extract.specs.declared.register.Register.{Register}
-use Rattle.net_extract.specs.declared.ram.RamCell.{RamCell}
-use Rattle.net_extract.specs.Within.{IsNetIn, IsRegisterIn, IsRamIn}
+use Rattle.fabric_model.specs.declared.register.Register.{Register}
+use Rattle.fabric_model.specs.declared.ram.RamCell.{RamCell}
+use Rattle.fabric_model.specs.Within.{IsNetIn, IsRegisterIn, IsRamIn}
 use Rattle.fabric_wiring.specs.Ends.{end_in}
 use Rattle.fabric_wiring.specs.Users.{fault_of}
 use Rattle.fabric_wiring.specs.First.{register_inputs, ram_inputs, unclocked_in, first_on}

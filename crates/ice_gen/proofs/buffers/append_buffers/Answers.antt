@@ -1,5 +1,5 @@
 use Rattle.std.proofs.Common.{ℕ, List, arith}
-use Rattle.place_search.specs.Places.{gathered_below}
+use Rattle.index_search.specs.Places.{gathered_below}
 use Rattle.plane_map.specs.Layout.{grid_width, grid_height, kind_of}
 use Rattle.asc_text.proofs.Pieces.{gathered-all}
 use Rattle.ice_gen.specs.Database.{by_cells}

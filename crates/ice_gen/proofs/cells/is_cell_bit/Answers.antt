@@ -1,8 +1,8 @@
 use Rattle.std.proofs.Common.{ℕ, ◌<◌, Bool, ◌&&◌, ◌==◌, refl, sym, ◌∙◌}
 use Rattle.std.specs.Prelude.{slice_index}
-use Rattle.place_search.specs.Places.{any_below}
-use Rattle.place_search.proofs.Places.{any_below-at, any_below-more}
-use Rattle.net_extract.specs.Cells.{entry_bits}
+use Rattle.index_search.specs.Places.{any_below}
+use Rattle.index_search.proofs.Places.{any_below-at, any_below-more}
+use Rattle.fabric_model.specs.Cells.{entry_bits}
 use Rattle.ice_gen.specs.Image.{is_cell_bit, is_entry}
 use Rattle.ice_gen.proofs.cells.is_cell_bit.Goals as goal
 

@@ -1,7 +1,7 @@
 use Rattle.std.proofs.Common.{◌≡◌, false, ◌&&◌, ◌==◌}
 use Rattle.std.specs.Prelude.{slice_index}
-use Rattle.place_search.specs.Places.{any_below}
-use Rattle.net_extract.specs.Cells.{entry_bits}
+use Rattle.index_search.specs.Places.{any_below}
+use Rattle.fabric_model.specs.Cells.{entry_bits}
 use Rattle.ice_gen.specs.Image.{is_entry}
 use Rattle.ice_gen.proofs.cells.is_cell_bit.Given as goal
 

@@ -1,5 +1,5 @@
 use Rattle.std.proofs.Common.{◌≡◌, [], ◌∷◌}
-use Rattle.place_search.specs.Places.{gathered_below}
+use Rattle.index_search.specs.Places.{gathered_below}
 use Rattle.ice_gen.specs.Draws.{draw}
 use Rattle.ice_gen.specs.Events.{event_of}
 use Rattle.ice_gen.proofs.event.events.Given as goal

@@ -1,7 +1,7 @@
 use Rattle.std.proofs.Common.{List, ℕ, [], ◌∷◌, ◌++◌}
 use Rattle.std.specs.Prelude.{codes}
 use Rattle.std.proofs.lemmas.Result.{on_ok_weaker}
-use Rattle.place_search.specs.Places.{gathered_below}
+use Rattle.index_search.specs.Places.{gathered_below}
 use Rattle.asc_text.proofs.Pieces.{lines-joined}
 use Rattle.ice_gen.specs.Database.{cell_line, device_line, head_lines, pad_drive_line, pin_type_line}
 use Rattle.ice_gen.proofs.head.append_head.Goals as goal

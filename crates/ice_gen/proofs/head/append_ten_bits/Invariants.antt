@@ -1,5 +1,5 @@
 use Rattle.std.proofs.Common.{◌≡◌, ◌+◌, ◌∷◌, ◌++◌}
-use Rattle.place_search.specs.Places.{gathered_below}
+use Rattle.index_search.specs.Places.{gathered_below}
 use Rattle.ice_gen.specs.Database.{bit_word}
 use Rattle.ice_gen.proofs.head.append_ten_bits.Given as goal
 

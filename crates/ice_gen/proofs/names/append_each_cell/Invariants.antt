@@ -1,5 +1,5 @@
 use Rattle.std.proofs.Common.{◌≡◌, ◌++◌, map}
-use Rattle.place_search.specs.Places.{gathered_below}
+use Rattle.index_search.specs.Places.{gathered_below}
 use Rattle.text_lines.specs.Written.{text_of}
 use Rattle.ice_gen.specs.Numbers.{cell_number}
 use Rattle.ice_gen.specs.Database.{name_line, cell_names}

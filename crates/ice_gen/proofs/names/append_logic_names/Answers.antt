@@ -1,7 +1,7 @@
 use Rattle.std.proofs.Common.{ℕ, List, ◌==◌, refl}
 use Rattle.std.specs.Prelude.{codes}
 use Rattle.std.proofs.lemmas.Result.{on_ok_weaker}
-use Rattle.place_search.specs.Places.{gathered_below}
+use Rattle.index_search.specs.Places.{gathered_below}
 use Rattle.ice_gen.specs.Numbers.{cell_number, clock_net}
 use Rattle.ice_gen.specs.Database.{cell_names, logic_names, name_line, named}
 use Rattle.ice_gen.proofs.Texts.{names-first, names-more}

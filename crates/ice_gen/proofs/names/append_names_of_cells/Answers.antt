@@ -1,5 +1,5 @@
 use Rattle.std.proofs.Common.{map, ap, sym, ◌∙◌}
-use Rattle.place_search.specs.Places.{gathered_below}
+use Rattle.index_search.specs.Places.{gathered_below}
 use Rattle.asc_text.proofs.Pieces.{nothing-written}
 use Rattle.ice_gen.specs.Numbers.{cell_number}
 use Rattle.ice_gen.specs.Database.{cell_names, name_line}

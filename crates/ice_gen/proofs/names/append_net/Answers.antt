@@ -1,6 +1,6 @@
 use Rattle.std.proofs.Common.{[], ◌∷◌, arith}
 use Rattle.std.specs.Prelude.{codes, decimal}
-use Rattle.place_search.specs.Places.{gathered_below}
+use Rattle.index_search.specs.Places.{gathered_below}
 use Rattle.plane_map.specs.Layout.{grid_height}
 use Rattle.asc_text.specs.Canonical.{with_word}
 use Rattle.asc_text.proofs.Pieces.{gathered-all}

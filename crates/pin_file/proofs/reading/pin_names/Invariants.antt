@@ -1,7 +1,7 @@
 use Rattle.std.proofs.Common.{◌≡◌, ◌+◌, ◌≤◌, length, drop, take}
 use Rattle.std.specs.Prelude.{None}
 use Rattle.text_lines.specs.Lines.{lines_of}
-use Rattle.place_search.specs.Places.{first_below}
+use Rattle.index_search.specs.Places.{first_below}
 use Rattle.pin_file.specs.Faults.{fault_at, ports_in}
 use Rattle.pin_file.specs.Feeding.{kept_in}
 use Rattle.pin_file.specs.inside.Reading.{AreKept}

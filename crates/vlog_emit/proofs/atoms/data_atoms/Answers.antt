@@ -1,7 +1,7 @@
 use Rattle.std.proofs.Common.{[], ◌/◌, get_or, ap, ◌∙◌}
 use Rattle.std.specs.Prelude.{None}
-use Rattle.rams_narrow.specs.Narrow.{share}
-use Rattle.net_extract.specs.Rams.{data_bit}
+use Rattle.narrow_words.specs.Narrow.{share}
+use Rattle.fabric_model.specs.Rams.{data_bit}
 use Rattle.fabric_module.specs.Rights.{atom_or_0}
 use Rattle.vlog_emit.proofs.Steps.{each-start, each-step}
 use Rattle.vlog_emit.proofs.atoms.data_atoms.Goals as goal

@@ -1,8 +1,8 @@
 use Rattle.std.proofs.Common.{◌≡◌, ◌/◌, get_or}
 use Rattle.std.specs.Prelude.{None}
-use Rattle.rams_narrow.specs.Narrow.{share}
-use Rattle.net_extract.specs.Tiles.{each_below}
-use Rattle.net_extract.specs.Rams.{data_bit}
+use Rattle.narrow_words.specs.Narrow.{share}
+use Rattle.fabric_model.specs.Tiles.{each_below}
+use Rattle.fabric_model.specs.Rams.{data_bit}
 use Rattle.fabric_module.specs.Rights.{atom_or_0}
 use Rattle.vlog_emit.specs.Each.{EachFabric}
 use Rattle.vlog_emit.proofs.atoms.data_atoms.Given as goal

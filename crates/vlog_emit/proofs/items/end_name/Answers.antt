@@ -1,6 +1,6 @@
 use Rattle.std.proofs.Common.{sym, ap, ◌∙◌}
 use Rattle.std.specs.Prelude.{Some}
-use Rattle.net_extract.specs.Clocks.ClockEnd.{at_pin, undriven, logic}
+use Rattle.fabric_model.specs.Clocks.ClockEnd.{at_pin, undriven, logic}
 use Rattle.vlog_emit.proofs.Kept.{clock-end}
 use Rattle.vlog_emit.proofs.Within.{clock-within}
 use Rattle.vlog_emit.proofs.items.end_name.Goals as goal

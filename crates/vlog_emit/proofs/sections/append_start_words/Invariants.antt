@@ -1,5 +1,5 @@
 use Rattle.std.proofs.Common.{◌≡◌, ◌++◌, [], get_or}
-use Rattle.net_extract.specs.Tiles.{each_below}
+use Rattle.fabric_model.specs.Tiles.{each_below}
 use Rattle.fabric_module.specs.Written.{start_item}
 use Rattle.vlog_emit.specs.Each.{EachFabric}
 use Rattle.vlog_emit.proofs.sections.append_start_words.Given as goal

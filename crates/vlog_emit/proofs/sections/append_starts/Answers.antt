@@ -1,6 +1,6 @@
 use Rattle.std.proofs.Common.{arith}
 use Rattle.fabric_module.specs.Written.{start_items}
-use Rattle.net_extract.proofs.Numbered.{numbered-none, numbered-more}
+use Rattle.fabric_model.proofs.Numbered.{numbered-none, numbered-more}
 use Rattle.vlog_emit.proofs.sections.append_starts.Goals as goal
 
 pub loop-place-init : goal.loop-place-init

@@ -1,5 +1,5 @@
 use Rattle.std.proofs.Common.{◌≡◌, ◌++◌, flat_map, take}
-use Rattle.net_extract.specs.Fabric.{numbered}
+use Rattle.fabric_model.specs.Fabric.{numbered}
 use Rattle.fabric_module.specs.Written.{start_items}
 use Rattle.vlog_emit.specs.Each.{EachFabric}
 use Rattle.vlog_emit.proofs.sections.append_starts.Given as goal

@@ -1,6 +1,6 @@
 use Rattle.std.proofs.Common.{◌++◌, List, ap, false, flat_map, get_or, sym, take, ◌∙◌}
 use Rattle.std.proofs.lemmas.List.{flat_map_more, take_more}
-use Rattle.vlog_plan.specs.declared.event.Event.{Event}
+use Rattle.vlog_semantics.specs.declared.event.Event.{Event}
 use Rattle.vlog_sweep.proofs.beginning.add_lines.Goals as goal
 
 pub loop-event-preserved : goal.loop-event-preserved

@@ -1,8 +1,8 @@
 use Rattle.std.proofs.Common.{◌≡◌, false, map, take}
 use Rattle.std.specs.Prelude.{All}
 use Rattle.vlog_module.specs.Parts.{Parts}
-use Rattle.vlog_plan.specs.Run.{start}
-use Rattle.vlog_cycle.specs.Text.{entry_line}
+use Rattle.vlog_semantics.specs.Run.{start}
+use Rattle.vlog_run.specs.Text.{entry_line}
 use Rattle.vlog_sweep.specs.Strands.{Stands}
 use Rattle.vlog_sweep.proofs.beginning.begin.Given as goal
 

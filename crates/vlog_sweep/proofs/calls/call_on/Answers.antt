@@ -1,7 +1,7 @@
 use Rattle.std.proofs.Common.{ℕ, Bool, ap, arith, sym, ◌∙◌}
 use Rattle.vlog_sweep.specs.Strands.{has_bit, is_on, next_of}
 use Rattle.vlog_sweep.specs.declared.strand.Strand.{Strand}
-use Rattle.vlog_plan.proofs.Numbers.{byte_lt, number-next, number-none}
+use Rattle.vlog_semantics.proofs.Numbers.{byte_lt, number-next, number-none}
 use Rattle.vlog_sweep.proofs.Bits.{number-room}
 use Rattle.vlog_sweep.proofs.calls.call_on.Goals as goal
 

@@ -1,6 +1,6 @@
 use Rattle.std.proofs.Common.{◌≡◌, drop}
 use Rattle.std.specs.Prelude.{map}
-use Rattle.vlog_plan.specs.Values.{number_of}
+use Rattle.vlog_semantics.specs.Values.{number_of}
 use Rattle.vlog_sweep.specs.Strands.{has_bit, is_on, next_of}
 use Rattle.vlog_sweep.proofs.calls.call_on.Given as goal
 

@@ -1,6 +1,6 @@
 use Rattle.std.proofs.Common.{◌≡◌, take}
 use Rattle.std.specs.Prelude.{map}
-use Rattle.vlog_cycle.specs.Text.{bit_digit}
+use Rattle.vlog_run.specs.Text.{bit_digit}
 use Rattle.vlog_lanes.specs.Lanes.{lane_of}
 use Rattle.vlog_sweep.proofs.lines.fill_line.Given as goal
 

@@ -3,9 +3,9 @@ use Rattle.std.specs.List.{sum_by}
 use Rattle.std.specs.Vec.{with_items}
 use Rattle.std.proofs.lemmas.List.{length-map, with_items_is}
 use Rattle.vlog_module.specs.Parts.{Parts}
-use Rattle.vlog_plan.specs.Run.{followed, input_names, start}
-use Rattle.vlog_plan.specs.Values.{bit_of}
-use Rattle.vlog_cycle.specs.Text.{entry_line}
+use Rattle.vlog_semantics.specs.Run.{followed, input_names, start}
+use Rattle.vlog_semantics.specs.Values.{bit_of}
+use Rattle.vlog_run.specs.Text.{entry_line}
 use Rattle.vlog_lanes.specs.declared.call.Call.{Call}
 use Rattle.vlog_lanes.specs.Showing.{Shows}
 use Rattle.vlog_sweep.specs.Strands.{Stands, entry_of, is_on, left_of, next_of}

@@ -1,6 +1,6 @@
 use Rattle.std.proofs.Common.{◌≡◌, ◌+◌, ◌<◌, ℕ, Bool, cond, false, true, ap, arith, get_or, length, set, subst, sym, ◌∙◌}
-use Rattle.vlog_plan.specs.Values.{bit_of}
-use Rattle.vlog_cycle.specs.Text.{entry_line}
+use Rattle.vlog_semantics.specs.Values.{bit_of}
+use Rattle.vlog_run.specs.Text.{entry_line}
 use Rattle.vlog_sweep.specs.Strands.{Stands, line_of, line_put, next_entry, stepped}
 use Rattle.vlog_sweep.specs.declared.strand.Strand.{Strand}
 use Rattle.vlog_sweep.proofs.ByTurns.{ahead-more, done-more, line-size, text-more}

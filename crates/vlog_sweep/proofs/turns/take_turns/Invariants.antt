@@ -1,7 +1,7 @@
 use Rattle.std.proofs.Common.{◌≡◌, ◌<◌, ◌≤◌, ◌+◌, ℕ, List, cond, false, get_or, length, true}
 use Rattle.vlog_module.specs.Parts.{Parts}
-use Rattle.vlog_plan.specs.Values.{bit_of}
-use Rattle.vlog_cycle.specs.Text.{entry_line}
+use Rattle.vlog_semantics.specs.Values.{bit_of}
+use Rattle.vlog_run.specs.Text.{entry_line}
 use Rattle.vlog_sweep.specs.Strands.{Stands, line_of, next_entry, stepped}
 use Rattle.vlog_sweep.specs.declared.strand.Strand.{Strand}
 use Rattle.vlog_sweep.proofs.turns.take_turns.Given as goal

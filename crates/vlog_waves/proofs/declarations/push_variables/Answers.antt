@@ -4,7 +4,7 @@ use Rattle.std.proofs.lemmas.Result.{on_ok_weaker}
 use Rattle.text_lines.specs.Written.{text_of}
 use Rattle.vlog_module.specs.declared.item.Item.{Item}
 use Rattle.vlog_module.specs.declared.modules.Port.{Port}
-use Rattle.vlog_plan.specs.ModuleSlots.{register_names, wire_names, word_names}
+use Rattle.vlog_semantics.specs.ModuleSlots.{register_names, wire_names, word_names}
 use Rattle.vlog_waves.specs.Variables.{Variable, of_kind, variables_of}
 use Rattle.vlog_waves.specs.Variables.Kind.{wire_kind, register_kind, word_kind}
 use Rattle.vlog_waves.specs.Waves.{variable_lines}

@@ -1,6 +1,6 @@
 use Rattle.std.proofs.Common.{List, ap, arith, drop_of_length-le, length}
 use Rattle.vlog_module.specs.declared.item.Item.{Item}
-use Rattle.vlog_plan.specs.ModuleSlots.{wire_names}
+use Rattle.vlog_semantics.specs.ModuleSlots.{wire_names}
 use Rattle.vlog_waves.specs.declared.items.Kind.TheVariants.{Wire}
 use Rattle.vlog_waves.proofs.Declared.{count-next}
 use Rattle.vlog_waves.proofs.items.count_wires.Goals as goal

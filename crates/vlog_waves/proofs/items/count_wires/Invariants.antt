@@ -1,5 +1,5 @@
 use Rattle.std.proofs.Common.{◌≡◌, ◌+◌, ◌≤◌, drop, length}
-use Rattle.vlog_plan.specs.ModuleSlots.{wire_names}
+use Rattle.vlog_semantics.specs.ModuleSlots.{wire_names}
 use Rattle.vlog_waves.proofs.items.count_wires.Given as goal
 
 abbrev pub invariant-loop-item : goal.invariant-loop-item

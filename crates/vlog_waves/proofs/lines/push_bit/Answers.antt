@@ -1,6 +1,6 @@
 use Rattle.std.proofs.Common.{◌≡◌, ◌∙◌, ◌+◌, ◌<◌, vec_capacity, vec_len, ℕ, List, [], ◌∷◌, ◌++◌, ap, arith, length, length-append, suc, refl}
 use Rattle.std.proofs.lemmas.Result.{on_err_weaker, on_ok_weaker}
-use Rattle.vlog_cycle.specs.Text.{bit_digit}
+use Rattle.vlog_run.specs.Text.{bit_digit}
 use Rattle.vlog_waves.specs.Waves.{identifier}
 use Rattle.text_lines.specs.Written.{text_of}
 use Rattle.vlog_waves.proofs.Texts.{failed, length-one, short-made}

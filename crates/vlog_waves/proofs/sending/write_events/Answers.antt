@@ -2,8 +2,8 @@ use Rattle.std.proofs.Common.{◌≡◌, ◌∙◌, add-one, refl, ◌+◌, ◌*
 use Rattle.std.proofs.lemmas.Nat.{mul-le}
 use Rattle.std.proofs.Math.Nat.{suc-mul}
 use Rattle.text_lines.specs.Written.{text_of}
-use Rattle.vlog_plan.specs.declared.event.Event.{Event}
-use Rattle.vlog_plan.proofs.Runs.{last_entry}
+use Rattle.vlog_semantics.specs.declared.event.Event.{Event}
+use Rattle.vlog_semantics.proofs.Runs.{last_entry}
 use Rattle.vlog_waves.specs.inside.Sent.{Sends}
 use Rattle.vlog_waves.specs.inside.Tracing.{lines_after, lines_of_event}
 use Rattle.vlog_waves.specs.inside.Values.{event_room}

@@ -1,7 +1,7 @@
 use Rattle.std.proofs.Common.{◌≡◌, ◌+◌, ◌*◌, ◌≤◌}
 use Rattle.vlog_module.specs.Parts.{Parts}
-use Rattle.vlog_plan.specs.Entries.{Entry}
-use Rattle.vlog_cycle.specs.Showing.{input_count}
+use Rattle.vlog_semantics.specs.Entries.{Entry}
+use Rattle.vlog_run.specs.Showing.{input_count}
 use Rattle.vlog_waves.specs.inside.Tracing.{Traces}
 use Rattle.vlog_waves.specs.inside.Values.{event_room}
 use Rattle.vlog_waves.proofs.Tracing.{Going}

@@ -1,6 +1,6 @@
 use Rattle.std.proofs.Common.{◌≡◌, ◌∙◌, ◌++◌, Err, ap, subst, sym}
 use Rattle.text_lines.specs.Written.{text_of}
-use Rattle.vlog_plan.specs.Run.{start}
+use Rattle.vlog_semantics.specs.Run.{start}
 use Rattle.vlog_waves.specs.Waves.{waves_text}
 use Rattle.vlog_waves.specs.inside.Sent.{Sends}
 use Rattle.vlog_waves.specs.inside.Tracing.{lines_after}

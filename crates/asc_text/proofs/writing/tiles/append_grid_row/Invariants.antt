@@ -1,5 +1,5 @@
 use Rattle.std.proofs.Common.{◌≡◌, ◌+◌, ◌*◌, ◌≤◌, ◌++◌, vec_len, vec_capacity}
-use Rattle.place_search.specs.Places.{gathered_below}
+use Rattle.index_search.specs.Places.{gathered_below}
 use Rattle.text_lines.specs.Written.{text_of}
 use Rattle.plane_map.specs.Layout.{kind_of}
 use Rattle.ice_image.specs.Either.{configuration_of}

@@ -2,7 +2,7 @@ use Rattle.std.proofs.Common.{ℕ, List, [], ◌∷◌, arith}
 use Rattle.ice_image.specs.Either.{configuration_of}
 use Rattle.asc_text.specs.Statements.{ram_data_keyword}
 use Rattle.asc_text.specs.Canonical.{grid_line, memory_line}
-use Rattle.place_search.specs.Places.{gathered_below}
+use Rattle.index_search.specs.Places.{gathered_below}
 use Rattle.asc_text.proofs.Pieces.{lines-joined, gathered-all}
 use Rattle.asc_text.proofs.writing.tiles.append_ram.Goals as goal
 

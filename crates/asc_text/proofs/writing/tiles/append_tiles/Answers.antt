@@ -1,5 +1,5 @@
 use Rattle.std.proofs.Common.{ℕ, List, ◌≡◌, ap, arith}
-use Rattle.place_search.specs.Places.{gathered_below}
+use Rattle.index_search.specs.Places.{gathered_below}
 use Rattle.plane_map.specs.Layout.{kind_of, grid_width, grid_height}
 use Rattle.ice_image.specs.Either.{configuration_of, device_of}
 use Rattle.asc_text.specs.Canonical.{lines_of_tile_at}

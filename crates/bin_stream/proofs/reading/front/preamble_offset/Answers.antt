@@ -1,5 +1,5 @@
 use Rattle.std.proofs.Common.{◌≡◌, true, length, sym, rules, arith}
-use Rattle.place_search.proofs.Places.{least_below-first, least_below-none}
+use Rattle.index_search.proofs.Places.{least_below-first, least_below-none}
 use Rattle.bin_stream.specs.Front.{is_preamble_at, preamble_offset}
 use Rattle.bin_stream.proofs.reading.front.preamble_offset.Goals as goal
 

@@ -1,9 +1,9 @@
 use Rattle.std.proofs.Common.{◌≡◌, ◌++◌, arith, ap, ◌∙◌}
-use Rattle.place_search.proofs.Gathered.{appended-none, appended-more}
-use Rattle.place_search.specs.Places.{gathered_below}
+use Rattle.index_search.proofs.Gathered.{appended-none, appended-more}
+use Rattle.index_search.specs.Places.{gathered_below}
 use Rattle.ice_image.specs.Either.{configuration_of}
 use Rattle.chipdb_reader.specs.Kept.{database_in}
-use Rattle.net_extract.specs.Pins.{port_at}
+use Rattle.fabric_model.specs.Pins.{port_at}
 use Rattle.fabric_parts.proofs.io.gather.append_ports.Goals as goal
 
 pub loop-n-init : goal.loop-n-init

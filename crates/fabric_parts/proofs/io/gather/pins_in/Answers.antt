@@ -3,8 +3,8 @@ use Rattle.std.specs.Prelude.{All}
 use Rattle.plane_map.specs.declared.tile.TileKind.TheVariants.{Io}
 use Rattle.ice_image.specs.Either.{configuration_of}
 use Rattle.chipdb_reader.specs.Kept.{database_in}
-use Rattle.net_extract.specs.declared.pin.Pin.{Pin}
-use Rattle.net_extract.specs.TilesOfKind.{HasTile}
+use Rattle.fabric_model.specs.declared.pin.Pin.{Pin}
+use Rattle.fabric_model.specs.TilesOfKind.{HasTile}
 use Rattle.fabric_parts.proofs.PinsListed.{pins_listed, pins_placed}
 use Rattle.fabric_parts.proofs.io.gather.pins_in.Goals as goal
 

@@ -1,7 +1,7 @@
 use Rattle.std.specs.Prelude.{None, Some}
 use Rattle.ice_image.specs.Either.{configuration_of}
 use Rattle.chipdb_reader.specs.Kept.{database_in}
-use Rattle.net_extract.specs.Faults.Fault.{pll, pin_mode}
+use Rattle.fabric_model.specs.Faults.Fault.{pll, pin_mode}
 use Rattle.fabric_parts.proofs.PinsListed.{fault_listed, pll_listed}
 use Rattle.fabric_parts.proofs.io.gather.taken.Goals as goal
 

@@ -1,8 +1,8 @@
 use Rattle.std.proofs.Common.{◌≡◌, ◌++◌, map, arith, ap, ◌∙◌}
-use Rattle.place_search.specs.Places.{gathered_below}
+use Rattle.index_search.specs.Places.{gathered_below}
 use Rattle.chipdb_reader.specs.Kept.{database_in}
-use Rattle.net_extract.specs.Tiles.{item_if}
-use Rattle.net_extract.specs.Pins.{global_nets, is_global_net}
+use Rattle.fabric_model.specs.Tiles.{item_if}
+use Rattle.fabric_model.specs.Pins.{global_nets, is_global_net}
 use Rattle.fabric_parts.specs.Globals.{global_net}
 use Rattle.fabric_parts.proofs.Sources.{made-none, made-more}
 use Rattle.fabric_parts.proofs.io.globals.append_nets.Goals as goal

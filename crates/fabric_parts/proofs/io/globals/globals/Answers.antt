@@ -1,9 +1,9 @@
 use Rattle.std.proofs.Common.{◌≡◌, arith, ap, ◌∙◌}
-use Rattle.place_search.specs.Places.{gathered_below}
+use Rattle.index_search.specs.Places.{gathered_below}
 use Rattle.ice_image.specs.Either.{configuration_of}
 use Rattle.chipdb_reader.specs.Kept.{database_in}
-use Rattle.net_extract.specs.Pins.{globals_of, nets_from, global_source}
-use Rattle.net_extract.proofs.InOrder.{grown_alone-more}
+use Rattle.fabric_model.specs.Pins.{globals_of, nets_from, global_source}
+use Rattle.fabric_model.proofs.InOrder.{grown_alone-more}
 use Rattle.fabric_parts.proofs.io.globals.globals.Goals as goal
 
 pub loop-g-init : goal.loop-g-init

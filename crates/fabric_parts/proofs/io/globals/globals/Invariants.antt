@@ -1,8 +1,8 @@
 use Rattle.std.proofs.Common.{◌≡◌}
-use Rattle.place_search.specs.Places.{gathered_below}
+use Rattle.index_search.specs.Places.{gathered_below}
 use Rattle.ice_image.specs.Either.{configuration_of}
 use Rattle.chipdb_reader.specs.Kept.{database_in}
-use Rattle.net_extract.specs.Pins.{nets_from, global_source}
+use Rattle.fabric_model.specs.Pins.{nets_from, global_source}
 use Rattle.fabric_parts.proofs.io.globals.globals.Given as goal
 
 abbrev pub invariant-loop-g : goal.invariant-loop-g

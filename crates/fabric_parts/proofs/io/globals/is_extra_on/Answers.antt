@@ -2,7 +2,7 @@ use Rattle.std.proofs.Common.{sym, subst}
 use Rattle.plane_map.specs.Layout.{IsInCram}
 use Rattle.plane_map.specs.declared.device.DeviceName.{DeviceName}
 use Rattle.chipdb_reader.specs.Kept.{database_in}
-use Rattle.net_extract.proofs.Nets.{extra_place-inside}
+use Rattle.fabric_model.proofs.Nets.{extra_place-inside}
 use Rattle.fabric_parts.proofs.io.globals.is_extra_on.Goals as goal
 
 pub cram_bit-requires : goal.cram_bit-requires

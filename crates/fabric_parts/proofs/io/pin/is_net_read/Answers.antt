@@ -1,8 +1,8 @@
 use Rattle.std.proofs.Common.{◌<◌, ℕ, length, sym, subst}
 use Rattle.std.specs.Prelude.{Option, IfSome, codes}
 use Rattle.chipdb_reader.specs.Kept.{database_in}
-use Rattle.net_extract.specs.Nets.{with_number}
-use Rattle.net_extract.proofs.Nets.{net_named-inside}
+use Rattle.fabric_model.specs.Nets.{with_number}
+use Rattle.fabric_model.proofs.Nets.{net_named-inside}
 use Rattle.fabric_parts.proofs.io.pin.is_net_read.Goals as goal
 
 pub is_some_read-requires : goal.is_some_read-requires

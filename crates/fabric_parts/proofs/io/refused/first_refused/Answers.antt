@@ -1,12 +1,12 @@
 use Rattle.std.proofs.Common.{[], List, arith, ap, sym}
-use Rattle.net_extract.proofs.Firsts.{first_of-none}
+use Rattle.fabric_model.proofs.Firsts.{first_of-none}
 use Rattle.ice_image.specs.Either.{configuration_of}
 use Rattle.chipdb_reader.specs.Kept.{database_in}
 use Rattle.chipdb_reader.specs.declared.items.TileXy8.{TileXy8}
-use Rattle.net_extract.specs.Faults.{Fault}
-use Rattle.net_extract.specs.Faults.Fault.{pin_mode}
-use Rattle.net_extract.specs.Tiles.{first_of}
-use Rattle.net_extract.proofs.InOrder.{none_listed-more, first_of-flat_map, gathered-all}
+use Rattle.fabric_model.specs.Faults.{Fault}
+use Rattle.fabric_model.specs.Faults.Fault.{pin_mode}
+use Rattle.fabric_model.specs.Tiles.{first_of}
+use Rattle.fabric_model.proofs.InOrder.{none_listed-more, first_of-flat_map, gathered-all}
 use Rattle.fabric_parts.specs.PinFaults.{pin_faults_in}
 use Rattle.fabric_parts.proofs.io.refused.first_refused.Goals as goal
 

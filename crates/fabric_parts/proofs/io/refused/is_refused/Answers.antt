@@ -3,10 +3,10 @@ use Rattle.std.specs.Prelude.{not, codes, Option, ℕ}
 use Rattle.plane_map.specs.declared.tile.TileKind.TheVariants.{Io}
 use Rattle.ice_image.specs.Either.{configuration_of}
 use Rattle.chipdb_reader.specs.Kept.{database_in}
-use Rattle.net_extract.specs.Nets.{is_some_read}
-use Rattle.net_extract.specs.On.{is_function_on}
-use Rattle.net_extract.specs.Pins.{is_refused_with, is_input_read, has_no_output, is_output_pin, has_plain_input, is_registered_input, has_tri_state_output, is_plain_input, is_port, is_global_pad, io_net}
-use Rattle.net_extract.proofs.Nets.{is_some_read-same}
+use Rattle.fabric_model.specs.Nets.{is_some_read}
+use Rattle.fabric_model.specs.On.{is_function_on}
+use Rattle.fabric_model.specs.Pins.{is_refused_with, is_input_read, has_no_output, is_output_pin, has_plain_input, is_registered_input, has_tri_state_output, is_plain_input, is_port, is_global_pad, io_net}
+use Rattle.fabric_model.proofs.Nets.{is_some_read-same}
 use Rattle.fabric_parts.proofs.Sources.{six_tests, first_passes, first_fails}
 use Rattle.fabric_parts.proofs.io.refused.is_refused.Goals as goal
 

@@ -1,14 +1,14 @@
 use Rattle.std.proofs.Common.{◌≡◌, arith, ap, sym, ◌∙◌, refl}
 use Rattle.std.specs.Prelude.{Some}
-use Rattle.net_extract.proofs.Firsts.{first_of-gathered_below}
-use Rattle.place_search.specs.Places.{gathered_below}
+use Rattle.fabric_model.proofs.Firsts.{first_of-gathered_below}
+use Rattle.index_search.specs.Places.{gathered_below}
 use Rattle.ice_image.specs.Either.{configuration_of}
 use Rattle.chipdb_reader.specs.Kept.{database_in}
-use Rattle.net_extract.specs.Pins.{pintype_of, is_refused_with}
-use Rattle.net_extract.specs.Faults.{pin_fault_at}
-use Rattle.net_extract.specs.Faults.Fault.{pin_mode}
-use Rattle.net_extract.specs.Tiles.{first_of}
-use Rattle.net_extract.proofs.InOrder.{none-more, item_if-item, item_if-none}
+use Rattle.fabric_model.specs.Pins.{pintype_of, is_refused_with}
+use Rattle.fabric_model.specs.Faults.{pin_fault_at}
+use Rattle.fabric_model.specs.Faults.Fault.{pin_mode}
+use Rattle.fabric_model.specs.Tiles.{first_of}
+use Rattle.fabric_model.proofs.InOrder.{none-more, item_if-item, item_if-none}
 use Rattle.fabric_parts.proofs.io.refused.refused_in.Goals as goal
 
 pub loop-n-init : goal.loop-n-init

@@ -1,12 +1,12 @@
 use Rattle.std.proofs.Common.{List, arith, ◌∙◌}
 use Rattle.ice_image.specs.Either.{configuration_of}
 use Rattle.chipdb_reader.specs.Kept.{database_in}
-use Rattle.net_extract.specs.declared.pin.Pin.{Pin}
-use Rattle.net_extract.specs.declared.register.Register.{Register}
-use Rattle.net_extract.specs.Tiles.{item_if}
-use Rattle.net_extract.specs.Pins.{is_registered}
-use Rattle.net_extract.specs.Registers.{pin_register}
-use Rattle.net_extract.proofs.InOrder.{gathered-all}
+use Rattle.fabric_model.specs.declared.pin.Pin.{Pin}
+use Rattle.fabric_model.specs.declared.register.Register.{Register}
+use Rattle.fabric_model.specs.Tiles.{item_if}
+use Rattle.fabric_model.specs.Pins.{is_registered}
+use Rattle.fabric_model.specs.Registers.{pin_register}
+use Rattle.fabric_model.proofs.InOrder.{gathered-all}
 use Rattle.fabric_parts.proofs.RegistersListed.{registers_listed}
 use Rattle.fabric_parts.proofs.io.registers.registers.Goals as goal
 

@@ -1,4 +1,4 @@
-use Rattle.net_extract.specs.Cells.{cell_with}
+use Rattle.fabric_model.specs.Cells.{cell_with}
 use Rattle.fabric_parts.proofs.logic.cell.cell.Goals as goal
 
 pub returns : goal.returns

@@ -3,8 +3,8 @@ use Rattle.std.specs.Prelude.{codes}
 use Rattle.plane_map.specs.declared.tile.TileKind.TheVariants.{Logic}
 use Rattle.ice_image.specs.Either.{configuration_of}
 use Rattle.chipdb_reader.specs.Kept.{database_in}
-use Rattle.net_extract.specs.Nets.{net_named}
-use Rattle.net_extract.specs.On.{is_function_on}
+use Rattle.fabric_model.specs.Nets.{net_named}
+use Rattle.fabric_model.specs.On.{is_function_on}
 use Rattle.fabric_parts.proofs.CellsFound.{set-missing, set-there}
 use Rattle.fabric_parts.proofs.logic.gather.append_set.Goals as goal
 

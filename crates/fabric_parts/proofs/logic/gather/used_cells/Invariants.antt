@@ -3,7 +3,7 @@ use Rattle.std.specs.List.{flat_map}
 use Rattle.ice_image.specs.Either.{configuration_of}
 use Rattle.chipdb_reader.specs.Kept.{database_in}
 use Rattle.chipdb_reader.specs.declared.items.TileXy8.{TileXy8}
-use Rattle.net_extract.specs.Cells.{cells_at}
+use Rattle.fabric_model.specs.Cells.{cells_at}
 use Rattle.fabric_parts.proofs.logic.gather.used_cells.Given as goal
 
 abbrev pub invariant-loop-tile : goal.invariant-loop-tile

@@ -2,11 +2,11 @@ use Rattle.std.proofs.Common.{[], List, get_or, arith, ap, sym, ◌∙◌}
 use Rattle.ice_image.specs.Either.{configuration_of}
 use Rattle.chipdb_reader.specs.Kept.{database_in}
 use Rattle.chipdb_reader.specs.declared.items.TileXy8.{TileXy8}
-use Rattle.net_extract.specs.Faults.{Fault}
-use Rattle.net_extract.specs.Faults.Fault.{cascade}
-use Rattle.net_extract.specs.Tiles.{first_of}
-use Rattle.net_extract.specs.Rams.{is_cascaded}
-use Rattle.net_extract.proofs.InOrder.{none_listed-more, first_of-flat_map, gathered-all, item_if-item, item_if-none}
+use Rattle.fabric_model.specs.Faults.{Fault}
+use Rattle.fabric_model.specs.Faults.Fault.{cascade}
+use Rattle.fabric_model.specs.Tiles.{first_of}
+use Rattle.fabric_model.specs.Rams.{is_cascaded}
+use Rattle.fabric_model.proofs.InOrder.{none_listed-more, first_of-flat_map, gathered-all, item_if-item, item_if-none}
 use Rattle.fabric_parts.specs.RamFaults.{cascade_at}
 use Rattle.fabric_parts.proofs.ram.cascade.first_cascaded.Goals as goal
 

@@ -4,7 +4,7 @@ use Rattle.std.proofs.lemmas.List.Elements.{All-filter}
 use Rattle.ice_image.specs.Either.{configuration_of}
 use Rattle.chipdb_reader.specs.Kept.{database_in}
 use Rattle.chipdb_reader.specs.declared.items.TileXy8.{TileXy8}
-use Rattle.net_extract.specs.Rams.{is_ram_used}
+use Rattle.fabric_model.specs.Rams.{is_ram_used}
 use Rattle.fabric_parts.specs.Rams.{HasRam}
 use Rattle.fabric_parts.proofs.Upper.{have_rams}
 use Rattle.fabric_parts.proofs.ram.gather.rams.Goals as goal

@@ -1,11 +1,11 @@
 use Rattle.std.proofs.Common.{◌≡◌, ◌≤◌, ◌<◌, ℕ, List, [], ◌∷◌, ◌++◌, take_all, length, length-set, arith, ap, sym, ◌∙◌, refl}
 use Rattle.std.specs.Prelude.{Option}
 use Rattle.std.proofs.lemmas.List.{take_more_set, length-replicate}
-use Rattle.place_search.specs.Places.{gathered_below}
-use Rattle.place_search.proofs.Places.{gathered_below-more}
+use Rattle.index_search.specs.Places.{gathered_below}
+use Rattle.index_search.proofs.Places.{gathered_below-more}
 use Rattle.chipdb_reader.specs.Kept.{database_in}
-use Rattle.net_extract.specs.Nets.{ending_in}
-use Rattle.net_extract.specs.Rams.{port_net}
+use Rattle.fabric_model.specs.Nets.{ending_in}
+use Rattle.fabric_model.specs.Rams.{port_net}
 use Rattle.fabric_parts.proofs.ram.ports.numbered_nets.Goals as goal
 
 pub loop-k-init : goal.loop-k-init

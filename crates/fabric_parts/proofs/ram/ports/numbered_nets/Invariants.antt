@@ -1,8 +1,8 @@
 use Rattle.std.proofs.Common.{◌≡◌, take, length}
 use Rattle.chipdb_reader.specs.Kept.{database_in}
-use Rattle.net_extract.specs.Nets.{ending_in}
-use Rattle.net_extract.specs.Rams.{port_net}
-use Rattle.net_extract.specs.Tiles.{each_below}
+use Rattle.fabric_model.specs.Nets.{ending_in}
+use Rattle.fabric_model.specs.Rams.{port_net}
+use Rattle.fabric_model.specs.Tiles.{each_below}
 use Rattle.fabric_parts.proofs.ram.ports.numbered_nets.Given as goal
 
 abbrev pub invariant-loop-k : goal.invariant-loop-k

@@ -1,4 +1,4 @@
-use Rattle.net_extract.specs.Rams.{ram_at}
+use Rattle.fabric_model.specs.Rams.{ram_at}
 use Rattle.fabric_parts.proofs.ram.ram.ram.Goals as goal
 
 pub returns : goal.returns

@@ -1,13 +1,13 @@
 use Rattle.std.proofs.Common.{◌≡◌, ◌<◌, ℕ, Bool, false, length, arith, ap, sym, ◌∙◌, refl, subst}
 use Rattle.std.specs.Prelude.{Option, IfSome, codes}
-use Rattle.place_search.specs.Places.{any_below}
-use Rattle.place_search.proofs.Places.{any_below-more, any_below-at}
+use Rattle.index_search.specs.Places.{any_below}
+use Rattle.index_search.proofs.Places.{any_below-more, any_below-at}
 use Rattle.ice_image.specs.Either.{configuration_of}
 use Rattle.chipdb_reader.specs.Kept.{database_in}
-use Rattle.net_extract.specs.Nets.{is_some_read, ending_in}
-use Rattle.net_extract.specs.Rams.{ram_net, port_net, is_ram_used}
-use Rattle.net_extract.specs.BelongTogether.{is_some_read_in}
-use Rattle.net_extract.proofs.Nets.{is_some_read-same}
+use Rattle.fabric_model.specs.Nets.{is_some_read, ending_in}
+use Rattle.fabric_model.specs.Rams.{ram_net, port_net, is_ram_used}
+use Rattle.fabric_model.specs.BelongTogether.{is_some_read_in}
+use Rattle.fabric_model.proofs.Nets.{is_some_read-same}
 use Rattle.fabric_parts.proofs.RamsListed.{port_net-inside}
 use Rattle.fabric_parts.proofs.ram.used.is_used.Goals as goal
 

@@ -2,7 +2,7 @@ use Rattle.std.proofs.Common.{◌≡◌, ◌∷◌, drop, refl, sym, ◌∙◌, 
 use Rattle.std.proofs.lemmas.Result.{err_from_is_err_and}
 use Rattle.shared_lemmas.proofs.Cuts.{drop_cons}
 use Rattle.text_lines.specs.Lines.{lines_of}
-use Rattle.place_search.specs.Places.{first_below}
+use Rattle.index_search.specs.Places.{first_below}
 use Rattle.layout_file.specs.Layouts.{layouts_in}
 use Rattle.layout_file.specs.inside.Reading.{layouts_of}
 use Rattle.layout_file.proofs.ByDevice.{read-are}

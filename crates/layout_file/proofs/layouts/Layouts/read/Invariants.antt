@@ -1,7 +1,7 @@
 use Rattle.std.proofs.Common.{◌≡◌, ◌+◌, ◌≤◌, length, drop}
 use Rattle.std.specs.Prelude.{None}
 use Rattle.text_lines.specs.Lines.{lines_of}
-use Rattle.place_search.specs.Places.{first_below}
+use Rattle.index_search.specs.Places.{first_below}
 use Rattle.layout_file.specs.Faults.{fault_at}
 use Rattle.layout_file.proofs.LineSteps.{reader_before}
 use Rattle.layout_file.proofs.layouts.Layouts.read.Given as goal

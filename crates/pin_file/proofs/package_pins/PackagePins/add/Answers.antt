@@ -4,7 +4,7 @@ use Rattle.std.specs.Map.{lookup}
 use Rattle.std.proofs.lemmas.Result.{on_ok_weaker}
 use Rattle.shared_lemmas.proofs.Options.{none_from_is_some}
 use Rattle.shared_lemmas.proofs.Bytes.{bytes_eq-turned}
-use Rattle.place_search.specs.Places.{or_else}
+use Rattle.index_search.specs.Places.{or_else}
 use Rattle.pin_file.specs.Feeding.{place_kept}
 use Rattle.pin_file.proofs.PinSteps.{lookup-push, place-stays}
 use Rattle.pin_file.proofs.package_pins.PackagePins.add.Goals as goal

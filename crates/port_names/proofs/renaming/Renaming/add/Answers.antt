@@ -4,9 +4,9 @@ use Rattle.std.specs.Map.{lookup}
 use Rattle.std.proofs.lemmas.Result.{on_ok_weaker}
 use Rattle.shared_lemmas.proofs.Options.{none_from_is_some}
 use Rattle.shared_lemmas.proofs.Bytes.{bytes_eq-turned}
-use Rattle.place_search.specs.Places.{or_else}
+use Rattle.index_search.specs.Places.{or_else}
 use Rattle.vlog_module.specs.Maps.{value_in}
-use Rattle.vlog_plan.proofs.Lookups.{lookup-push, value_in-push, value_in-known}
+use Rattle.vlog_semantics.proofs.Lookups.{lookup-push, value_in-push, value_in-known}
 use Rattle.port_names.specs.Listed.{Lists, listed_in}
 use Rattle.port_names.proofs.renaming.Renaming.add.Goals as goal
 

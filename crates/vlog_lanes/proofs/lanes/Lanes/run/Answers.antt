@@ -1,7 +1,7 @@
 use Rattle.std.proofs.Common.{◌<◌, ◌∙◌, ap, arith, fold, length, subst, sym, take, take_all}
 use Rattle.std.proofs.lemmas.List.Sums.{fold_more}
-use Rattle.vlog_plan.specs.Run.{module_run, start}
-use Rattle.vlog_plan.proofs.Runs.{last-run}
+use Rattle.vlog_semantics.specs.Run.{module_run, start}
+use Rattle.vlog_semantics.proofs.Runs.{last-run}
 use Rattle.vlog_lanes.specs.declared.call.Call.{Call}
 use Rattle.vlog_lanes.specs.Lanes.{lane_events}
 use Rattle.vlog_lanes.specs.Showing.{Shows}

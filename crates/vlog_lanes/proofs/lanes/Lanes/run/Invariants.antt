@@ -1,6 +1,6 @@
 use Rattle.std.proofs.Common.{◌≡◌, ◌<◌, ℕ, fold, take}
 use Rattle.vlog_module.specs.Parts.{Parts}
-use Rattle.vlog_plan.specs.Entries.{Entry}
+use Rattle.vlog_semantics.specs.Entries.{Entry}
 use Rattle.vlog_lanes.specs.Showing.{Shows, input_count}
 use Rattle.vlog_lanes.proofs.Called.{called}
 use Rattle.vlog_lanes.proofs.lanes.Lanes.run.Given as goal

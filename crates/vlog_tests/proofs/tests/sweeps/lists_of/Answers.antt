@@ -1,7 +1,7 @@
 use Rattle.std.proofs.Common.{◌<◌, ◌∷◌, ◌++◌, [], length}
 use Rattle.std.specs.Prelude.{All}
 use Rattle.std.proofs.lemmas.List.Elements.{All-push, All-same}
-use Rattle.vlog_plan.specs.Run.{input_names}
+use Rattle.vlog_semantics.specs.Run.{input_names}
 use Rattle.vlog_sweep.specs.declared.list.EventList.{EventList}
 use Rattle.vlog_tests.proofs.tests.sweeps.lists_of.Goals as goal
 

@@ -1,6 +1,6 @@
 use Rattle.std.proofs.Common.{◌<◌, length}
 use Rattle.std.specs.Prelude.{All}
-use Rattle.vlog_plan.specs.Run.{input_names}
+use Rattle.vlog_semantics.specs.Run.{input_names}
 use Rattle.vlog_tests.proofs.tests.sweeps.lists_of.Given as goal
 
 abbrev pub invariant-loop-text : goal.invariant-loop-text

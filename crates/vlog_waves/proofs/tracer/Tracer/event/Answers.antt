@@ -1,8 +1,8 @@
 use Rattle.std.proofs.Common.{◌≡◌, ◌∙◌, ℕ, List, ◌∷◌, ◌++◌, ap, ap₂, subst, sym}
 use Rattle.std.specs.Prelude.{OnOk}
 use Rattle.text_lines.specs.Written.{text_of}
-use Rattle.vlog_plan.specs.Entries.{Entry}
-use Rattle.vlog_plan.specs.Run.{followed}
+use Rattle.vlog_semantics.specs.Entries.{Entry}
+use Rattle.vlog_semantics.specs.Run.{followed}
 use Rattle.vlog_waves.specs.Variables.{Value, values_in}
 use Rattle.vlog_waves.specs.Waves.{changed_lines, time_line}
 use Rattle.vlog_waves.specs.inside.Values.{Fits, values_held}

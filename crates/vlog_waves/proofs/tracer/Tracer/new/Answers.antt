@@ -1,4 +1,4 @@
-use Rattle.vlog_plan.specs.Run.{start}
+use Rattle.vlog_semantics.specs.Run.{start}
 use Rattle.vlog_waves.proofs.Alike.{alike-fitting}
 use Rattle.vlog_waves.proofs.tracer.Tracer.new.Goals as goal
 

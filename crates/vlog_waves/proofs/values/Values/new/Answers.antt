@@ -1,9 +1,9 @@
 use Rattle.std.proofs.Common.{◌∙◌, ap, arith, length}
-use Rattle.vlog_plan.specs.ModuleSlots.{register_names, wire_names, word_names}
+use Rattle.vlog_semantics.specs.ModuleSlots.{register_names, wire_names, word_names}
 use Rattle.vlog_module.specs.declared.item.Item.{Item}
 use Rattle.vlog_module.specs.declared.modules.Port.{Port}
 use Rattle.std.specs.Prelude.{Bool, List, ℕ}
-use Rattle.vlog_cycle.proofs.Reading.{named-shown, values-named}
+use Rattle.vlog_run.proofs.Reading.{named-shown, values-named}
 use Rattle.vlog_waves.specs.inside.Values.{Fits}
 use Rattle.vlog_waves.proofs.Alike.{fits-alike}
 use Rattle.vlog_waves.proofs.values.Values.new.Goals as goal

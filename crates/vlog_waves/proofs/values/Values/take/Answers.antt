@@ -2,9 +2,9 @@ use Rattle.std.proofs.Common.{◌≡◌, ◌∙◌, ℕ, ◌++◌, Bool, List, a
 use Rattle.std.specs.Vec.{with_items}
 use Rattle.std.proofs.lemmas.List.{with_items_is}
 use Rattle.vlog_module.specs.declared.modules.Port.{Port}
-use Rattle.vlog_plan.specs.ModuleSlots.{register_names, word_names}
-use Rattle.vlog_plan.specs.Named.{values_of}
-use Rattle.vlog_cycle.proofs.Reading.{named-shown, values-named}
+use Rattle.vlog_semantics.specs.ModuleSlots.{register_names, word_names}
+use Rattle.vlog_semantics.specs.Named.{values_of}
+use Rattle.vlog_run.proofs.Reading.{named-shown, values-named}
 use Rattle.vlog_waves.specs.Variables.{port_bits, values_in}
 use Rattle.vlog_waves.specs.Variables.Value.{one_bit, sixteen_bits}
 use Rattle.vlog_waves.proofs.values.Values.take.Goals as goal

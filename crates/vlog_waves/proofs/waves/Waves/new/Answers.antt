@@ -1,7 +1,7 @@
 use Rattle.std.proofs.Common.{◌∙◌, ◌<◌, ◌++◌, List, ap, subst, sym}
 use Rattle.std.specs.Prelude.{All}
 use Rattle.text_lines.specs.Written.{text_of}
-use Rattle.vlog_plan.specs.Run.{start}
+use Rattle.vlog_semantics.specs.Run.{start}
 use Rattle.vlog_waves.specs.Variables.{Value}
 use Rattle.vlog_waves.specs.Waves.{head_lines, start_lines}
 use Rattle.vlog_waves.proofs.Tracing.{inputs-shown}

@@ -1,0 +1,459 @@
+-- Fabrics that are alike: whichever inputs LUTs read, the values of nets, the runs and the clocks are the same.
+use Rattle.std.proofs.Common.{◌≡◌, ℕ, zero, suc, Bool, false, List, [], ◌∷◌, length, map, get_or, replicate, refl, sym, ap, ap₂, ◌∙◌, subst, inl, inr}
+use Rattle.std.specs.Prelude.{filter, find, flat_map, not, ◌==◌, Option, Some, None, if◌then◌else◌}
+use Rattle.std.specs.List.{AllZip}
+use Rattle.std.proofs.lemmas.Bool.{cases_Bool}
+use Rattle.ice_image.specs.Configuration.{Configuration}
+use Rattle.chipdb_reader.specs.Database.{Database}
+use Rattle.chipdb_reader.specs.Fit.{IsFit}
+use Rattle.fabric_model.specs.declared.cell.LogicCell.{LogicCell}
+use Rattle.fabric_model.specs.declared.pin.Pin.{Pin}
+use Rattle.fabric_model.specs.declared.lut_inputs.LutInputs.{LutInputs}
+use Rattle.fabric_model.specs.declared.lut_inputs.LutInputs.TheVariants as read
+use Rattle.fabric_model.specs.declared.driver.Driver.{Driver}
+use Rattle.fabric_model.specs.declared.driver.ClockUser.{ClockUser}
+use Rattle.fabric_model.specs.declared.driver.ClockUser.TheVariants.{Cell, Input}
+use Rattle.fabric_model.specs.declared.register.Register.{Register}
+use Rattle.fabric_model.specs.declared.register.LutTable.{LutTable}
+use Rattle.fabric_model.specs.Unique.{ExactlyOne}
+use Rattle.fabric_model.specs.Joins.{class_of}
+use Rattle.fabric_model.specs.Cells.{cells_of}
+use Rattle.fabric_model.specs.Pins.{pins_of, is_registered}
+use Rattle.fabric_model.specs.Registers.{table_of, register_of, registers_of, pin_registers_of}
+use Rattle.fabric_model.specs.Fabric.{Fabric, numbered, inputs_of, fabric_with, fabric_of}
+use Rattle.fabric_model.specs.Outputs.{Output, enable_outputs, pin_outputs, outputs_of}
+use Rattle.fabric_model.specs.Drivers.{Rule, Drive, drives_if, drives_by, pin_drives, is_output_register, register_rule, output_rule, back_drives, lut_drives, flip_driver, lout_drives, carry_drives, set_drives, ram_drives, global_drives, buffer_drives, pin_register_driver, drives_of, is_driver_of, drivers_of, is_driven}
+use Rattle.fabric_model.specs.Drivers.Rule.{input, table_entry, register_bit, constant}
+use Rattle.fabric_model.specs.Values.{State, lut_value, settled_bit, value_of, bit_in, is_connected, IsConsistent}
+use Rattle.fabric_model.specs.Steps.{next_bit, bit_after, words_after, read_after, has_edge, state_after, settled_state, start_state, output_values, Event, Entry, IsEntry, Follows, FollowEach, IsFirst, IsRun}
+use Rattle.fabric_model.specs.Clocks.{ClockEnd, Turn, turn_by, turn_of, turn_at, LeadsTo, end_by, end_within, clock_end}
+use Rattle.fabric_model.specs.Clocks.LeadsTo.{ends_here, goes_on}
+use Rattle.fabric_model.specs.Faults.{design_fault}
+use Rattle.fabric_model.proofs.Paired.{pairs-same, pairs-append, pairs-made, pairs-flat_map, pairs-each, pairs-numbered, pairs-give, pairs-length, pairs-any, pairs-filter, pairs-find, pairs-first, pairs-flip}
+use Rattle.fabric_model.proofs.UsedInputs.{read-value}
+use Rattle.fabric_model.proofs.Within.{fabric-within}
+use Rattle.fabric_model.proofs.Taken.{design-taken, taken-value}
+use Rattle.fabric_model.proofs.Runs.{taken-run, fabric-placed}
+
+-- ---- what is alike
+
+-- two registers differ in their tables alone, and these have the same value
+pub record RegistersAlike (one two : Register) : Type 0 where
+  pub rest : record one { table = two.table } ≡ two
+  pub value : (connected : ℕ → Bool) (pins : List Bool) (bit : ℕ → Bool) → lut_value connected pins bit one.table ≡ lut_value connected pins bit two.table
+
+-- two rules have the same value, and a clock chain does the same at them
+pub record RulesAlike (one two : Rule) : Type 0 where
+  pub value : (connected : ℕ → Bool) (state : State) (pins : List Bool) (bit : ℕ → Bool) → value_of connected state pins bit one ≡ value_of connected state pins bit two
+  pub turn : turn_by one ≡ turn_by two
+
+pub record DrivesAlike (one two : Drive) : Type 0 where
+  pub net : one.net ≡ two.net
+  pub rule : RulesAlike one.rule two.rule
+
+pub record OutputsAlike (one two : Output) : Type 0 where
+  pub pin : one.pin ≡ two.pin
+  pub enable : one.enable ≡ two.enable
+  pub rule : RulesAlike one.rule two.rule
+
+rule-itself : (rule : Rule) → RulesAlike rule rule
+rule-itself rule = record { value = λ connected state pins bit. refl; turn = refl }
+
+drive-itself : (drive : Drive) → DrivesAlike drive drive
+drive-itself drive = record { net = refl; rule = rule-itself drive.rule }
+
+-- ---- registers
+
+module _ (one two : Register) (alike : RegistersAlike one two) where
+  -- what looks at no table is the same
+  pub register-field : {X : Type 0} (give : Register → X) → give one ≡ give (record one { table = two.table }) → give one ≡ give two
+  register-field give kept = kept ∙ ap give alike.rest
+
+  pub settled_bit-alike : (connected bit : ℕ → Bool) (old : Bool) → settled_bit connected bit one old ≡ settled_bit connected bit two old
+  unfolding settled_bit
+  settled_bit-alike connected bit old = register-field (λ r. settled_bit connected bit r old) refl
+
+  next_bit-alike : (connected : ℕ → Bool) (pins : List Bool) (bit : ℕ → Bool) (old : Bool) → next_bit connected pins bit one old ≡ next_bit connected pins bit two old
+  unfolding next_bit
+  next_bit-alike connected pins bit old = register-field (λ r. next_bit connected pins bit r old) (rw (alike.value connected pins bit) refl)
+
+-- two places among the registers
+abbrev PlacesAlike : ℕ × Register → ℕ × Register → Type 0
+PlacesAlike one two = (one.0 ≡ two.0) × RegistersAlike one.1 two.1
+
+register_bit-alike : (one two : ℕ × Register) → PlacesAlike one two → RulesAlike (register_bit one.0 one.1) (register_bit two.0 two.1)
+unfolding value_of
+register_bit-alike one two alike = record {
+  value = λ connected state pins bit.
+      settled_bit-alike one.1 two.1 alike.1 connected bit (get_or state.bits one.0 false)
+      ∙ ap (λ place. settled_bit connected bit two.1 (get_or state.bits place false)) alike.0;
+  turn = refl;
+}
+
+-- ---- drivers
+
+drives_if-alike : (by : Driver) (one two : Rule) (net : Option ℕ) → RulesAlike one two → AllZip DrivesAlike (drives_if by one net) (drives_if by two net)
+drives_if-alike by one two None alike = tt
+drives_if-alike by one two (Some net) alike = (record { net = refl; rule = alike }, tt)
+
+drives_by-alike : (one two : ℕ × Register) → PlacesAlike one two → (by : Option Driver) → AllZip DrivesAlike (drives_by one by) (drives_by two by)
+drives_by-alike one two alike None = tt
+drives_by-alike one two alike (Some by) =
+    subst (λ net. AllZip DrivesAlike (drives_if by (register_bit one.0 one.1) one.1.out) (drives_if by (register_bit two.0 two.1) net))
+    (register-field one.1 two.1 alike.1 (λ r. r.out) refl)
+    (drives_if-alike by (register_bit one.0 one.1) (register_bit two.0 two.1) one.1.out (register_bit-alike one two alike))
+
+-- what drives the registers that are drivers of some kind
+module _ (driver_of : Register → ClockUser → Option Driver)
+    (kept : (register : Register) (table : LutTable) (user : ClockUser) → driver_of register user ≡ driver_of (record register { table = table }) user) where
+  abbrev given : ℕ × Register → List Drive
+  given place = drives_by place (driver_of place.1 place.1.user)
+
+  given-alike : (one two : ℕ × Register) → PlacesAlike one two → AllZip DrivesAlike (given one) (given two)
+  given-alike one two alike =
+      subst (λ by. AllZip DrivesAlike (given one) (drives_by two by))
+      (register-field one.1 two.1 alike.1 (λ r. driver_of r r.user) (kept one.1 two.1.table one.1.user))
+      (drives_by-alike one two alike (driver_of one.1 one.1.user))
+
+  registers-drive : (one two : List Register) → AllZip RegistersAlike one two → AllZip DrivesAlike (flat_map given (numbered one)) (flat_map given (numbered two))
+  registers-drive one two alike =
+      pairs-flat_map DrivesAlike PlacesAlike given given given-alike (numbered one) (numbered two) (pairs-numbered RegistersAlike 0 one two alike)
+
+flip-kept : (register : Register) (table : LutTable) (user : ClockUser) → flip_driver register user ≡ flip_driver (record register { table = table }) user
+flip-kept register table (Cell i) = refl
+flip-kept register table user = refl
+
+pin_register-kept : (register : Register) (table : LutTable) (user : ClockUser) → pin_register_driver register user ≡ pin_register_driver (record register { table = table }) user
+pin_register-kept register table (Input n) = refl
+pin_register-kept register table user = refl
+
+table-alike : (one two : LutInputs) (lc : LogicCell) → RulesAlike (table_entry (table_of one lc)) (table_entry (table_of two lc))
+unfolding value_of
+table-alike one two lc = record {
+  value = λ connected state pins bit. read-value connected pins bit one lc ∙ sym (read-value connected pins bit two lc);
+  turn = refl;
+}
+
+-- ---- a fabric whose LUTs read other inputs
+
+module _ (fabric : Fabric) (inputs : LutInputs) (registers : List Register) (alike : AllZip RegistersAlike fabric.registers registers) where
+  abbrev other : Fabric
+  other = record fabric { lut_inputs = inputs; registers = registers }
+
+  is_output_register-alike : (pin : Pin) (one two : ℕ × Register) → PlacesAlike one two → is_output_register pin one ≡ is_output_register pin two
+  is_output_register-alike pin one two same =
+      register-field one.1 two.1 same.1 (λ r. is_output_register pin (one.0, r)) refl
+
+  output_rule-alike : (pin : Pin) → RulesAlike (output_rule fabric.registers pin) (output_rule registers pin)
+  output_rule-alike pin =
+      let found : RulesAlike (register_rule (find (is_output_register pin) (numbered fabric.registers))) (register_rule (find (is_output_register pin) (numbered registers))) =
+      pairs-find PlacesAlike (is_output_register pin) (is_output_register pin) (is_output_register-alike pin)
+      (λ (one two : Option (ℕ × Register)). RulesAlike (register_rule one) (register_rule two)) (rule-itself (constant false)) register_bit-alike
+      (numbered fabric.registers) (numbered registers) (pairs-numbered RegistersAlike 0 fabric.registers registers alike) in
+      elim (cases_Bool (is_registered pin)) [
+        | inl registered ↦ rw registered found
+        | inr free ↦ rw free (rule-itself (input false pin.dout))
+      ]
+
+  drives-alike : AllZip DrivesAlike (drives_of fabric) (drives_of other)
+  unfolding drives_of
+  drives-alike =
+      let join = pairs-append DrivesAlike in
+      let same = pairs-same DrivesAlike drive-itself in
+      join _ _ _ _ (same (flat_map pin_drives (numbered (inputs_of fabric))))
+      (join _ _ _ _ (pairs-each DrivesAlike (back_drives fabric.registers) (back_drives registers)
+      (λ pin. drives_if-alike _ (output_rule fabric.registers pin) (output_rule registers pin) pin.din (output_rule-alike pin)) (filter (λ pin. pin.back) fabric.pins))
+      (join _ _ _ _ (pairs-each DrivesAlike (lut_drives fabric.lut_inputs) (lut_drives inputs)
+      (λ lc. drives_if-alike _ _ _ lc.out (table-alike fabric.lut_inputs inputs lc)) (filter (λ lc. not lc.flip) fabric.lcs))
+      (join _ _ _ _ (registers-drive flip_driver flip-kept fabric.registers registers alike)
+      (join _ _ _ _ (pairs-each DrivesAlike (lout_drives fabric.lut_inputs) (lout_drives inputs)
+      (λ lc. drives_if-alike _ _ _ lc.lout (table-alike fabric.lut_inputs inputs lc)) fabric.lcs)
+      (join _ _ _ _ (same (flat_map carry_drives (filter (λ lc. lc.carry) fabric.lcs)))
+      (join _ _ _ _ (same (flat_map set_drives fabric.sets))
+      (join _ _ _ _ (same (flat_map ram_drives (numbered fabric.rams)))
+      (join _ _ _ _ (same (flat_map (global_drives (inputs_of fabric)) fabric.globals))
+      (join _ _ _ _ (same (flat_map buffer_drives fabric.buffers))
+      (registers-drive pin_register_driver pin_register-kept fabric.registers registers alike))))))))))
+
+  is_driver-alike : (class : ℕ) (one two : Drive) → DrivesAlike one two → is_driver_of fabric class one ≡ is_driver_of other class two
+  is_driver-alike class one two same = ap (λ net. class_of fabric.joins net == class) same.net
+
+  pub driven-alike : (class : ℕ) → is_driven fabric class ≡ is_driven other class
+  unfolding is_driven
+  driven-alike class = pairs-any DrivesAlike (is_driver_of fabric class) (is_driver_of other class) (is_driver-alike class) (drives_of fabric) (drives_of other) drives-alike
+
+  connected-alike : is_connected fabric ≡ is_connected other
+  connected-alike = λ i net. driven-alike (class_of fabric.joins net) i
+
+  -- ---- values of nets
+
+  pub outputs-alike : AllZip OutputsAlike (outputs_of fabric) (outputs_of other)
+  unfolding outputs_of
+  outputs-alike =
+      pairs-each OutputsAlike (pin_outputs fabric.registers) (pin_outputs registers)
+      (λ pin. (
+        record { pin = refl; enable = refl; rule = output_rule-alike pin },
+        pairs-same OutputsAlike (λ output. record { pin = refl; enable = refl; rule = rule-itself output.rule }) (enable_outputs pin),
+      ))
+      (filter (λ pin. pin.output) fabric.pins)
+
+  output_values-alike : (state : State) (pins v : List Bool) → output_values fabric state pins v ≡ output_values other state pins v
+  unfolding output_values
+  output_values-alike state pins v =
+      pairs-give OutputsAlike
+      (λ output. value_of (is_connected fabric) state pins (bit_in v) output.rule) (λ output. value_of (is_connected other) state pins (bit_in v) output.rule)
+      (λ one two same. same.rule.value (is_connected fabric) state pins (bit_in v) ∙ ap (λ connected. value_of connected state pins (bit_in v) two.rule) connected-alike)
+      (outputs_of fabric) (outputs_of other) outputs-alike
+
+  -- a list of values that is consistent with the one is consistent with the other
+  consistent-other : (state : State) (pins v : List Bool) → IsConsistent fabric state pins v → IsConsistent other state pins v
+  consistent-other state pins v is = record {
+    each_net = is.each_net;
+    joined = is.joined;
+    driven = λ drive there.
+        let found = pairs-first DrivesAlike (drives_of fabric) (drives_of other) drive drives-alike there in
+        ap (bit_in v) (sym found.2.net) ∙ is.driven found.0 found.1
+        ∙ found.2.rule.value (is_connected fabric) state pins (bit_in v)
+        ∙ ap (λ connected. value_of connected state pins (bit_in v) drive.rule) connected-alike;
+    not_driven = λ net within away. is.not_driven net within (driven-alike (class_of fabric.joins net) ∙ away);
+  }
+
+  consistent-back : (state : State) (pins v : List Bool) → IsConsistent other state pins v → IsConsistent fabric state pins v
+  consistent-back state pins v is = record {
+    each_net = is.each_net;
+    joined = is.joined;
+    driven = λ drive there.
+        let found = pairs-first (λ (two one : Drive). DrivesAlike one two) (drives_of other) (drives_of fabric) drive (pairs-flip DrivesAlike (drives_of fabric) (drives_of other) drives-alike) there in
+        ap (bit_in v) found.2.net ∙ is.driven found.0 found.1
+        ∙ sym (found.2.rule.value (is_connected other) state pins (bit_in v))
+        ∙ ap (λ connected. value_of connected state pins (bit_in v) drive.rule) (sym connected-alike);
+    not_driven = λ net within away. is.not_driven net within (sym (driven-alike (class_of fabric.joins net)) ∙ away);
+  }
+
+  -- ---- states
+
+  abbrev with_bits : State → List Bool → State
+  with_bits state bits = record { bits = bits; reads = state.reads; words = state.words }
+
+  settled_state-alike : (bit : ℕ → Bool) (state : State) → settled_state fabric bit state ≡ settled_state other bit state
+  unfolding settled_state
+  settled_state-alike bit state =
+      ap (with_bits state)
+      (pairs-give PlacesAlike
+      (λ place. settled_bit (is_connected fabric) bit place.1 (get_or state.bits place.0 false))
+      (λ place. settled_bit (is_connected other) bit place.1 (get_or state.bits place.0 false))
+      (λ one two same.
+      settled_bit-alike one.1 two.1 same.1 (is_connected fabric) bit (get_or state.bits one.0 false)
+      ∙ ap (λ place. settled_bit (is_connected fabric) bit two.1 (get_or state.bits place false)) same.0
+      ∙ ap (λ connected. settled_bit connected bit two.1 (get_or state.bits two.0 false)) connected-alike)
+      (numbered fabric.registers) (numbered registers) (pairs-numbered RegistersAlike 0 fabric.registers registers alike))
+
+  bit_after-alike : (pins : List Bool) (before after : ℕ → Bool) (bits : List Bool) (one two : ℕ × Register) → PlacesAlike one two
+      → bit_after (is_connected fabric) pins before after bits one ≡ bit_after (is_connected other) pins before after bits two
+  bit_after-alike pins before after bits one two same =
+      let edge : has_edge one.1.neg one.1.clk before after ≡ has_edge two.1.neg two.1.clk before after =
+      register-field one.1 two.1 same.1 (λ r. has_edge r.neg r.clk before after) refl in
+      let next = next_bit-alike one.1 two.1 same.1 (is_connected fabric) pins before (get_or bits one.0 false) in
+      ap (λ edge. if edge then next_bit (is_connected fabric) pins before one.1 (get_or bits one.0 false) else get_or bits one.0 false) edge
+      ∙ ap (λ next. if has_edge two.1.neg two.1.clk before after then next else get_or bits one.0 false) next
+      ∙ ap (λ place. if has_edge two.1.neg two.1.clk before after then next_bit (is_connected fabric) pins before two.1 (get_or bits place false) else get_or bits place false) same.0
+      ∙ ap (λ connected. if has_edge two.1.neg two.1.clk before after then next_bit connected pins before two.1 (get_or bits two.0 false) else get_or bits two.0 false) connected-alike
+
+  abbrev rams_after : State → (ℕ → Bool) → (ℕ → Bool) → List Bool → (ℕ → Bool) → State
+  rams_after state before after bits connected = record {
+    bits = bits;
+    reads = map (read_after connected before after state) (numbered fabric.rams);
+    words = map (words_after connected before after state) (numbered fabric.rams);
+  }
+
+  state_after-alike : (pins : List Bool) (state : State) (before after : ℕ → Bool) → state_after fabric pins state before after ≡ state_after other pins state before after
+  unfolding state_after
+  state_after-alike pins state before after =
+      let bits = pairs-give PlacesAlike (bit_after (is_connected fabric) pins before after state.bits) (bit_after (is_connected other) pins before after state.bits)
+      (bit_after-alike pins before after state.bits)
+      (numbered fabric.registers) (numbered registers) (pairs-numbered RegistersAlike 0 fabric.registers registers alike) in
+      ap₂ (rams_after state before after) bits connected-alike
+
+  abbrev start_with : ℕ → State
+  start_with count = record { bits = replicate count false; reads = replicate (length fabric.rams) (replicate 16 false); words = fabric.start }
+
+  start-alike : start_state fabric ≡ start_state other
+  start-alike =
+      ap start_with
+      (pairs-length RegistersAlike fabric.registers registers alike)
+
+  -- ---- clocks
+
+  turn-first : (one two : List Drive) → AllZip DrivesAlike one two → turn_of one ≡ turn_of two
+  turn-first [] [] same = refl
+  turn-first [] (b ∷ two) same = absurd same
+  turn-first (a ∷ one) [] same = absurd same
+  turn-first (a ∷ one) (b ∷ two) same = same.0.rule.turn
+
+  turn-alike : (class : ℕ) → turn_at fabric class ≡ turn_at other class
+  unfolding turn_at drivers_of
+  turn-alike class =
+      turn-first (drivers_of fabric class) (drivers_of other class)
+      (pairs-filter DrivesAlike (is_driver_of fabric class) (is_driver_of other class) (is_driver-alike class) (drives_of fabric) (drives_of other) drives-alike)
+
+  end_within-alike : (count class : ℕ) → end_within fabric count class ≡ end_within other count class
+  unfolding end_within
+  end_within-alike zero class = refl
+  end_within-alike (suc more) class =
+      ap₂ (λ (later : ℕ → ClockEnd) (turn : Turn). end_by later turn) (λ i net. end_within-alike more (class_of fabric.joins net) i) (turn-alike class)
+
+  pub clock_end-alike : (net : ℕ) → clock_end fabric net ≡ clock_end other net
+  unfolding clock_end
+  clock_end-alike net = end_within-alike (suc fabric.nets) (class_of fabric.joins net)
+
+  leads-alike : {class : ℕ} {end : ClockEnd} → LeadsTo fabric class end → LeadsTo other class end
+  leads-alike {class} {end} (ends_here turns) = ends_here (sym (turn-alike class) ∙ turns)
+  leads-alike {class} {end} (goes_on net turns rest) = goes_on net (sym (turn-alike class) ∙ turns) (leads-alike rest)
+
+-- ---- runs
+
+-- the values, entries and steps of one fabric are those of another
+pub record Agree (one two : Fabric) : Type 0 where
+  pub consistent : (state : State) (pins v : List Bool) → IsConsistent one state pins v → IsConsistent two state pins v
+  pub outputs : (state : State) (pins v : List Bool) → output_values one state pins v ≡ output_values two state pins v
+  pub settled : (bit : ℕ → Bool) (state : State) → settled_state one bit state ≡ settled_state two bit state
+  pub after : (pins : List Bool) (state : State) (before after : ℕ → Bool) → state_after one pins state before after ≡ state_after two pins state before after
+  pub start : start_state one ≡ start_state two
+  pub inputs : inputs_of one ≡ inputs_of two
+
+module _ (one two : Fabric) (agree : Agree one two) where
+  entry-moved : (entry : Entry) → IsEntry one entry → IsEntry two entry
+  entry-moved entry is = record {
+    consistent = agree.consistent entry.state entry.pins entry.v is.consistent;
+    outputs = is.outputs ∙ agree.outputs entry.state entry.pins entry.v;
+  }
+
+  follows-moved : (before : Entry) (event : Event) (after : Entry) → Follows one before event after → Follows two before event after
+  follows-moved before event after is = record {
+    entry = entry-moved after is.entry;
+    pins = is.pins;
+    state = is.state
+        ∙ agree.settled (bit_in after.v) (state_after one before.pins before.state (bit_in before.v) (bit_in after.v))
+        ∙ ap (settled_state two (bit_in after.v)) (agree.after before.pins before.state (bit_in before.v) (bit_in after.v));
+  }
+
+  first-moved : (entry : Entry) → IsFirst one entry → IsFirst two entry
+  first-moved entry is = record {
+    entry_is = entry-moved entry is.entry_is;
+    pins = is.pins ∙ ap (λ inputs. replicate (length inputs) false) agree.inputs;
+    state = is.state ∙ agree.settled (bit_in entry.v) (start_state one) ∙ ap (settled_state two (bit_in entry.v)) agree.start;
+  }
+
+  each-moved : (entry : Entry) (events : List Event) (entries : List Entry) → FollowEach one entry events entries → FollowEach two entry events entries
+  each-moved entry [] [] follow = tt
+  each-moved entry [] (next ∷ entries) follow = absurd follow
+  each-moved entry (event ∷ events) [] follow = absurd follow
+  each-moved entry (event ∷ events) (next ∷ entries) follow = (follows-moved entry event next follow.0, each-moved next events entries follow.1)
+
+  -- a run of the one is a run of the other
+  pub run-moved : (events : List Event) (entries : List Entry) → IsRun one events entries → IsRun two events entries
+  run-moved events [] run = absurd run
+  run-moved events (first ∷ entries) run = (first-moved first run.0, each-moved first events entries run.1)
+
+module _ (fabric : Fabric) (inputs : LutInputs) (registers : List Register) (alike : AllZip RegistersAlike fabric.registers registers) where
+  agree-other : Agree fabric (record fabric { lut_inputs = inputs; registers = registers })
+  agree-other = record {
+    consistent = consistent-other fabric inputs registers alike;
+    outputs = output_values-alike fabric inputs registers alike;
+    settled = settled_state-alike fabric inputs registers alike;
+    after = state_after-alike fabric inputs registers alike;
+    start = start-alike fabric inputs registers alike;
+    inputs = refl;
+  }
+
+  agree-back : Agree (record fabric { lut_inputs = inputs; registers = registers }) fabric
+  agree-back = record {
+    consistent = consistent-back fabric inputs registers alike;
+    outputs = λ state pins v. sym (output_values-alike fabric inputs registers alike state pins v);
+    settled = λ bit state. sym (settled_state-alike fabric inputs registers alike bit state);
+    after = λ pins state before after. sym (state_after-alike fabric inputs registers alike pins state before after);
+    start = sym (start-alike fabric inputs registers alike);
+    inputs = refl;
+  }
+
+-- ---- the fabrics of a database and an image
+
+register-itself : (register : Register) → RegistersAlike register register
+register-itself register = record { rest = refl; value = λ connected pins bit. refl }
+
+register_of-alike : (inputs : LutInputs) (lc : LogicCell) → RegistersAlike (register_of inputs lc) (register_of read.All lc)
+unfolding register_of
+register_of-alike inputs lc = record { rest = refl; value = λ connected pins bit. read-value connected pins bit inputs lc }
+
+module _ (inputs : LutInputs) (db : Database) (image : Configuration) where
+  pub registers-alike : AllZip RegistersAlike (fabric_with inputs db image).registers (fabric_of db image).registers
+  unfolding fabric_with registers_of
+  registers-alike =
+      pairs-append RegistersAlike (registers_of inputs (cells_of db image)) (registers_of read.All (cells_of db image)) _ _
+      (pairs-made RegistersAlike (register_of inputs) (register_of read.All) (register_of-alike inputs) (filter (λ lc. lc.flip) (cells_of db image)))
+      (pairs-same RegistersAlike register-itself (pin_registers_of db image (pins_of db image)))
+
+  -- what is shown of each fabric with other LUTs and registers that are alike is shown of the fabric whose LUTs read all inputs
+  pub in-all : (P : Fabric → Type 0) → P (record (fabric_with inputs db image) { lut_inputs = read.All; registers = (fabric_of db image).registers }) → P (fabric_of db image)
+  unfolding fabric_with
+  in-all P holds = holds
+
+  to-all : Agree (fabric_with inputs db image) (fabric_of db image)
+  to-all = in-all (λ all. Agree (fabric_with inputs db image) all) (agree-other (fabric_with inputs db image) read.All (fabric_of db image).registers registers-alike)
+
+  from-all : Agree (fabric_of db image) (fabric_with inputs db image)
+  from-all = in-all (λ all. Agree all (fabric_with inputs db image)) (agree-back (fabric_with inputs db image) read.All (fabric_of db image).registers registers-alike)
+
+  -- the runs are the same
+  pub run-with : (events : List Event) (entries : List Entry) → IsRun (fabric_of db image) events entries → IsRun (fabric_with inputs db image) events entries
+  run-with = run-moved (fabric_of db image) (fabric_with inputs db image) from-all
+
+  run-of : (events : List Event) (entries : List Entry) → IsRun (fabric_with inputs db image) events entries → IsRun (fabric_of db image) events entries
+  run-of = run-moved (fabric_with inputs db image) (fabric_of db image) to-all
+
+  -- so are the input pins, and where clocks come from
+  pub inputs-with : inputs_of (fabric_with inputs db image) ≡ inputs_of (fabric_of db image)
+  unfolding fabric_with
+  inputs-with = refl
+
+  pub clock_end-with : (net : ℕ) → clock_end (fabric_with inputs db image) net ≡ clock_end (fabric_of db image) net
+  clock_end-with net =
+      in-all (λ all. clock_end (fabric_with inputs db image) net ≡ clock_end all net)
+      (clock_end-alike (fabric_with inputs db image) read.All (fabric_of db image).registers registers-alike net)
+
+  pub leads-with : (class : ℕ) (end : ClockEnd) → LeadsTo (fabric_with inputs db image) class end → LeadsTo (fabric_of db image) class end
+  leads-with class end =
+      in-all (λ all. LeadsTo (fabric_with inputs db image) class end → LeadsTo all class end)
+      (λ leads. leads-alike (fabric_with inputs db image) read.All (fabric_of db image).registers registers-alike leads)
+
+  pub driven-with : (class : ℕ) → is_driven (fabric_with inputs db image) class ≡ is_driven (fabric_of db image) class
+  driven-with class =
+      in-all (λ all. is_driven (fabric_with inputs db image) class ≡ is_driven all class)
+      (driven-alike (fabric_with inputs db image) read.All (fabric_of db image).registers registers-alike class)
+
+  pub outputs-with : AllZip OutputsAlike (outputs_of (fabric_with inputs db image)) (outputs_of (fabric_of db image))
+  outputs-with =
+      in-all (λ all. AllZip OutputsAlike (outputs_of (fabric_with inputs db image)) (outputs_of all))
+      (outputs-alike (fabric_with inputs db image) read.All (fabric_of db image).registers registers-alike)
+
+  -- Where a database and an image aren't refused, whichever inputs their LUTs read, their fabric has exactly one list of values for each
+  -- state and all values of pins, and exactly one run for each list of events.
+  module _ (fit : IsFit db) (none : design_fault inputs db image ≡ None) where
+    pub design-value : (state : State) (pins : List Bool) → ExactlyOne (IsConsistent (fabric_of db image) state pins)
+    design-value state pins =
+        let one = taken-value image.layout.device (fabric_with inputs db image) (design-taken inputs db image none).fabric (fabric-within db image fit inputs) state pins in
+        record {
+          it = one.it;
+          is = to-all.consistent state pins one.it one.is;
+          only = λ v is. one.only v (from-all.consistent state pins v is);
+        }
+
+    pub design-run : (events : List Event) → ExactlyOne (IsRun (fabric_of db image) events)
+    design-run events =
+        let one = taken-run image.layout.device (fabric_with inputs db image) (design-taken inputs db image none).fabric
+        (fabric-placed db image inputs) (fabric-within db image fit inputs) events in
+        record {
+          it = one.it;
+          is = run-of events one.it one.is;
+          only = λ entries is. one.only entries (run-with events entries is);
+        }

@@ -1,0 +1,115 @@
+-- The value of each driver looks at no other nets than those that it reads.
+use Rattle.std.proofs.Common.{◌≡◌, ℕ, zero, suc, Bool, true, false, List, [], ◌∷◌, ◌++◌, map, get_or, refl, sym, ap, subst, inl, inr}
+use Rattle.std.specs.Prelude.{flat_map, option_to_list, Option, Some, None}
+use Rattle.std.proofs.lemmas.Bool.{cases_Bool}
+use Rattle.fabric_model.specs.declared.register.LutSource.{LutSource}
+use Rattle.fabric_model.specs.declared.register.LutSource.TheVariants.{Net, Pin as SourcePin}
+use Rattle.fabric_model.specs.declared.register.LutTable.{LutTable}
+use Rattle.fabric_model.specs.declared.register.Register.{Register}
+use Rattle.fabric_model.specs.Drivers.{Rule, source_nets, nets_read}
+use Rattle.fabric_model.specs.Drivers.Rule.{pin_bit, constant, input, table_entry, majority_of, register_bit, read_bit, copied}
+use Rattle.fabric_model.specs.Values.{State, input_value, source_value, table_input, lut_value, settled_bit, value_of}
+use Rattle.graph_order.specs.Wiring.{has}
+use Rattle.graph_order.proofs.OneOrder.{has-first, has-behind, has-cases, has-none}
+
+-- ---- lists of nets
+
+pub has-left : (first second : List ℕ) (n : ℕ) → has first n ≡ true → has (first ++ second) n ≡ true
+has-left [] second n found = absurd (has-none n found)
+has-left (head ∷ first) second n found =
+    elim (has-cases head first n found) [
+      | inl here ↦ subst (λ k. has (head ∷ first ++ second) k ≡ true) here (has-first head (first ++ second))
+      | inr behind ↦ has-behind head (first ++ second) n (has-left first second n behind)
+    ]
+
+pub has-right : (first second : List ℕ) (n : ℕ) → has second n ≡ true → has (first ++ second) n ≡ true
+has-right [] second n found = found
+has-right (head ∷ first) second n found = has-behind head (first ++ second) n (has-right first second n found)
+
+pub has-map : (change : ℕ → ℕ) (list : List ℕ) (n : ℕ) → has list n ≡ true → has (map change list) (change n) ≡ true
+has-map change [] n found = absurd (has-none n found)
+has-map change (head ∷ rest) n found =
+    elim (has-cases head rest n found) [
+      | inl here ↦ subst (λ k. has (change head ∷ map change rest) (change k) ≡ true) here (has-first (change head) (map change rest))
+      | inr behind ↦ has-behind (change head) (map change rest) (change n) (has-map change rest n behind)
+    ]
+
+-- a net that is there
+pub has-some : (net : Option ℕ) (n : ℕ) → net ≡ Some n → has (option_to_list net) n ≡ true
+has-some None n is = absurd cc
+has-some (Some m) n is = let same : m ≡ n = cc in subst (λ k. has (m ∷ []) k ≡ true) same (has-first m [])
+
+pub has-input : (ins : List (Option ℕ)) (k n : ℕ) → get_or ins k None ≡ Some n → has (flat_map option_to_list ins) n ≡ true
+has-input [] k n is = absurd cc
+has-input (net ∷ ins) zero n is = has-left (option_to_list net) (flat_map option_to_list ins) n (has-some net n is)
+has-input (net ∷ ins) (suc k) n is = has-right (option_to_list net) (flat_map option_to_list ins) n (has-input ins k n is)
+
+-- a net that an input of a table reads
+pub has-source : (ins : List LutSource) (k n : ℕ) → get_or ins k (Net None) ≡ Net (Some n) → has (flat_map source_nets ins) n ≡ true
+has-source [] k n is = absurd cc
+has-source (source ∷ ins) zero n is =
+    has-left (source_nets source) (flat_map source_nets ins) n (subst (λ s. has (source_nets s) n ≡ true) (sym is) (has-first n []))
+has-source (source ∷ ins) (suc k) n is = has-right (source_nets source) (flat_map source_nets ins) n (has-source ins k n is)
+
+-- ---- inputs
+
+module _ (connected bit other : ℕ → Bool) where
+  input-same : (stated : Bool) (net : Option ℕ) → ((n : ℕ) → net ≡ Some n → bit n ≡ other n)
+      → input_value connected bit stated net ≡ input_value connected other stated net
+  input-same stated None same = refl
+  input-same stated (Some n) same = rw (same n refl) refl
+
+  source-same : (pins : List Bool) (source : LutSource) → ((n : ℕ) → source ≡ Net (Some n) → bit n ≡ other n)
+      → source_value connected pins bit source ≡ source_value connected pins other source
+  source-same pins (Net net) same = input-same false net (λ n is. same n (ap Net is))
+  source-same pins (SourcePin place) same = refl
+
+  table_input-same : (pins : List Bool) (table : LutTable) (k : ℕ) → ((n : ℕ) → has (flat_map source_nets table.ins) n ≡ true → bit n ≡ other n)
+      → table_input connected pins bit table k ≡ table_input connected pins other table k
+  table_input-same pins table k same = source-same pins (get_or table.ins k (Net None)) (λ n is. same n (has-source table.ins k n is))
+
+  lut_value-same : (pins : List Bool) (table : LutTable) → ((n : ℕ) → has (flat_map source_nets table.ins) n ≡ true → bit n ≡ other n)
+      → lut_value connected pins bit table ≡ lut_value connected pins other table
+  unfolding lut_value
+  lut_value-same pins table same =
+      rw (
+        table_input-same pins table 0 same,
+        table_input-same pins table 1 same,
+        table_input-same pins table 2 same,
+        table_input-same pins table 3 same,
+      ) refl
+
+  majority-same : (state : State) (pins : List Bool) (a b c : Option ℕ) → ((n : ℕ) → has (nets_read (majority_of a b c)) n ≡ true → bit n ≡ other n)
+      → value_of connected state pins bit (majority_of a b c) ≡ value_of connected state pins other (majority_of a b c)
+  unfolding value_of nets_read
+  majority-same state pins a b c same =
+      let first = option_to_list a in
+      let second = option_to_list b in
+      let third = option_to_list c in
+      let of_a = input-same false a (λ n is. same n (has-left first (second ++ third) n (has-some a n is))) in
+      let of_b = input-same false b (λ n is. same n (has-right first (second ++ third) n (has-left second third n (has-some b n is)))) in
+      let of_c = input-same false c (λ n is. same n (has-right first (second ++ third) n (has-right second third n (has-some c n is)))) in
+      rw (of_a, of_b, of_c) refl
+
+  -- a register reads its set or reset if that is asynchronous, and else no net
+  settled_bit-same : (place : ℕ) (register : Register) (old : Bool) → ((n : ℕ) → has (nets_read (register_bit place register)) n ≡ true → bit n ≡ other n)
+      → settled_bit connected bit register old ≡ settled_bit connected other register old
+  unfolding settled_bit nets_read
+  settled_bit-same place register old same =
+      elim (cases_Bool register.is_async) [
+        | inl is_async ↦ rw (is_async, input-same false register.sr (λ n is. same n (rw is_async (has-some register.sr n is)))) refl
+        | inr waits ↦ rw waits refl
+      ]
+
+  -- a driver's value is the same if the nets that it reads have the same values
+  pub value-same : (state : State) (pins : List Bool) (rule : Rule) → ((n : ℕ) → has (nets_read rule) n ≡ true → bit n ≡ other n)
+      → value_of connected state pins bit rule ≡ value_of connected state pins other rule
+  unfolding value_of nets_read
+  value-same state pins (pin_bit place) same = refl
+  value-same state pins (constant it) same = refl
+  value-same state pins (input stated net) same = input-same stated net (λ n is. same n (has-some net n is))
+  value-same state pins (table_entry table) same = lut_value-same pins table same
+  value-same state pins (majority_of a b c) same = majority-same state pins a b c same
+  value-same state pins (register_bit place register) same = settled_bit-same place register (get_or state.bits place false) same
+  value-same state pins (read_bit ram place) same = refl
+  value-same state pins (copied net) same = same net (has-first net [])

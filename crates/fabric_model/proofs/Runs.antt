@@ -1,0 +1,490 @@
+-- A fabric without a fault has exactly one run for each list of events. Whether a clock has an edge depends on the pins alone;
+-- so the next state is known before the values of the nets after the event are.
+use Rattle.std.proofs.Common.{◌≡◌, ℕ, zero, suc, ◌<◌, Bool, true, false, List, [], ◌∷◌, length, map, get_or, set, replicate, refl, sym, ap, ◌∙◌, subst, arith}
+use Rattle.std.specs.Prelude.{All, Contains, Option, Some, None, filter, flat_map, not, ◌&&◌, ◌==◌}
+use Rattle.std.specs.List.{AllByRecursion}
+use Rattle.std.proofs.lemmas.Bool.{and_from}
+use Rattle.std.proofs.Common.{eq-eqb}
+use Rattle.std.proofs.lemmas.List.Elements.{All-append, All-filter, All-contains, All-contains_itself, All-map, All-weaker, Contains-append_left, Contains-append_right}
+use Rattle.shared_lemmas.proofs.Lists.{append_empty, map-same}
+use Rattle.index_search.proofs.Gathered.{All-gathered_below, Contains-gathered_below}
+use Rattle.plane_map.specs.declared.device.DeviceName.{DeviceName}
+use Rattle.plane_map.specs.declared.tile.TileKind.TheVariants.{Io, Logic, RamB}
+use Rattle.plane_map.specs.Layout.{grid_width, grid_height}
+use Rattle.chipdb_reader.specs.Database.{Database}
+use Rattle.ice_image.specs.Configuration.{Configuration}
+use Rattle.index_search.specs.Places.{gathered_below}
+use Rattle.fabric_model.specs.declared.cell.LogicCell.{LogicCell}
+use Rattle.fabric_model.specs.declared.lut_inputs.LutInputs.{LutInputs}
+use Rattle.fabric_model.specs.declared.register.Register.{Register}
+use Rattle.fabric_model.specs.declared.ram.RamCell.{RamCell}
+use Rattle.fabric_model.specs.declared.pin.Pin.{Pin}
+use Rattle.fabric_model.specs.declared.driver.ClockUser.TheVariants.{Read, Write}
+use Rattle.fabric_model.specs.Unique.{ExactlyOne}
+use Rattle.fabric_model.specs.Tiles.{over_grid}
+use Rattle.fabric_model.specs.Cells.{cell_bits, cell_with, used_cell, cells_at, cells_of}
+use Rattle.fabric_model.specs.Rams.{is_ram_used, ram_at, rams_of}
+use Rattle.fabric_model.specs.Pins.{is_registered, pin_with, port_at, pins_of}
+use Rattle.fabric_model.specs.Fabric.{Fabric, numbered, inputs_of, fabric_with}
+use Rattle.fabric_model.specs.Registers.{register_of, registers_of, pin_register, pin_registers_of}
+use Rattle.fabric_model.specs.Values.{State, bit_in, is_connected, IsConsistent}
+use Rattle.fabric_model.specs.Steps.{has_edge, bit_after, words_after, read_after, state_after, settled_state, Event, Entry, output_values, IsEntry, Follows, start_state, IsFirst, FollowEach, IsRun}
+use Rattle.fabric_model.specs.Clocks.{ClockEnd, User, register_user, ram_users, users_at, users_of, clock_end}
+use Rattle.fabric_model.specs.Clocks.ClockEnd.{at_pin, undriven, logic}
+use Rattle.fabric_model.specs.Faults.{end_fault, user_fault, clock_faults, fabric_fault}
+use Rattle.fabric_model.proofs.OneValue.{IsWithin, filter-has}
+use Rattle.fabric_model.proofs.Taken.{taken-order, taken-value, taken-clocks}
+use Rattle.fabric_model.proofs.Chains.{clock_end-leads, HasEndValue, clock-value}
+use Rattle.fabric_model.proofs.Within.{All-item_if, All-if, All-single, All-over_tiles, All-numbered}
+use Rattle.fabric_model.proofs.Settling.{settled-twice, consistent-settled, consistent-unsettled}
+
+-- ---- lists
+
+pub contains-over_grid : {A : Type 0} (device : DeviceName) (given : ℕ → ℕ → List A) (x y : ℕ) (item : A)
+    → x < grid_width device → y < grid_height device → Contains (given x y) item → Contains (over_grid device given) item
+unfolding over_grid
+contains-over_grid device given x y item left low there =
+    Contains-gathered_below (grid_height device) y (λ row. gathered_below (grid_width device) (λ column. given column row)) item low
+    (Contains-gathered_below (grid_width device) x (λ column. given column y) item left there)
+
+contains-map : {A B : Type 0} (change : A → B) (list : List A) (item : A) → Contains list item → Contains (map change list) (change item)
+contains-map change [] item (k, within, here) = absurd (omega (arith, within))
+contains-map change (head ∷ list) item (zero, within, here) = (0, omega arith, ap change here)
+contains-map change (head ∷ list) item (suc k, within, here) =
+    let rest = contains-map change list item (k, omega (arith, within), here) in (suc rest.0, omega (arith, rest.1), rest.2)
+
+contains-flat_map : {A B : Type 0} (given : A → List B) (list : List A) (item : A) (part : B) → Contains list item → Contains (given item) part
+    → Contains (flat_map given list) part
+contains-flat_map given [] item part (k, within, here) there = absurd (omega (arith, within))
+contains-flat_map given (head ∷ list) item part (zero, within, here) there =
+    Contains-append_left (given head) (flat_map given list) part (subst (λ i. Contains (given i) part) (sym here) there)
+contains-flat_map given (head ∷ list) item part (suc k, within, here) there =
+    Contains-append_right (given head) (flat_map given list) part (contains-flat_map given list item part (k, omega (arith, within), here) there)
+
+-- no item gives anything
+gives-none : {A B : Type 0} (given : A → List B) (list : List A) (item : A) → flat_map given list ≡ [] → Contains list item → given item ≡ []
+gives-none given [] item none (k, within, here) = absurd (omega (arith, within))
+gives-none given (head ∷ list) item none (zero, within, here) = ap given (sym here) ∙ (append_empty (given head) (flat_map given list) none).0
+gives-none given (head ∷ list) item none (suc k, within, here) =
+    gives-none given list item (append_empty (given head) (flat_map given list) none).1 (k, omega (arith, within), here)
+
+-- ---- users stand at places of the grid
+
+pub record IsAt (device : DeviceName) (x y : ℕ) : Type 0 where
+  pub left : x < grid_width device
+  pub low : y < grid_height device
+
+pub record IsPlaced (device : DeviceName) (fabric : Fabric) : Type 0 where
+  pub pins : All (λ pin. IsAt device pin.x pin.y) fabric.pins
+  pub lcs : All (λ lc. IsAt device lc.x lc.y) fabric.lcs
+  pub registers : All (λ register. IsAt device register.x register.y) fabric.registers
+  pub rams : All (λ ram. IsAt device ram.x ram.y) fabric.rams
+
+module _ (db : Database) (image : Configuration) where
+  pin-placed : (x y n pintype : ℕ) → IsAt image.layout.device x y → IsAt image.layout.device (pin_with db x y n pintype).x (pin_with db x y n pintype).y
+  unfolding pin_with
+  pin-placed x y n pintype at = at
+
+  pins-placed : All (λ pin. IsAt image.layout.device pin.x pin.y) (pins_of db image)
+  unfolding pins_of
+  pins-placed =
+      All-over_tiles (λ pin. IsAt image.layout.device pin.x pin.y) image.layout.device Io (λ x y. gathered_below 2 (port_at db image x y))
+      (λ x y left low. All-gathered_below (λ pin. IsAt image.layout.device pin.x pin.y) 2 (port_at db image x y)
+      (λ n below. All-item_if (λ pin. IsAt image.layout.device pin.x pin.y) _ (pin_with db x y n _)
+      (pin-placed x y n _ (record { left = left; low = low }))))
+
+  cell-placed : (x y i : ℕ) (bits : List Bool) → IsAt image.layout.device x y
+      → IsAt image.layout.device (cell_with db image x y i bits).x (cell_with db image x y i bits).y
+  unfolding cell_with
+  cell-placed x y i bits at = at
+
+  cells-placed : All (λ lc. IsAt image.layout.device lc.x lc.y) (cells_of db image)
+  unfolding cells_of cells_at
+  cells-placed =
+      All-over_tiles (λ lc. IsAt image.layout.device lc.x lc.y) image.layout.device Logic (cells_at db image)
+      (λ x y left low. All-gathered_below (λ lc. IsAt image.layout.device lc.x lc.y) 8 (used_cell db image x y)
+      (λ i below. All-item_if (λ lc. IsAt image.layout.device lc.x lc.y) _ (cell_with db image x y i (cell_bits db image x y i))
+      (cell-placed x y i (cell_bits db image x y i) (record { left = left; low = low }))))
+
+  register-placed : (inputs : LutInputs) (lc : LogicCell) → IsAt image.layout.device lc.x lc.y
+      → IsAt image.layout.device (register_of inputs lc).x (register_of inputs lc).y
+  unfolding register_of
+  register-placed inputs lc at = at
+
+  flips-placed : (inputs : LutInputs) → All (λ register. IsAt image.layout.device register.x register.y) (registers_of inputs (cells_of db image))
+  unfolding registers_of
+  flips-placed inputs =
+      let made = register_of inputs in
+      All-map (λ register. IsAt image.layout.device register.x register.y) made (filter (λ lc. lc.flip) (cells_of db image))
+      (All-filter (λ lc. lc.flip) (λ lc. IsAt image.layout.device (made lc).x (made lc).y) (cells_of db image)
+      (All-weaker (λ lc. IsAt image.layout.device lc.x lc.y) (λ lc. IsAt image.layout.device (made lc).x (made lc).y) (register-placed inputs) (cells_of db image) cells-placed))
+
+  pin_register-placed : (inputs : List Pin) (pin : Pin) → IsAt image.layout.device pin.x pin.y
+      → IsAt image.layout.device (pin_register db image inputs pin).x (pin_register db image inputs pin).y
+  unfolding pin_register
+  pin_register-placed inputs pin at = at
+
+  pin_registers-placed : All (λ register. IsAt image.layout.device register.x register.y) (pin_registers_of db image (pins_of db image))
+  unfolding pin_registers_of
+  pin_registers-placed =
+      let made = pin_register db image (filter (λ pin. not pin.output) (pins_of db image)) in
+      All-map (λ register. IsAt image.layout.device register.x register.y) made (filter is_registered (pins_of db image))
+      (All-filter is_registered (λ pin. IsAt image.layout.device (made pin).x (made pin).y) (pins_of db image)
+      (All-weaker (λ pin. IsAt image.layout.device pin.x pin.y) (λ pin. IsAt image.layout.device (made pin).x (made pin).y) (pin_register-placed _) (pins_of db image) pins-placed))
+
+  ram-placed : (x y : ℕ) → IsAt image.layout.device x y → IsAt image.layout.device (ram_at db image x y).x (ram_at db image x y).y
+  unfolding ram_at
+  ram-placed x y at = at
+
+  rams-placed : All (λ ram. IsAt image.layout.device ram.x ram.y) (rams_of db image)
+  unfolding rams_of
+  rams-placed =
+      All-over_tiles (λ ram. IsAt image.layout.device ram.x ram.y) image.layout.device RamB _
+      (λ x y left low. All-if (λ ram. IsAt image.layout.device ram.x ram.y) (is_ram_used db image x y) (ram_at db image x y ∷ [])
+      (All-single (λ ram. IsAt image.layout.device ram.x ram.y) (ram_at db image x y) (ram-placed x y (record { left = left; low = low }))))
+
+  -- pins, cells, registers and RAMs of a database and an image stand at places of the grid
+  pub fabric-placed : (inputs : LutInputs) → IsPlaced image.layout.device (fabric_with inputs db image)
+  unfolding fabric_with
+  fabric-placed inputs = record {
+    pins = pins-placed;
+    lcs = cells-placed;
+    registers = All-append (λ register. IsAt image.layout.device register.x register.y) (registers_of inputs (cells_of db image)) (pin_registers_of db image (pins_of db image)) (flips-placed inputs) pin_registers-placed;
+    rams = rams-placed;
+  }
+
+-- ---- clocks that agree
+
+-- two lists of bits agree at a net that may be missing
+abbrev pub AgreeAt : (ℕ → Bool) → (ℕ → Bool) → Option ℕ → Type 0
+AgreeAt one two None = Unit {0}
+AgreeAt one two (Some net) = one net ≡ two net
+
+-- they agree at each clock net
+pub record ClocksAgree (fabric : Fabric) (one two : ℕ → Bool) : Type 0 where
+  pub registers : All (λ register. AgreeAt one two register.clk) fabric.registers
+  pub reads : All (λ ram. AgreeAt one two ram.rclk) fabric.rams
+  pub writes : All (λ ram. AgreeAt one two ram.wclk) fabric.rams
+
+module _ (before one two : ℕ → Bool) where
+  edge-same : (inverted : Bool) (clock : Option ℕ) → AgreeAt one two clock → has_edge inverted clock before one ≡ has_edge inverted clock before two
+  edge-same inverted None agree = refl
+  edge-same inverted (Some net) agree = rw agree refl
+
+  module _ (connected : ℕ → Bool) where
+    bit-same : (pins bits : List Bool) (place : ℕ × Register) → AgreeAt one two place.1.clk
+        → bit_after connected pins before one bits place ≡ bit_after connected pins before two bits place
+    bit-same pins bits place agree = rw (edge-same place.1.neg place.1.clk agree) refl
+
+    words-same : (state : State) (place : ℕ × RamCell) → AgreeAt one two place.1.wclk
+        → words_after connected before one state place ≡ words_after connected before two state place
+    words-same state place agree = rw (edge-same place.1.wneg place.1.wclk agree) refl
+
+    read-same : (state : State) (place : ℕ × RamCell) → AgreeAt one two place.1.rclk
+        → read_after connected before one state place ≡ read_after connected before two state place
+    read-same state place agree = rw (edge-same place.1.rneg place.1.rclk agree) refl
+
+  -- what is made of parts with their places is the same where it is so for parts whose clocks agree
+  each-same : {A B : Type 0} (clock : A → Option ℕ) (first second : ℕ × A → B) → ((place : ℕ × A) → AgreeAt one two (clock place.1) → first place ≡ second place)
+      → (parts : List A) → All (λ part. AgreeAt one two (clock part)) parts → map first (numbered parts) ≡ map second (numbered parts)
+  each-same {A} clock first second same parts agree =
+      map-same first second (numbered parts)
+      (All-weaker (λ (place : ℕ × A). AgreeAt one two (clock place.1)) (λ (place : ℕ × A). first place ≡ second place)
+      same (numbered parts) (All-numbered (λ part. AgreeAt one two (clock part)) 0 parts agree))
+
+  -- the next state looks at the bits after the event at clock nets alone
+  pub state-same : (fabric : Fabric) (pins : List Bool) (state : State) → ClocksAgree fabric one two
+      → state_after fabric pins state before one ≡ state_after fabric pins state before two
+  unfolding state_after
+  state-same fabric pins state agree =
+      let connected = is_connected fabric in
+      let bits = each-same (λ register. register.clk) (bit_after connected pins before one state.bits) (bit_after connected pins before two state.bits)
+      (bit-same connected pins state.bits) fabric.registers agree.registers in
+      let reads = each-same (λ ram. ram.rclk) (read_after connected before one state) (read_after connected before two state)
+      (read-same connected state) fabric.rams agree.reads in
+      let words = each-same (λ ram. ram.wclk) (words_after connected before one state) (words_after connected before two state)
+      (words-same connected state) fabric.rams agree.writes in
+      rw (bits, reads, words) refl
+
+-- ---- the bits of clocks
+
+-- the bit of the end of a chain
+abbrev pub end_bit : List Bool → ClockEnd → Bool
+end_bit pins (at_pin place) = get_or pins place false
+end_bit pins undriven = false
+end_bit pins logic = false
+
+-- the bit that the pins give a clock net
+pub clock_bit : Fabric → List Bool → ℕ → Bool
+clock_bit fabric pins net = end_bit pins (clock_end fabric net)
+
+pub clock_bit-is : (fabric : Fabric) (pins : List Bool) (net : ℕ) → clock_bit fabric pins net ≡ end_bit pins (clock_end fabric net)
+unfolding clock_bit
+clock_bit-is fabric pins net = refl
+
+-- an end that a clock of a user may have
+abbrev pub IsClockEnd : ClockEnd → Type 0
+IsClockEnd (at_pin place) = Unit {0}
+IsClockEnd undriven = Unit {0}
+IsClockEnd logic = ⊥
+
+end-value : (pins : List Bool) (end : ClockEnd) (bit : Bool) → IsClockEnd end → HasEndValue pins end bit → bit ≡ end_bit pins end
+end-value pins (at_pin place) bit good has = has
+end-value pins undriven bit good has = has
+end-value pins logic bit good has = absurd good
+
+end-good : (user : User) (net : ℕ) (end : ClockEnd) → end_fault user net end ≡ [] → IsClockEnd end
+end-good user net (at_pin place) none = tt
+end-good user net undriven none = tt
+end-good user net logic none = absurd cc
+
+-- a clock net that may be missing has such an end
+abbrev pub IsClocked : Fabric → Option ℕ → Type 0
+IsClocked fabric None = Unit {0}
+IsClocked fabric (Some net) = IsClockEnd (clock_end fabric net)
+
+user-good : (fabric : Fabric) (user : User) (net : Option ℕ) → user_fault fabric user net ≡ [] → IsClocked fabric net
+user-good fabric user None none = tt
+user-good fabric user (Some net) none = end-good user net (clock_end fabric net) none
+
+module _ (device : DeviceName) (fabric : Fabric) (taken : fabric_fault device fabric ≡ None) (placed : IsPlaced device fabric) where
+  listed-good : (user : User) → Contains (users_of device fabric) user → IsClocked fabric user.net
+  unfolding clock_faults
+  listed-good user there =
+      user-good fabric user user.net (gives-none (λ u. user_fault fabric u u.net) (users_of device fabric) user (taken-clocks device fabric taken) there)
+
+  there-good : (x y : ℕ) (user : User) → IsAt device x y → Contains (users_at fabric x y) user → IsClocked fabric user.net
+  unfolding users_of
+  there-good x y user at there = listed-good user (contains-over_grid device (users_at fabric) x y user at.left at.low there)
+
+  same-place : (x y : ℕ) → ((x == x) && (y == y)) ≡ true
+  same-place x y = and_from (x == x) (y == y) (eq-eqb x x refl) (eq-eqb y y refl)
+
+  pub register-good : (register : Register) → Contains fabric.registers register → IsClocked fabric register.clk
+  register-good register there =
+      let at : IsAt device register.x register.y = All-contains (λ r. IsAt device r.x r.y) fabric.registers register placed.registers there in
+      let here = filter (λ r. (r.x == register.x) && (r.y == register.y)) fabric.registers in
+      there-good register.x register.y (register_user register) at
+      (Contains-append_left (map register_user here) _ (register_user register)
+      (contains-map register_user here register
+      (filter-has (λ r. (r.x == register.x) && (r.y == register.y)) fabric.registers register there (same-place register.x register.y))))
+
+  ram-user-good : (ram : RamCell) (user : User) → Contains fabric.rams ram → Contains (ram_users ram) user → IsClocked fabric user.net
+  ram-user-good ram user there of_ram =
+      let at : IsAt device ram.x ram.y = All-contains (λ r. IsAt device r.x r.y) fabric.rams ram placed.rams there in
+      there-good ram.x ram.y user at
+      (Contains-append_right (map register_user (filter (λ r. (r.x == ram.x) && (r.y == ram.y)) fabric.registers)) _ user
+      (contains-flat_map ram_users (filter (λ r. (r.x == ram.x) && (r.y == ram.y)) fabric.rams) ram user
+      (filter-has (λ r. (r.x == ram.x) && (r.y == ram.y)) fabric.rams ram there (same-place ram.x ram.y)) of_ram))
+
+  pub read-good : (ram : RamCell) → Contains fabric.rams ram → IsClocked fabric ram.rclk
+  read-good ram there = ram-user-good ram (record { x = ram.x; y = ram.y; user = Read; net = ram.rclk }) there (0, omega arith, refl)
+
+  pub write-good : (ram : RamCell) → Contains fabric.rams ram → IsClocked fabric ram.wclk
+  write-good ram there = ram-user-good ram (record { x = ram.x; y = ram.y; user = Write; net = ram.wclk }) there (1, omega arith, refl)
+
+  module _ (within : IsWithin fabric) where
+    module _ (state : State) (pins v : List Bool) (is : IsConsistent fabric state pins v) where
+      -- a clock net has the bit that the pins give it
+      pub clock-bit : (net : ℕ) → IsClockEnd (clock_end fabric net) → bit_in v net ≡ clock_bit fabric pins net
+      unfolding clock_bit
+      clock-bit net good =
+          let order = taken-order device fabric taken within in
+          end-value pins (clock_end fabric net) (bit_in v net) good
+          (clock-value fabric within state pins v is net (clock_end fabric net) (clock_end-leads fabric within order.it order.is net))
+
+      clock-agrees : (clock : Option ℕ) → IsClocked fabric clock → AgreeAt (bit_in v) (clock_bit fabric pins) clock
+      clock-agrees None good = tt
+      clock-agrees (Some net) good = clock-bit net good
+
+      -- so all clocks have
+      pub clocks-agree : ClocksAgree fabric (bit_in v) (clock_bit fabric pins)
+      clocks-agree = record {
+        registers = All-weaker (Contains fabric.registers) (λ register. AgreeAt (bit_in v) (clock_bit fabric pins) register.clk)
+            (λ register there. clock-agrees register.clk (register-good register there)) fabric.registers (All-contains_itself fabric.registers);
+        reads = All-weaker (Contains fabric.rams) (λ ram. AgreeAt (bit_in v) (clock_bit fabric pins) ram.rclk)
+            (λ ram there. clock-agrees ram.rclk (read-good ram there)) fabric.rams (All-contains_itself fabric.rams);
+        writes = All-weaker (Contains fabric.rams) (λ ram. AgreeAt (bit_in v) (clock_bit fabric pins) ram.wclk)
+            (λ ram there. clock-agrees ram.wclk (write-good ram there)) fabric.rams (All-contains_itself fabric.rams);
+      }
+
+    -- ---- entries
+
+    entry-same : (one two : Entry) → one.pins ≡ two.pins → one.state ≡ two.state → one.v ≡ two.v → one.outputs ≡ two.outputs → one ≡ two
+    entry-same one two pins state v outputs = λ i. record { pins = pins i; state = state i; v = v i; outputs = outputs i }
+
+    -- the values of nets of an entry are consistent with each state that settles to its own
+    pub entry-raw : (entry : Entry) (state : State) → IsEntry fabric entry → entry.state ≡ settled_state fabric (bit_in entry.v) state
+        → IsConsistent fabric state entry.pins entry.v
+    entry-raw entry state is settled =
+        consistent-unsettled fabric state entry.pins entry.v (subst (λ s. IsConsistent fabric s entry.pins entry.v) settled is.consistent)
+
+    -- two entries with the same pins whose states are what one state settles to are one
+    pub entry-one : (state : State) (one two : Entry) → IsEntry fabric one → IsEntry fabric two → one.pins ≡ two.pins
+        → one.state ≡ settled_state fabric (bit_in one.v) state → two.state ≡ settled_state fabric (bit_in two.v) state → one ≡ two
+    entry-one state one two of_one of_two pins first second =
+        let value = taken-value device fabric taken within state two.pins in
+        let moved : IsConsistent fabric state two.pins one.v = subst (λ p. IsConsistent fabric state p one.v) pins (entry-raw one state of_one first) in
+        let v : one.v ≡ two.v = value.only one.v moved ∙ sym (value.only two.v (entry-raw two state of_two second)) in
+        let settles : one.state ≡ two.state = first ∙ (ap (λ w. settled_state fabric (bit_in w) state) v ∙ sym second) in
+        let outputs : output_values fabric one.state one.pins one.v ≡ output_values fabric two.state two.pins two.v = rw (settles, pins, v) refl in
+        entry-same one two pins settles v (of_one.outputs ∙ (outputs ∙ sym of_two.outputs))
+
+    -- the entry of some pins and of what a state settles to
+    entry_of : List Bool → State → Entry
+    entry_of pins state =
+        let v = (taken-value device fabric taken within state pins).it in
+        let settled = settled_state fabric (bit_in v) state in
+        record { pins = pins; state = settled; v = v; outputs = output_values fabric settled pins v }
+
+    entry_of-is : (pins : List Bool) (state : State) → IsEntry fabric (entry_of pins state)
+    unfolding entry_of
+    entry_of-is pins state =
+        let value = taken-value device fabric taken within state pins in
+        record { consistent = consistent-settled fabric state pins value.it value.is; outputs = refl }
+
+    entry_of-pins : (pins : List Bool) (state : State) → (entry_of pins state).pins ≡ pins
+    unfolding entry_of
+    entry_of-pins pins state = refl
+
+    entry_of-state : (pins : List Bool) (state : State) → (entry_of pins state).state ≡ settled_state fabric (bit_in (entry_of pins state).v) state
+    unfolding entry_of
+    entry_of-state pins state = refl
+
+    -- ---- one event
+
+    -- the next state is that of the clocks' bits
+    pub state-clocked : (entry : Entry) → IsEntry fabric entry → (pins : List Bool) (state : State) (before : ℕ → Bool)
+        → state_after fabric pins state before (bit_in entry.v) ≡ state_after fabric pins state before (clock_bit fabric entry.pins)
+    state-clocked entry is pins state before =
+        state-same before (bit_in entry.v) (clock_bit fabric entry.pins) fabric pins state (clocks-agree entry.state entry.pins entry.v is.consistent)
+
+    -- what an event makes of a state before it settles, from the pins after it
+    pub raw_state : Entry → List Bool → State
+    raw_state before pins = state_after fabric before.pins before.state (bit_in before.v) (clock_bit fabric pins)
+
+    pub raw_state-is : (before : Entry) (pins : List Bool)
+        → raw_state before pins ≡ state_after fabric before.pins before.state (bit_in before.v) (clock_bit fabric pins)
+    unfolding raw_state
+    raw_state-is before pins = refl
+
+    -- the state of an entry that follows is what that settles to
+    pub follows-raw : (before : Entry) (event : Event) (after : Entry) → Follows fabric before event after
+        → after.state ≡ settled_state fabric (bit_in after.v) (raw_state before after.pins)
+    unfolding raw_state
+    follows-raw before event after follows =
+        follows.state
+        ∙ ap (settled_state fabric (bit_in after.v)) (state-clocked after follows.entry before.pins before.state (bit_in before.v))
+
+    follows-one : (before : Entry) (event : Event) (one two : Entry) → Follows fabric before event one → Follows fabric before event two → one ≡ two
+    follows-one before event one two of_one of_two =
+        let pins : one.pins ≡ two.pins = of_one.pins ∙ sym of_two.pins in
+        let first : one.state ≡ settled_state fabric (bit_in one.v) (raw_state before two.pins) =
+        follows-raw before event one of_one ∙ ap (λ p. settled_state fabric (bit_in one.v) (raw_state before p)) pins in
+        entry-one (raw_state before two.pins) one two of_one.entry of_two.entry pins first (follows-raw before event two of_two)
+
+    next_entry : Entry → Event → Entry
+    next_entry before event =
+        let pins = set before.pins event.pin event.bit in
+        entry_of pins (raw_state before pins)
+
+    next-follows : (before : Entry) (event : Event) → Follows fabric before event (next_entry before event)
+    unfolding next_entry raw_state
+    next-follows before event =
+        let pins = set before.pins event.pin event.bit in
+        let state = raw_state before pins in
+        let after = entry_of pins state in
+        let is = entry_of-is pins state in
+        record {
+          entry = is;
+          pins = entry_of-pins pins state;
+          state = entry_of-state pins state
+              ∙ ap (settled_state fabric (bit_in after.v))
+              (ap (λ p. raw_state before p) (sym (entry_of-pins pins state))
+              ∙ sym (state-clocked after is before.pins before.state (bit_in before.v)));
+        }
+
+    -- ---- entries settle
+
+    -- a state that another settles to settles to itself
+    settled-itself : (bit : ℕ → Bool) (state raw : State) → state ≡ settled_state fabric bit raw → state ≡ settled_state fabric bit state
+    settled-itself bit state raw settled = settled ∙ (sym (settled-twice fabric bit raw) ∙ ap (settled_state fabric bit) (sym settled))
+
+    -- the state of an entry settles to itself: of the first entry
+    pub first-settled : (entry : Entry) → IsFirst fabric entry → entry.state ≡ settled_state fabric (bit_in entry.v) entry.state
+    first-settled entry first = settled-itself (bit_in entry.v) entry.state (start_state fabric) first.state
+
+    -- and of each that follows
+    pub follows-settled : (before : Entry) (event : Event) (after : Entry) → Follows fabric before event after
+        → after.state ≡ settled_state fabric (bit_in after.v) after.state
+    follows-settled before event after follows =
+        settled-itself (bit_in after.v) after.state (state_after fabric before.pins before.state (bit_in before.v) (bit_in after.v)) follows.state
+
+    -- ---- runs
+
+    follow-there : (entry : Entry) (events : List Event) → (entries : List Entry) × FollowEach fabric entry events entries
+    follow-there entry [] = ([], tt)
+    follow-there entry (event ∷ events) =
+        let rest = follow-there (next_entry entry event) events in
+        (next_entry entry event ∷ rest.0, (next-follows entry event, rest.1))
+
+    follow-one : (entry : Entry) (events : List Event) (one two : List Entry) → FollowEach fabric entry events one → FollowEach fabric entry events two → one ≡ two
+    follow-one entry [] [] [] of_one of_two = refl
+    follow-one entry [] (a ∷ one) two of_one of_two = absurd of_one
+    follow-one entry [] [] (b ∷ two) of_one of_two = absurd of_two
+    follow-one entry (event ∷ events) [] two of_one of_two = absurd of_one
+    follow-one entry (event ∷ events) (a ∷ one) [] of_one of_two = absurd of_two
+    follow-one entry (event ∷ events) (a ∷ one) (b ∷ two) of_one of_two =
+        let same : a ≡ b = follows-one entry event a b of_one.0 of_two.0 in
+        let rest : one ≡ two = follow-one b events one two (subst (λ e. FollowEach fabric e events one) same of_one.1) of_two.1 in
+        cc
+
+    first_entry : Entry
+    first_entry = entry_of (replicate (length (inputs_of fabric)) false) (start_state fabric)
+
+    first-is : IsFirst fabric first_entry
+    unfolding first_entry
+    first-is = record {
+      entry_is = entry_of-is _ _;
+      pins = entry_of-pins _ _;
+      state = entry_of-state _ _;
+    }
+
+    first-one : (one two : Entry) → IsFirst fabric one → IsFirst fabric two → one ≡ two
+    first-one one two of_one of_two =
+        entry-one (start_state fabric) one two of_one.entry_is of_two.entry_is (of_one.pins ∙ sym of_two.pins) of_one.state of_two.state
+
+    run-only : (events : List Event) (one two : List Entry) → IsRun fabric events one → IsRun fabric events two → one ≡ two
+    run-only events [] two of_one of_two = absurd of_one
+    run-only events (a ∷ one) [] of_one of_two = absurd of_two
+    run-only events (a ∷ one) (b ∷ two) of_one of_two =
+        let same : a ≡ b = first-one a b of_one.0 of_two.0 in
+        let rest : one ≡ two = follow-one b events one two (subst (λ e. FollowEach fabric e events one) same of_one.1) of_two.1 in
+        cc
+
+    -- there is exactly one run for each list of events
+    pub taken-run : (events : List Event) → ExactlyOne (IsRun fabric events)
+    taken-run events =
+        let rest = follow-there first_entry events in
+        record {
+          it = first_entry ∷ rest.0;
+          is = (first-is, rest.1);
+          only = λ entries is. run-only events entries (first_entry ∷ rest.0) is (first-is, rest.1);
+        }
+
+    -- ---- clocks in a run
+
+    entry-clocks : (entry : Entry) → IsEntry fabric entry → ClocksAgree fabric (bit_in entry.v) (clock_bit fabric entry.pins)
+    entry-clocks entry is = clocks-agree entry.state entry.pins entry.v is.consistent
+
+    follow-clocks : (entry : Entry) (events : List Event) (entries : List Entry) → FollowEach fabric entry events entries
+        → AllByRecursion (λ (e : Entry). ClocksAgree fabric (bit_in e.v) (clock_bit fabric e.pins)) entries
+    follow-clocks entry events [] follow = tt
+    follow-clocks entry [] (next ∷ entries) follow = absurd follow
+    follow-clocks entry (event ∷ events) (next ∷ entries) follow = (entry-clocks next follow.0.entry, follow-clocks next events entries follow.1)
+
+    -- in each entry of a run the clock nets of all users have the bits that the pins give them
+    pub run-clocks : (events : List Event) (entries : List Entry) → IsRun fabric events entries
+        → AllByRecursion (λ (e : Entry). ClocksAgree fabric (bit_in e.v) (clock_bit fabric e.pins)) entries
+    run-clocks events [] run = tt
+    run-clocks events (first ∷ entries) run = (entry-clocks first run.0.entry_is, follow-clocks first events entries run.1)

@@ -1,0 +1,116 @@
+-- Why a database and an image aren't taken: the first cause that holds, with the first tile, pin, net or user that has it. Each list of
+-- faults is in the order of the tiles, pins, nets or users.
+use Rattle.std.specs.Prelude.{ℕ, List, [], ◌∷◌, flat_map, if◌then◌else◌, Option, Some, None}
+use Rattle.plane_map.specs.declared.device.DeviceName.{DeviceName}
+use Rattle.plane_map.specs.Devices.{is_same_device}
+use Rattle.plane_map.specs.declared.tile.TileKind.TheVariants.{Io}
+use Rattle.ice_image.specs.Configuration.{Configuration}
+use Rattle.chipdb_reader.specs.Database.{Database}
+use Rattle.index_search.specs.Places.{gathered_below, or_else}
+use Rattle.fabric_model.specs.declared.lut_inputs.LutInputs.{LutInputs}
+use Rattle.fabric_model.specs.declared.driver.Driver.{Driver}
+use Rattle.fabric_model.specs.declared.driver.ClockUser.{ClockUser}
+use Rattle.fabric_model.specs.Tiles.{over_tiles, item_if, first_of}
+use Rattle.fabric_model.specs.Rams.{over_rams, is_cascaded}
+use Rattle.fabric_model.specs.Pins.{over_pins, pintype_of, is_refused_with, has_pll}
+use Rattle.fabric_model.specs.Fabric.{Fabric, fabric_with}
+use Rattle.fabric_model.specs.Drivers.{Drive, drivers_of}
+use Rattle.graph_order.specs.Wiring.{Wiring, is_on_cycle}
+use Rattle.fabric_model.specs.Wiring.{wiring_of}
+use Rattle.fabric_model.specs.Clocks.{ClockEnd, User, users_of, clock_end}
+use Rattle.fabric_model.specs.Clocks.ClockEnd.{at_pin, undriven, logic}
+
+-- a cause, and what has it
+pub data Fault : Type 0 where
+  -- the devices differ
+  other_device : Fault
+  -- a PLL in the tile at (x, y)
+  pll : (x y : ℕ) → Fault
+  -- a pin of a type that isn't taken
+  pin_mode : (x y n pintype : ℕ) → Fault
+  -- a RAM that is cascaded
+  cascade : (x y : ℕ) → Fault
+  -- a class of joined nets with two drivers or more, and the first two
+  two_drivers : (net : ℕ) (first second : Driver) → Fault
+  -- a class of joined nets that lies on a combinational cycle
+  loop : (net : ℕ) → Fault
+  -- a user of a clock whose clock comes from another driver than a pin
+  clock : (x y : ℕ) (user : ClockUser) (net : ℕ) → Fault
+
+-- ---- devices
+
+unfoldable pub device_faults : Database → Configuration → List Fault
+device_faults db image = if is_same_device db.chip.device image.layout.device then [] else other_device ∷ []
+
+-- ---- pins
+
+unfoldable pub pll_faults : Database → Configuration → List Fault
+pll_faults db image = over_tiles image.layout.device Io (λ x y. item_if (has_pll db image x y) (pll x y))
+
+abbrev pub pin_fault_at : Database → Configuration → ℕ → ℕ → ℕ → List Fault
+pin_fault_at db image x y n =
+    let pintype = pintype_of db image x y n in
+    item_if (is_refused_with db image x y n pintype) (pin_mode x y n pintype)
+
+unfoldable pub pin_faults : Database → Configuration → List Fault
+pin_faults db image = over_pins db image (pin_fault_at db image)
+
+-- ---- RAMs
+
+unfoldable pub cascade_faults : Database → Configuration → List Fault
+cascade_faults db image = over_rams db image (λ x y. item_if (is_cascaded db image x y) (cascade x y))
+
+-- ---- drivers
+
+abbrev pub drivers_fault : ℕ → List Drive → List Fault
+drivers_fault class (first ∷ second ∷ others) = two_drivers class first.driver second.driver ∷ []
+drivers_fault class drives = []
+
+-- classes of joined nets with two drivers or more
+unfoldable pub driver_faults : Fabric → List Fault
+driver_faults fabric = gathered_below fabric.nets (λ class. drivers_fault class (drivers_of fabric class))
+
+-- classes of joined nets that lie on a combinational cycle
+unfoldable pub loop_faults : Wiring → List Fault
+loop_faults wiring = gathered_below wiring.count (λ class. item_if (is_on_cycle wiring class) (loop class))
+
+-- ---- clocks
+
+abbrev pub end_fault : User → ℕ → ClockEnd → List Fault
+end_fault user net (at_pin place) = []
+end_fault user net undriven = []
+end_fault user net logic = clock user.x user.y user.user net ∷ []
+
+-- a user without a net has no clock
+abbrev pub user_fault : Fabric → User → Option ℕ → List Fault
+user_fault fabric user None = []
+user_fault fabric user (Some net) = end_fault user net (clock_end fabric net)
+
+-- users whose clock comes from another driver than a pin
+unfoldable pub clock_faults : DeviceName → Fabric → List Fault
+clock_faults device fabric = flat_map (λ user. user_fault fabric user user.net) (users_of device fabric)
+
+-- ---- the first cause
+
+-- what is wrong with pins: the first cause, with the first tile or pin that has it
+unfoldable pub pins_fault : Database → Configuration → Option Fault
+pins_fault db image = or_else (first_of (pll_faults db image)) (first_of (pin_faults db image))
+
+-- what is wrong with RAMs
+unfoldable pub rams_fault : Database → Configuration → Option Fault
+rams_fault db image = first_of (cascade_faults db image)
+
+-- what is wrong with a fabric
+unfoldable pub fabric_fault : DeviceName → Fabric → Option Fault
+fabric_fault device fabric =
+    or_else (first_of (driver_faults fabric))
+    (or_else (first_of (loop_faults (wiring_of fabric)))
+    (first_of (clock_faults device fabric)))
+
+-- why a database and an image aren't taken, if the LUTs read these inputs
+unfoldable pub design_fault : LutInputs → Database → Configuration → Option Fault
+design_fault inputs db image =
+    or_else (first_of (device_faults db image))
+    (or_else (pins_fault db image)
+    (or_else (rams_fault db image)
+    (fabric_fault image.layout.device (fabric_with inputs db image))))

@@ -1,0 +1,87 @@
+-- The nets that the parts of a fabric name are among its nets: the numbers below their count.
+use Rattle.std.specs.Prelude.{ℕ, ◌<◌, All, Option, Some, None}
+use Rattle.fabric_model.specs.declared.cell.LogicCell.{LogicCell}
+use Rattle.fabric_model.specs.declared.cell.CarrySet.{CarrySet}
+use Rattle.fabric_model.specs.declared.register.LutSource.{LutSource}
+use Rattle.fabric_model.specs.declared.register.LutSource.TheVariants.{Net, Pin as SourcePin}
+use Rattle.fabric_model.specs.declared.register.Register.{Register}
+use Rattle.fabric_model.specs.declared.ram.RamCell.{RamCell}
+use Rattle.fabric_model.specs.declared.pin.Pin.{Pin}
+use Rattle.fabric_model.specs.declared.pin.GlobalNet.{GlobalNet}
+use Rattle.fabric_model.specs.declared.pin.GlobalFrom.{GlobalFrom}
+use Rattle.fabric_model.specs.declared.pin.GlobalFrom.TheVariants.{Pad, Fabout}
+use Rattle.fabric_model.specs.Fabric.{Fabric, Buffer}
+
+-- a net is among the nets, or is missing
+abbrev pub IsNetIn : ℕ → Option ℕ → Type 0
+IsNetIn nets None = Unit {0}
+IsNetIn nets (Some net) = net < nets
+
+pub record IsPinIn (nets : ℕ) (pin : Pin) : Type 0 where
+  pub din : IsNetIn nets pin.din
+  pub dout : IsNetIn nets pin.dout
+  pub enable : IsNetIn nets pin.enable
+
+pub record IsCellIn (nets : ℕ) (lc : LogicCell) : Type 0 where
+  pub ins : All (IsNetIn nets) lc.ins
+  pub out : IsNetIn nets lc.out
+  pub lout : IsNetIn nets lc.lout
+  pub cout : IsNetIn nets lc.cout
+  pub cin : IsNetIn nets lc.cin
+  pub clk : IsNetIn nets lc.clk
+  pub cen : IsNetIn nets lc.cen
+  pub sr : IsNetIn nets lc.sr
+
+abbrev pub IsSourceIn : ℕ → LutSource → Type 0
+IsSourceIn nets (Net net) = IsNetIn nets net
+IsSourceIn nets (SourcePin place) = Unit {0}
+
+pub record IsRegisterIn (nets : ℕ) (register : Register) : Type 0 where
+  pub out : IsNetIn nets register.out
+  pub clk : IsNetIn nets register.clk
+  pub cen : IsNetIn nets register.cen
+  pub sr : IsNetIn nets register.sr
+  pub ins : All (IsSourceIn nets) register.table.ins
+
+abbrev pub IsSetIn : ℕ → CarrySet → Type 0
+IsSetIn nets set = set.net < nets
+
+pub record IsRamIn (nets : ℕ) (ram : RamCell) : Type 0 where
+  pub rdata : All (IsNetIn nets) ram.rdata
+  pub wdata : All (IsNetIn nets) ram.wdata
+  pub mask : All (IsNetIn nets) ram.mask
+  pub waddr : All (IsNetIn nets) ram.waddr
+  pub raddr : All (IsNetIn nets) ram.raddr
+  pub wclk : IsNetIn nets ram.wclk
+  pub wclke : IsNetIn nets ram.wclke
+  pub we : IsNetIn nets ram.we
+  pub rclk : IsNetIn nets ram.rclk
+  pub rclke : IsNetIn nets ram.rclke
+  pub re : IsNetIn nets ram.re
+
+abbrev pub IsFromIn : ℕ → GlobalFrom → Type 0
+IsFromIn nets (Pad x y n) = Unit {0}
+IsFromIn nets (Fabout net) = net < nets
+
+pub record IsGlobalIn (nets : ℕ) (global : GlobalNet) : Type 0 where
+  pub net : global.net < nets
+  pub from : IsFromIn nets global.from
+
+pub record IsBufferIn (nets : ℕ) (buffer : Buffer) : Type 0 where
+  pub src : buffer.src < nets
+  pub dst : buffer.dst < nets
+
+pub record IsJoinIn (nets : ℕ) (join : ℕ × ℕ) : Type 0 where
+  pub first : join.0 < nets
+  pub second : join.1 < nets
+
+-- all nets that the parts of a fabric name are among its nets
+pub record HasNetsIn (fabric : Fabric) : Type 0 where
+  pub joins : All (IsJoinIn fabric.nets) fabric.joins
+  pub buffers : All (IsBufferIn fabric.nets) fabric.buffers
+  pub pins : All (IsPinIn fabric.nets) fabric.pins
+  pub globals : All (IsGlobalIn fabric.nets) fabric.globals
+  pub lcs : All (IsCellIn fabric.nets) fabric.lcs
+  pub registers : All (IsRegisterIn fabric.nets) fabric.registers
+  pub sets : All (IsSetIn fabric.nets) fabric.sets
+  pub rams : All (IsRamIn fabric.nets) fabric.rams

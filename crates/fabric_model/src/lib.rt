@@ -1,0 +1,52 @@
+//! What an image sets of a chip database, and the rules of the fabric that it configures.
+//!
+//! The definitions are in specs/: which functions, links and extra bits an image sets, what its nets, cells, RAMs, pins and global
+//! nets are, what drives each net and with which value, how the state changes at an event, and for which cause a database and an
+//! image aren't taken. They say what holds, and not in which order it is computed.
+//!
+//! The code reads what is on: [`links`] finds the links that an image sets, the classes of joined nets and the nets that are read,
+//! and [`is_on`], [`is_any_on`] and [`function_bits`] look functions up at a tile. The calls of [`Links`] allocate no memory.
+//!
+//! [`narrow_rams_are_memories`] is a law of the definitions: in each run a used RAM in a narrow mode works as a memory of narrow words.
+#![tactic(auto)]
+
+mod cell;
+mod cell_bits;
+mod classes;
+mod driver;
+mod fault;
+mod found_links;
+mod functions;
+mod input_pins;
+mod law;
+mod links_type;
+mod lut_inputs;
+mod name;
+mod on;
+mod pin;
+mod ram;
+mod reads;
+mod register;
+mod some_read;
+mod tiles;
+
+pub use cell::{CarrySet, LogicCell};
+pub use cell_bits::{
+    ASYNC_SET_RESET, CARRY_ENABLE, DFF_ENABLE, SET_NO_RESET, cell_name, cell_places, flags,
+    is_one_set, lut,
+};
+pub use driver::{ClockUser, Driver};
+pub use fault::LinkFault;
+pub use found_links::links;
+pub use functions::{are_set, function_bits, is_any_on, is_on, listed_bit};
+pub use input_pins::{inputs, place_among};
+pub use law::narrow_rams_are_memories;
+pub use links_type::Links;
+pub use lut_inputs::{LutInputs, inputs_read};
+pub use name::Name;
+pub use on::{is_link_on, place_of};
+pub use pin::{GlobalFrom, GlobalNet, Pin, PinKind};
+pub use ram::RamCell;
+pub use register::{LutSource, LutTable, Register};
+pub use some_read::is_some_read;
+pub use tiles::tiles_of_image;

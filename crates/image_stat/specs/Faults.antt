@@ -1,0 +1,35 @@
+-- Why a database and an image are not counted.
+use Rattle.std.specs.Prelude.{◌≡◌, Option, Some}
+use Rattle.ice_image.specs.Configuration.{Configuration}
+use Rattle.chipdb_reader.specs.Database.{Database}
+use Rattle.index_search.specs.Places.{or_else}
+use Rattle.fabric_model.specs.Tiles.{first_of}
+use Rattle.fabric_model.specs.Faults.{Fault, device_faults, pins_fault, rams_fault}
+use Rattle.fabric_parts.specs.declared.io.fault.PinFault.{PinFault}
+use Rattle.fabric_parts.specs.declared.io.fault.PinFault.TheVariants as pins
+use Rattle.fabric_parts.specs.declared.ram.fault.RamFault.{RamFault}
+use Rattle.fabric_parts.specs.declared.ram.fault.RamFault.TheVariants as rams
+use Rattle.image_stat.specs.declared.fault.StatFault.{StatFault}
+use Rattle.image_stat.specs.declared.fault.StatFault.TheVariants.{Device, Pins, Rams, Memory}
+
+-- the first cause: the devices differ, a pin is refused, or a RAM is refused
+unfoldable pub stat_fault : Database → Configuration → Option Fault
+stat_fault db image = or_else (first_of (device_faults db image)) (or_else (pins_fault db image) (rams_fault db image))
+
+-- the reported fault of a pin is that one; out of memory isn't reported so
+abbrev pub IsPinCause : Option Fault → PinFault → Type 0
+IsPinCause fault (pins.Pll x y) = fault ≡ Some (Fault.pll x y)
+IsPinCause fault (pins.PinMode x y pio pintype) = fault ≡ Some (Fault.pin_mode x y pio pintype)
+IsPinCause fault (pins.Memory failed) = ⊥
+
+-- the reported fault of a RAM is that one; out of memory isn't reported so
+abbrev pub IsRamCause : Option Fault → RamFault → Type 0
+IsRamCause fault (rams.Cascade x y) = fault ≡ Some (Fault.cascade x y)
+IsRamCause fault (rams.Memory failed) = ⊥
+
+-- the reported fault is that one; out of memory may come in place of any answer
+abbrev pub IsCause : Option Fault → StatFault → Type 0
+IsCause fault Device = fault ≡ Some Fault.other_device
+IsCause fault (Pins cause) = IsPinCause fault cause
+IsCause fault (Rams cause) = IsRamCause fault cause
+IsCause fault (Memory failed) = Unit {0}

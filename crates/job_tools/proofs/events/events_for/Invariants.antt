@@ -1,7 +1,0 @@
-use Rattle.std.proofs.Common.{◌≡◌, map, take}
-use Rattle.fabric_module.specs.Matching.{module_event}
-use Rattle.job_tools.specs.Counted.{events_for}
-use Rattle.job_tools.proofs.events.events_for.Given as goal
-
-abbrev pub invariant-loop-event : goal.invariant-loop-event
-invariant-loop-event l = l.events.items ≡ map module_event (events_for l.inputs (take l.event-index l.made))

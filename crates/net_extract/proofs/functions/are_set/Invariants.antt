@@ -1,7 +1,0 @@
-use Rattle.std.proofs.Common.{◌≡◌, ◌<◌, ℕ, true, false, get_or}
-use Rattle.ice_image.specs.Either.{configuration_of}
-use Rattle.net_extract.specs.On.{bits_at}
-use Rattle.net_extract.proofs.functions.are_set.Given as goal
-
-abbrev pub invariant-loop-k : goal.invariant-loop-k
-invariant-loop-k l = (k : ℕ) → k < l.k → get_or (bits_at (configuration_of l.image) l.x l.y l.bits) k false ≡ true

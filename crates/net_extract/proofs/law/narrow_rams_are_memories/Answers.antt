@@ -1,5 +1,0 @@
-use Rattle.net_extract.proofs.NarrowMemories.{narrow-memories}
-use Rattle.net_extract.proofs.law.narrow_rams_are_memories.Goals as goal
-
-pub returns : goal.returns
-returns c db image events first entries run = narrow-memories db image events first entries run

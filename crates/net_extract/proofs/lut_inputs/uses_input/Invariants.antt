@@ -1,6 +1,0 @@
-use Rattle.std.proofs.Common.{◌≡◌, ◌<◌, ℕ, false}
-use Rattle.net_extract.specs.Luts.{entry_differs}
-use Rattle.net_extract.proofs.lut_inputs.uses_input.Given as goal
-
-abbrev pub invariant-loop-n : goal.invariant-loop-n
-invariant-loop-n l = (number : ℕ) → number < l.n → entry_differs l.lut l.k number ≡ false

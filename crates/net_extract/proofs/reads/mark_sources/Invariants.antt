@@ -1,7 +1,0 @@
-use Rattle.std.proofs.Common.{◌≡◌, ℕ, false, ◌||◌, get_or, take}
-use Rattle.std.specs.List.{list_any}
-use Rattle.net_extract.specs.Found.{comes_from}
-use Rattle.net_extract.proofs.reads.mark_sources.Given as goal
-
-abbrev pub invariant-loop-link : goal.invariant-loop-link
-invariant-loop-link l = (net : ℕ) → get_or l.reads net false ≡ (get_or l.fn.reads net false || list_any (comes_from net) (take l.link-index l.links))

@@ -1,9 +1,0 @@
-use Rattle.std.proofs.Common.{rules, ◌≡◌, ◌+◌, ◌*◌, refl, arith}
-use Rattle.rams_narrow.specs.Narrow.{bit_at}
-use Rattle.rams_narrow.proofs.Bits.{more_bits, all_bits}
-use Rattle.rams_narrow.proofs.narrow.Goals as goal
-
-pub loop-k-preserved : goal.loop-k-preserved
-loop-k-preserved c =
-    more_bits _ _ c.loop-k.k c.loop-k.result c.bit_at.result _ (omega arith) c.loop-k.invariant
-    c.bit_at.ensures (search rules)

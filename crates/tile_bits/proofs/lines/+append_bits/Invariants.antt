@@ -1,4 +1,0 @@
-use Rattle.tile_bits.proofs.lines.+append_bits.Given as goal
-
-abbrev pub decreases-append_bits : goal.decreases-append_bits
-decreases-append_bits l = l.count

@@ -1,5 +1,0 @@
-use Rattle.tile_bits.specs.Keys.{FindsNets}
-use Rattle.tile_bits.proofs.names.add_places.Given as goal
-
-abbrev pub invariant-loop-place : goal.invariant-loop-place
-invariant-loop-place l = FindsNets l.db l.nets.nets

@@ -1,5 +1,0 @@
-use Rattle.tile_bits.proofs.Firsts.{nets-none}
-use Rattle.tile_bits.proofs.names.no_nets.Goals as goal
-
-pub returns : goal.returns
-returns c kept = nets-none kept c.new.result c.new.ensures.empty

@@ -1,0 +1,32 @@
+-- What a run of a task appends to standard output.
+use Rattle.std.proofs.Common.{◌≡◌, ℕ, List, subst, sym}
+use Rattle.std.specs.Prelude.{Option, None}
+use Rattle.tool_run.specs.Effects.{Delivers}
+use Rattle.tool_run.specs.Runs.{Does, Outside, Scene}
+use Rattle.tool_run.specs.Tasks.{Done, Task}
+use Rattle.tool_run.proofs.Same.{Does-same}
+use Rattle.tool_inputs.specs.Appended.{AppendsFor}
+
+-- P holds of what a task makes of texts
+abbrev Gives : (List (List ℕ) → List ℕ → Type 0) → Task → Type 0
+Gives P task = (texts : List (List ℕ)) (bytes : List ℕ) → task.answer texts ≡ Done bytes → P texts bytes
+
+module _ (P : List (List ℕ) → List ℕ → Type 0) where
+  -- a task that is done appends what it makes of texts
+  done-appends : {F I O E : Type 0} (by : Outside F I O E) (task : Task) (status : ℕ) (old new : Scene F I O E) → Gives P task → task.target ≡ None
+      → Does by task status old new → status ≡ 0
+      → AppendsFor by P task old new
+  done-appends by task status old new gives target does done =
+      let made = does.whole done in
+      let goes : Option (List ℕ) → Type 0 = λ to. Delivers to made.0 (by.contents old.files) (by.contents new.files) (by.held old.output) (by.held new.output) in (
+        made.0,
+        (subst goes target made.1).1,
+        (made.3.0, made.3.1, gives made.3.0 made.0 made.3.2),
+      )
+
+  -- and so does a task that is equal to it
+  pub helped-kept : {F I O E : Type 0} (by : Outside F I O E) (task other : Task) (status : ℕ) (old new : Scene F I O E) → task ≡ other → Gives P task → task.target ≡ None
+      → Does by other status old new → status ≡ 0
+      → AppendsFor by P other old new
+  helped-kept by task other status old new same gives target does done =
+      subst (λ one. AppendsFor by P one old new) same (done-appends by task status old new gives target (Does-same by other task status old new (sym same) does) done)

@@ -1,0 +1,33 @@
+use Rattle.std.proofs.Common.{[]}
+use Rattle.std.specs.Prelude.{get_or}
+use Rattle.std.proofs.lemmas.Result.{err_from_is_err_and}
+use Rattle.tool_inputs.specs.Databases.{database_read}
+use Rattle.tool_inputs.specs.Images.{image_read}
+use Rattle.tool_inputs.proofs.DesignInputs.{both-read, database-taken, image-taken, stops-database, stops-image}
+use Rattle.tool_inputs.proofs.design_input.DesignInput.read_both.Goals as goal
+
+pub returns-in_err-db-clause-stops : goal.returns-in_err-db-clause-stops
+returns-in_err-db-clause-stops c =
+    let p = err_from_is_err_and c.from_residual.result c.from_residual.ensures.1 in
+    rw (p.1, p.2) (λ layouts texts answer takes.
+    let db = get_or texts 0 [] in
+    stops-database answer (database_read db) (image_read layouts (get_or texts 1 [])) c.in_err-db.field-0.0
+    (c.in_err-db.ensures.stops db (database-taken texts _ _ _ takes.1)))
+
+pub returns-in_err-image-clause-stops : goal.returns-in_err-image-clause-stops
+returns-in_err-image-clause-stops c =
+    let p = err_from_is_err_and c.from_residual-in_err-image.result c.from_residual-in_err-image.ensures.1 in
+    rw (p.1, p.2) (λ layouts texts answer takes.
+    let db = get_or texts 0 [] in
+    let image = get_or texts 1 [] in
+    stops-image answer (database_read db) _ (image_read layouts image) c.in_err-image.field-0.0
+    (c.in_ok-db.ensures.database db (database-taken texts _ _ _ takes.1))
+    (rw (← takes.0) (c.in_err-image.ensures.stops image (image-taken texts _ _ _ takes.1))))
+
+pub returns-clause-read : goal.returns-clause-read
+returns-clause-read c = λ layouts texts answer takes.
+    let db = get_or texts 0 [] in
+    let image = get_or texts 1 [] in
+    both-read answer (database_read db) (image_read layouts image) _ _
+    (c.in_ok-db.ensures.database db (database-taken texts _ _ _ takes.1))
+    (rw (← takes.0) (c.in_ok-image.ensures.image image (image-taken texts _ _ _ takes.1)))

@@ -1,0 +1,55 @@
+-- A chip database and an image that a tool takes in pieces, and its answer for them.
+use Rattle.std.specs.Prelude.{◌≡◌, ℕ, Bool, List, [], ◌∷◌, get_or, Result, Ok, Err}
+use Rattle.layout_file.specs.declared.layouts.Layouts.{Layouts}
+use Rattle.ice_image.specs.Configuration.{Configuration}
+use Rattle.chipdb_reader.specs.Database.{Database}
+use Rattle.chipdb_reader.specs.Feeding.{Intake, StandsFor, fed_to}
+use Rattle.tool_run.specs.Tasks.{Answer, Refused}
+use Rattle.tool_run.specs.Collected.{Collects}
+use Rattle.tool_run.specs.declared.collected.Collected.{Collected}
+use Rattle.tool_inputs.specs.Databases.{database_read}
+use Rattle.tool_inputs.specs.Images.{image_read}
+use Rattle.tool_inputs.specs.Layouts.{answer_under, behind_layout, layouts_for}
+use Rattle.tool_inputs.specs.declared.design_input.NextText.{NextText}
+use Rattle.tool_inputs.specs.declared.design_input.NextText.TheVariants as next
+use Rattle.tool_inputs.specs.declared.design_input.DesignInput.{DesignInput}
+
+-- ---- the answer
+
+-- the answer of a tool for a database and an image. A fault of the database goes before one of the image
+abbrev pub answer_of_both : Result Database (List ℕ) → Result Configuration (List ℕ) → (Database → Configuration → Answer) → Answer
+answer_of_both (Err text) image answer = Refused text
+answer_of_both (Ok db) (Err text) answer = Refused text
+answer_of_both (Ok db) (Ok image) answer = answer db image
+
+-- the answer for the bytes of both, the image under layouts
+abbrev pub answer_to_both : (Database → Configuration → Answer) → List ℕ → List ℕ → Layouts → Answer
+answer_to_both answer db image layouts = answer_of_both (database_read db) (image_read layouts image) answer
+
+-- the answer for the texts of a tool: the layout file if it is named, then the database, then the image
+abbrev pub input_answer : Bool → (Database → Configuration → Answer) → List (List ℕ) → Answer
+input_answer named answer texts =
+    answer_under (layouts_for named texts)
+    (answer_to_both answer (get_or texts (behind_layout named 0) []) (get_or texts (behind_layout named 1) []))
+
+-- ---- what was taken
+
+-- the database and the image have taken these whole texts, and these bytes of the next one; texts after both are skipped
+abbrev pub HasTexts : List (List ℕ) → List ℕ → Intake → Collected → NextText → Type 0
+HasTexts texts bytes db image next.Database = (texts ≡ []) × StandsFor bytes db × Collects [] image
+HasTexts texts bytes db image next.Image = (text : List ℕ) × (texts ≡ text ∷ []) × StandsFor text db × Collects bytes image
+HasTexts texts bytes db image next.Other =
+    (text : List ℕ) × (other : List ℕ) × (others : List (List ℕ)) × (texts ≡ text ∷ other ∷ others) × StandsFor text db × Collects other image
+
+-- the input has taken these texts and bytes, and has these layouts
+abbrev pub TakesInput : Layouts → List (List ℕ) → DesignInput → List ℕ → Type 0
+TakesInput layouts texts input bytes = (input.layouts ≡ layouts) × HasTexts texts bytes input.db input.image input.next
+
+-- how many bytes of the database were taken, while it is taken; 0 after that
+abbrev pub fed_of_next : NextText → Intake → ℕ
+fed_of_next next.Database db = fed_to db
+fed_of_next next.Image db = 0
+fed_of_next next.Other db = 0
+
+abbrev pub fed_input : DesignInput → ℕ
+fed_input input = fed_of_next input.next input.db

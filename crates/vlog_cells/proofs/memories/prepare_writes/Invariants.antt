@@ -1,8 +1,0 @@
-use Rattle.std.proofs.Common.{◌≡◌, [], length, take}
-use Rattle.std.specs.Prelude.{map}
-use Rattle.vlog_plan.specs.Steps.{written_by}
-use Rattle.vlog_cells.specs.Lanes.{lane_bits}
-use Rattle.vlog_cells.proofs.memories.prepare_writes.Given as goal
-
-abbrev pub invariant-loop-place : goal.invariant-loop-place
-invariant-loop-place g l = length l.initial.written ≡ length l.writes → take l.place l.written ≡ map (written_by l.event (lane_bits g.V.Value.at l.lane l.cells) [] l.memories) (take l.place l.writes)

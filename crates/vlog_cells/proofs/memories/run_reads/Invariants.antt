@@ -1,7 +1,0 @@
-use Rattle.std.proofs.Common.{◌≡◌, [], fold, take}
-use Rattle.vlog_plan.specs.Steps.{read_slot}
-use Rattle.vlog_cells.specs.Lanes.{lane_bits}
-use Rattle.vlog_cells.proofs.memories.run_reads.Given as goal
-
-abbrev pub invariant-loop-read : goal.invariant-loop-read
-invariant-loop-read g l = l.next ≡ fold (read_slot l.event (lane_bits g.V.Value.at l.lane l.cells) [] l.memories) l.initial.next (take l.read-index l.reads)

@@ -1,6 +1,0 @@
-use Rattle.std.proofs.Common.{◌≡◌, fold, take}
-use Rattle.vlog_plan.specs.Steps.{put_written}
-use Rattle.vlog_cells.proofs.memories.run_writes.Given as goal
-
-abbrev pub invariant-loop-found : goal.invariant-loop-found
-invariant-loop-found l = l.memories ≡ fold put_written l.initial.memories (take l.found-index l.written)

@@ -1,6 +1,0 @@
-use Rattle.std.proofs.Common.{◌≡◌, take}
-use Rattle.vlog_plan.specs.Cells.{parts_below}
-use Rattle.vlog_cells.proofs.parts.fill_parts.Given as goal
-
-abbrev pub invariant-loop-place : goal.invariant-loop-place
-invariant-loop-place l = take l.place l.parts ≡ parts_below l.words l.place

@@ -1,9 +1,0 @@
-use Rattle.std.proofs.Common.{◌≡◌, [], drop}
-use Rattle.std.specs.Prelude.{map}
-use Rattle.vlog_plan.specs.Steps.{operand_value}
-use Rattle.vlog_plan.specs.Values.{number_of}
-use Rattle.vlog_cells.specs.Lanes.{lane_bits}
-use Rattle.vlog_cells.proofs.reading.number.Given as goal
-
-abbrev pub invariant-loop-place : goal.invariant-loop-place
-invariant-loop-place g l = l.number ≡ number_of (map (operand_value (lane_bits g.V.Value.at l.lane l.cells) []) (drop l.place l.operands))

@@ -1,6 +1,0 @@
-use Rattle.std.proofs.Common.{◌≡◌, fold, take}
-use Rattle.vlog_cells.specs.Roots.{root_step}
-use Rattle.vlog_cells.proofs.roots.join_all.Given as goal
-
-abbrev pub invariant-loop-gate : goal.invariant-loop-gate
-invariant-loop-gate l = l.roots ≡ fold (root_step l.zero l.held) l.initial.roots (take l.gate-index l.gates)

@@ -1,0 +1,83 @@
+// A module over cells.
+ghost use Rattle.std.specs.Prelude.{◌≡◌, ◌<◌, ◌+◌, ◌*◌, ◌^◌, ℕ, IfOk, length, vec_len};
+
+use crate::building::{gates_of, outputs_of, settles_of};
+use crate::groups::{Group, groups_of};
+use crate::readers::readers_of;
+use crate::roots::roots_of;
+use std::alloc::{AllocError, Global};
+use vlog_semantics::{Event, Gate, Operand, Settle, SlotLayout};
+
+/// A module over cells: each name of one bit has a cell, then each bit of the registers of 16 bits, then 0 and 1.
+#[derive(Drop)]
+pub(crate) struct Circuit {
+    /// How many names of one bit there are.
+    pub(crate) bits: usize,
+    /// The root of each cell: the cell for which it is an alias, or the cell itself.
+    pub(crate) roots: Vec<usize>,
+    /// The wires that aren't aliases, in the order of the text, which is a topological order.
+    pub(crate) gates: Vec<Gate>,
+    /// The fan-out of each cell, as indexes of wires; the wire whose cell it is counts too.
+    pub(crate) readers: Vec<Vec<usize>>,
+    pub(crate) settles: Vec<Settle>,
+    pub(crate) outputs: Vec<Operand>,
+    /// What the rising edge of each input runs.
+    pub(crate) rising: Vec<Group>,
+    /// What the falling edge of each input runs.
+    pub(crate) falling: Vec<Group>,
+}
+
+ghost use Rattle.vlog_engine.specs.Circuits.{IsCircuit};
+
+impl Circuit {
+    ghost use Rattle.vlog_engine.specs.Circuits.{IsCircuit};
+    ghost use Rattle.vlog_engine.specs.Groups.{IsGroup};
+    ghost use Rattle.vlog_semantics.specs.declared.plan.Plan.{Plan as plan_of};
+
+    /// What an event runs.
+    pub(crate) fn group(&self, event: Event) -> &Group
+        requires rising { event.pin < vec_len self.now.rising }
+        requires falling { event.pin < vec_len self.now.falling }
+        ensures { (first bits words : ℕ) (plan : plan_of) → IsCircuit first bits words plan self.now → IsGroup event first bits words self.now.roots.items plan result.now }
+    {
+        if event.bit {
+            &self.rising[event.pin]
+        } else {
+            &self.falling[event.pin]
+        }
+    }
+}
+
+/// The circuit of a layout with `bits` names of one bit and `words` registers of 16 bits.
+pub(crate) fn circuit_of(
+    alloc: Global,
+    layout: &SlotLayout,
+    bits: usize,
+    words: usize,
+) -> Result<Circuit, AllocError>
+    requires { bits + 16 * words + 2 < 2 ^ 64 }
+    ensures circuit { IfOk result (IsCircuit layout.now.first_wire bits words layout.now.plan) }
+    ensures rising { IfOk result (λ circuit. length circuit.rising.items ≡ layout.now.input_count) }
+    ensures falling { IfOk result (λ circuit. length circuit.falling.items ≡ layout.now.input_count) }
+{
+    let zero = bits + 16 * words;
+    let plan = &layout.plan;
+    let (first, pins) = (layout.first_wire, layout.input_count);
+    let roots = roots_of(alloc, zero + 2, zero, &plan.gates, &plan.settles)?;
+    let gates = gates_of(alloc, &roots, &plan.gates)?;
+    let readers = readers_of(alloc, zero + 2, &gates)?;
+    let settles = settles_of(alloc, bits, words, &roots, &plan.settles)?;
+    let outputs = outputs_of(alloc, bits, words, &roots, &plan.outputs)?;
+    let rising = groups_of(alloc, pins, true, first, bits, words, &roots, plan)?;
+    let falling = groups_of(alloc, pins, false, first, bits, words, &roots, plan)?;
+    Ok(Circuit {
+        bits,
+        roots,
+        gates,
+        readers,
+        settles,
+        outputs,
+        rising,
+        falling,
+    })
+}

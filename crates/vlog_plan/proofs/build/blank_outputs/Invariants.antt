@@ -1,7 +1,0 @@
-use Rattle.std.proofs.Common.{flat_map, take}
-use Rattle.vlog_plan.specs.Held.{Holds}
-use Rattle.vlog_plan.specs.Plans.{blank_output}
-use Rattle.vlog_plan.proofs.build.blank_outputs.Given as goal
-
-abbrev pub invariant-loop-port : goal.invariant-loop-port
-invariant-loop-port l = Holds l.outputs (flat_map blank_output (take l.port-index l.ports))

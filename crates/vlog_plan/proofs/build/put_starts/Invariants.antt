@@ -1,7 +1,0 @@
-use Rattle.std.proofs.Common.{ℕ, List, fold, take}
-use Rattle.vlog_plan.specs.Held.{Holds}
-use Rattle.vlog_plan.specs.Run.{start_step}
-use Rattle.vlog_plan.proofs.build.put_starts.Given as goal
-
-abbrev pub invariant-loop-item : goal.invariant-loop-item
-invariant-loop-item l = (entries : List (List ℕ × List ℕ)) → Holds l.initial.memories entries → Holds l.memories (fold start_step entries (take l.item-index l.items))

@@ -1,9 +1,0 @@
-use Rattle.vlog_forms.specs.Reading.{values_of}
-use Rattle.vlog_read.specs.Found.{all_found}
-use Rattle.vlog_read.proofs.Made.{register-made}
-use Rattle.vlog_read.proofs.items.register_of.Goals as goal
-
-pub returns : goal.returns
-returns c =
-    register-made (values_of (all_found c.args.values.now)) c.in_ok-name.name c.bit_at.result
-    c.in_ok-name.ensures c.bit_at.ensures

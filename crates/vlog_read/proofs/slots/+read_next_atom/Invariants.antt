@@ -1,4 +1,0 @@
-use Rattle.vlog_read.proofs.slots.+read_next_atom.Given as goal
-
-abbrev pub decreases-read_next_atom : goal.decreases-read_next_atom
-decreases-read_next_atom l = l.count

@@ -1,0 +1,7 @@
+use Rattle.std.proofs.Common.{◌≡◌, ◌++◌, take}
+use Rattle.std.specs.Prelude.{map}
+use Rattle.vlog_run.specs.Text.{bit_digit}
+use Rattle.vlog_run.proofs.text.push_bits.Given as goal
+
+abbrev pub invariant-loop-bit : goal.invariant-loop-bit
+invariant-loop-bit l = l.text.items ≡ l.initial.text.items ++ map bit_digit (take l.bit-index l.bits)

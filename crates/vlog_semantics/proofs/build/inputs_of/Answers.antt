@@ -1,0 +1,14 @@
+use Rattle.std.proofs.Common.{arith, ap, flat_map, subst, sym, take_all}
+use Rattle.vlog_semantics.specs.Held.{Holds}
+use Rattle.vlog_semantics.specs.Run.{input_start}
+use Rattle.vlog_semantics.proofs.Filling.{flat_map-more}
+use Rattle.vlog_semantics.proofs.build.inputs_of.Goals as goal
+
+pub loop-port-preserved : goal.loop-port-preserved
+loop-port-preserved c =
+    subst (Holds c.add_input.new.inputs) (sym (flat_map-more input_start c.args.ports.now c.loop-port.port-index c.port-item.result (omega arith) c.port-item.is))
+    (c.in_ok-add_input.ensures _ c.loop-port.invariant)
+
+pub returns : goal.returns
+returns c =
+    subst (Holds c.loop-port.inputs) (ap (flat_map input_start) (take_all c.loop-port.port-index c.args.ports.now (omega arith))) c.loop-port.invariant

@@ -1,0 +1,10 @@
+use Rattle.std.proofs.Common.{arith}
+use Rattle.vlog_semantics.specs.Found.{places_in}
+use Rattle.vlog_semantics.specs.Plans.{settle_of}
+use Rattle.vlog_semantics.proofs.Filling.{filter_map-more}
+use Rattle.vlog_semantics.proofs.places.settles_of.Goals as goal
+
+pub loop-item-preserved : goal.loop-item-preserved
+loop-item-preserved c =
+    filter_map-more (settle_of (places_in c.args.places.now)) c.args.items.now c.loop-item.settles.items c.push_found.new.list.items c.loop-item.item-index c.item-item.result c.settle_of.result
+    (omega arith) c.item-item.is c.loop-item.invariant c.settle_of.ensures c.in_ok-push_found.ensures

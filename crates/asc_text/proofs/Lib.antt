@@ -69,7 +69,7 @@ mod Worked
 -- texts that are written piece by piece
 pub mod Pieces
 -- texts that are written to a sink piece by piece
-pub mod Sent
+pub mod RowsSent
 -- lines that name nets, taken one after the other
 pub mod NameLines
 -- lines in their usual form, taken one after the other

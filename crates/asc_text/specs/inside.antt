@@ -7,5 +7,4 @@ pub mod LinesTaken
 pub mod Feeding
 pub mod RowNumbers
 pub mod Room
-pub mod Sent
 pub mod Symbols

@@ -10,4 +10,4 @@ mod writing;
 pub use fault::{AscCause, AscFault, TileXy};
 pub use file::{AscFile, ByteText, Symbol};
 pub use reading::{AscReader, read, read_image_with, read_with};
-pub use writing::{CanonicalText, write};
+pub use writing::{CanonicalText, tile_keyword, write};

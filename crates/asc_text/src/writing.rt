@@ -7,4 +7,5 @@ mod tiles;
 mod writer;
 
 pub use canonical::CanonicalText;
+pub use tiles::tile_keyword;
 pub use writer::write;

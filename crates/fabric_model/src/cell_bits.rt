@@ -10,7 +10,7 @@ ghost use Rattle.fabric_model.specs.On.{bits_at};
 ghost use Rattle.fabric_model.specs.TilesOfKind.{HasTile};
 
 use crate::functions::{function_bits, listed_bit};
-use crate::name::Name;
+use crate::short_text::ShortText;
 use chipdb_reader::ChipDb;
 use ice_image::AnyImage;
 use plane_map::{RowCol, TileKind};
@@ -34,10 +34,10 @@ pub const ASYNC_SET_RESET: usize = 19;
 const FLAG_BITS: [usize; 4] = [CARRY_ENABLE, DFF_ENABLE, SET_NO_RESET, ASYNC_SET_RESET];
 
 /// The name of the function that lists the bits of cell `i`.
-pub fn cell_name(i: u8) -> Name
+pub fn cell_name(i: u8) -> ShortText
     ensures { result ≡ cell_name i }
 {
-    Name::ending_in(b"LC_", i)
+    ShortText::ending_in(b"LC_", i)
 }
 
 /// Where the bits of cell `i` lie in its tile. The list is empty if the database doesn't have the cell.

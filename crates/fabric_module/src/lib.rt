@@ -6,7 +6,6 @@
 
 mod law;
 mod names;
-mod text;
 
 pub use law::module_is_fabric;
 pub use names::{enable_name, memory_name, port_name, read_name, register_name, wire_name};

@@ -2,8 +2,7 @@
 ghost use Rattle.std.specs.Prelude.{◌≡◌, ◌≤◌, ◌+◌, ◌++◌, length, IfOk};
 ghost use Rattle.fabric_module.specs.Names.{two_numbers, three_numbers, port_name, enable_name, user_prefix, user_number, register_name, read_name, memory_name, wire_name};
 
-use crate::text::Text;
-use fabric_model::{ClockUser, Pin, RamCell, Register};
+use fabric_model::{ClockUser, Pin, RamCell, Register, ShortText};
 use std::alloc::{AllocError, Global};
 use vlog_module::Name;
 
@@ -103,18 +102,18 @@ pub fn memory_name(alloc: Global, ram: &RamCell) -> Result<Name, AllocError>
 pub fn wire_name(alloc: Global, class: u32) -> Result<Name, AllocError>
     ensures { IfOk result (λ name. name ≡ wire_name class) }
 {
-    let mut text = Text::of(b"n_");
+    let mut text = ShortText::of(b"n_");
     text.push_number(class);
     Name::new(alloc, text.bytes())
 }
 
 /// Two numbers after a short text.
 #[tactic(auto, unfolding(crate::specs::Names::two_numbers))]
-fn two_numbers(before: &[u8], x: u8, y: u8) -> Text
+fn two_numbers(before: &[u8], x: u8, y: u8) -> ShortText
     requires { length before.now ≤ 4 }
     ensures { result ≡ before.now ++ two_numbers x y }
 {
-    let mut text = Text::of(before);
+    let mut text = ShortText::of(before);
     text.push_small(x);
     text.push(b"_");
     text.push_small(y);
@@ -123,12 +122,12 @@ fn two_numbers(before: &[u8], x: u8, y: u8) -> Text
 
 /// Three numbers after a short text.
 #[tactic(auto, unfolding(crate::specs::Names::three_numbers))]
-fn three_numbers(before: &[u8], x: u8, y: u8, n: u8) -> Text
+fn three_numbers(before: &[u8], x: u8, y: u8, n: u8) -> ShortText
     requires { length before.now ≤ 4 }
     ensures text { result ≡ before.now ++ three_numbers x y n }
     ensures short { length result ≤ length before.now + 11 }
 {
-    let mut text = Text::of(before);
+    let mut text = ShortText::of(before);
     text.push_small(x);
     text.push(b"_");
     text.push_small(y);

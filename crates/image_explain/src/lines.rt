@@ -12,10 +12,10 @@ use crate::item::Active;
 use crate::names::{NetNames, name_at};
 use crate::places::link_at;
 use crate::tile::TileAt;
+use asc_text::tile_keyword;
 use chipdb_reader::ChipDb;
 use fabric_model::cell_name;
 use itoa::Buffer;
-use plane_map::TileKind;
 use std::alloc::AllocError;
 
 /// Appends a tile: its statement, and a line for each item.
@@ -47,18 +47,6 @@ fn append_statement(text: &mut Vec<u8>, at: TileAt) -> Result<(), AllocError>
     append_number(text, u32::from(at.x))?;
     append_number(text, u32::from(at.y))?;
     end_line(text)
-}
-
-/// The keyword of a tile's statement.
-fn tile_keyword(kind: TileKind) -> &'static [u8]
-    ensures { result.now ≡ keyword_of kind }
-{
-    match kind {
-        TileKind::Io => b".io_tile",
-        TileKind::Logic => b".logic_tile",
-        TileKind::RamB => b".ramb_tile",
-        TileKind::RamT => b".ramt_tile",
-    }
 }
 
 /// Appends the line of an item.

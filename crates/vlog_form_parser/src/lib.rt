@@ -19,4 +19,4 @@ pub use items::item_of;
 pub use slots::read_slots;
 pub use stop::ReadStop;
 pub use token::{expect_token, is_fixed};
-pub use values::{bit_at, index_at, name_at, text_at};
+pub use values::{bit_at, index_at, name_at, text_at, text_of};

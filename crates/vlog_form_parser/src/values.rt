@@ -97,9 +97,10 @@ pub fn text_at<'a>(values: &[Found<'a>], place: usize) -> &'a [u8]
     }
 }
 
-/// The text of the name that a value is; `x` if it is none.
+/// The name that a value is; `x` if it is none.
 #[tactic(auto, unfolding(vlog_module::specs::Names::is_name, vlog_module::specs::Names::reserved_words))]
-fn text_of<'a>(value: Value<'a>) -> &'a [u8]
+pub fn text_of<'a>(value: Value<'a>) -> &'a [u8]
+    ensures name { result.now ≡ name_in (seen value.entry ∷ []) }
     ensures text { (rest : List Meant) → result.now ≡ name_in (seen value.entry ∷ rest) }
     ensures named { IsNamed (seen value.entry) → IsName result.now }
 {

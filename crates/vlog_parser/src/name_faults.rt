@@ -1,8 +1,7 @@
 // Faults of names.
-ghost use Rattle.std.specs.Prelude.{◌≡◌, ◌+◌, ◌≤◌, ◌<◌, [], ◌∷◌, length, IfOk};
+ghost use Rattle.std.specs.Prelude.{◌≡◌, ◌+◌, ◌≤◌, ◌<◌, [], length, IfOk};
 ghost use Rattle.std.specs.Option.{option_map};
 ghost use Rattle.vlog_module.specs.WellFormed.{Scope};
-ghost use Rattle.vlog_forms.specs.Items.{name_in};
 ghost use Rattle.vlog_forms.specs.Values.{seen};
 ghost use Rattle.vlog_forms.specs.Reading.{values_of};
 ghost use Rattle.vlog_forms.specs.Outcome.{fault_from, name_fault, twice_fault, use_fault, value_uses};
@@ -14,8 +13,8 @@ use crate::names::Names;
 use crate::set::NameSet;
 use crate::uses::{Use, use_of};
 use std::alloc::{AllocError, Global};
-use vlog_form_parser::Found;
-use vlog_forms::{Value, VlogCause};
+use vlog_form_parser::{Found, text_of};
+use vlog_forms::VlogCause;
 
 /// A fault: an offset of the text, and the cause.
 #[derive(Clone, Copy, Debug)]
@@ -105,20 +104,4 @@ pub fn twice_fault(alloc: Global, names: &[Found<'_>]) -> Result<Option<Fault>, 
         before.push(name)?;
     }
     Ok(None)
-}
-
-/// The name that a value is; `x` if it is none.
-pub fn text_of<'a>(value: Value<'a>) -> &'a [u8]
-    ensures { result.now ≡ name_in (seen value.entry ∷ []) }
-{
-    match value {
-        Value::Name(_, name) => name,
-        Value::Edge(_) => b"x",
-        Value::Bit(_) => b"x",
-        Value::Word(_) => b"x",
-        Value::Index(_) => b"x",
-        Value::AtomBit(_) => b"x",
-        Value::AtomName(_) => b"x",
-        Value::AtomPart(_, _) => b"x",
-    }
 }

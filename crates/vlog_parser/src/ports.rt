@@ -12,9 +12,8 @@ ghost use Rattle.vlog_parser.specs.Steps.{Declares, DeclaresOne};
 
 use crate::draft::{Draft, push_port};
 use crate::fault::{ParseRefusal, refusal_of};
-use crate::name_faults::text_of;
 use std::alloc::Global;
-use vlog_form_parser::{Found, port_forms, read_forms};
+use vlog_form_parser::{Found, port_forms, read_forms, text_of};
 use vlog_forms::Form;
 
 /// Reads the declarations of the ports, in the order of their names.

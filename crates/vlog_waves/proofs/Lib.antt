@@ -10,8 +10,6 @@ pub mod Room
 pub mod Declared
 -- values as they are kept
 pub mod Alike
--- texts that are written to a sink piece by piece
-pub mod Sent
 -- runs whose changes are dumped
 pub mod Tracing
 -- the lines before the first event

@@ -13,9 +13,9 @@ use Rattle.vlog_run.specs.Showing.{input_count}
 use Rattle.vlog_waves.specs.Variables.{values_in}
 use Rattle.vlog_waves.specs.Waves.{event_lines, head_lines, run_lines, start_lines, waves_text}
 use Rattle.vlog_waves.specs.declared.tracer.Tracer.{Tracer}
-use Rattle.vlog_waves.specs.inside.Sent.{Sends}
+use Rattle.ice_io.specs.Put.{Sends}
 use Rattle.vlog_waves.specs.inside.Tracing.{Traces, lines_after, lines_of_event}
-use Rattle.vlog_waves.proofs.Sent.{Sends-front, Sends-next}
+use Rattle.ice_io.proofs.Sent.{Sends-front, Sends-next}
 use Rattle.vlog_waves.proofs.Texts.{all-made, part-made, text_of-append, text_of-none}
 
 -- ---- the whole text

@@ -8,7 +8,7 @@ ghost use Rattle.vlog_semantics.specs.Run.{start};
 ghost use Rattle.vlog_run.specs.Showing.{input_count};
 ghost use Rattle.vlog_waves.specs.Variables.{values_in};
 ghost use Rattle.vlog_waves.specs.Waves.{head_lines, start_lines, waves_text};
-ghost use Rattle.vlog_waves.specs.inside.Sent.{Sends};
+ghost use Rattle.ice_io.specs.Put.{Sends};
 ghost use Rattle.vlog_waves.specs.inside.Tracing.{Traces, lines_after};
 ghost use Rattle.vlog_waves.specs.inside.Values.{event_room};
 

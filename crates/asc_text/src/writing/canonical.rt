@@ -6,7 +6,7 @@ ghost use Rattle.plane_map.specs.Layout.{max_side};
 ghost use Rattle.ice_image.specs.Either.{configuration_of};
 ghost use Rattle.asc_text.specs.Canonical.{all_tile_lines};
 ghost use Rattle.asc_text.specs.inside.Room.{row_room};
-ghost use Rattle.asc_text.specs.inside.Sent.{Sends};
+ghost use Rattle.ice_io.specs.Put.{Sends};
 
 use crate::writing::extras::append_extra_bits;
 use crate::writing::tiles::append_grid_row;

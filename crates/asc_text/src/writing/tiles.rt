@@ -59,8 +59,8 @@ fn append_place(text: &mut Vec<u8>, image: &AnyImage, x: u8, y: u8) -> Result<()
     }
 }
 
-/// The keyword of a tile's statement.
-fn tile_keyword(kind: TileKind) -> &'static [u8]
+/// The keyword of the statement of a tile of this kind.
+pub fn tile_keyword(kind: TileKind) -> &'static [u8]
     ensures word { result.now ≡ keyword_of kind }
     ensures short { length result.now ≤ 11 }
 {

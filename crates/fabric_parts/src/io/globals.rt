@@ -11,7 +11,7 @@ ghost use Rattle.fabric_model.specs.Tiles.{item_if};
 ghost use Rattle.fabric_parts.specs.Globals.{global_net, AreOneDevice};
 
 use chipdb_reader::{ChipDb, PinXy};
-use fabric_model::{GlobalFrom, GlobalNet, Name};
+use fabric_model::{GlobalFrom, GlobalNet, ShortText};
 use ice_image::AnyImage;
 use std::alloc::{AllocError, Global};
 
@@ -56,7 +56,7 @@ fn append_nets(
 ) -> Result<(), AllocError>
     ensures { OnOk result (globals.new.items ≡ globals.old.items ++ nets_from (database_in db.now) g (Some from)) }
 {
-    let name = Name::ending_in(b"glb_netwk_", g);
+    let name = ShortText::ending_in(b"glb_netwk_", g);
     for net in 0..db.net_count() {
         append_net(globals, db, name.bytes(), GlobalNet { g, net, from })?;
     }
@@ -114,7 +114,11 @@ pub(crate) fn global_pad(db: &ChipDb, image: &AnyImage, g: u8) -> Option<PinXy>
     requires { AreOneDevice db.now image.now }
     ensures { result ≡ global_pad (database_in db.now) (configuration_of image.now) g }
 {
-    if is_extra_on(db, image, Name::ending_in(b"padin_glb_netwk.", g).bytes()) {
+    if is_extra_on(
+        db,
+        image,
+        ShortText::ending_in(b"padin_glb_netwk.", g).bytes(),
+    ) {
         db.gbufpin(g)
     } else {
         None

@@ -9,7 +9,7 @@ use crate::io::pintype::{
     has_plain_input, has_plain_output, has_registered_output, is_output_pin, kind_of,
 };
 use chipdb_reader::ChipDb;
-use fabric_model::{GlobalNet, Links, Name, Pin, is_some_read};
+use fabric_model::{GlobalNet, Links, Pin, ShortText, is_some_read};
 
 /// The pins that are ports, by tile and number, and the nets of global networks 0 to 7, by network and net. Tiles are ordered by row, then
 /// by column.
@@ -24,7 +24,7 @@ pub(crate) fn io_net(db: &ChipDb, x: u8, y: u8, n: u8, port: &[u8]) -> Option<u3
     requires { length port.now ≤ 20 }
     ensures { result ≡ io_net (database_in db.now) x y n port.now }
 {
-    db.net_of(x, y, Name::with_number(b"io_", n, port).bytes())
+    db.net_of(x, y, ShortText::with_number(b"io_", n, port).bytes())
 }
 
 /// Whether the net of a port of pin `n` is read.

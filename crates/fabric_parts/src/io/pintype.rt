@@ -7,7 +7,7 @@ ghost use Rattle.fabric_model.specs.Pins.{pintype_of, pintype_bit, has_no_output
 ghost use Rattle.fabric_model.specs.TilesOfKind.{HasTile};
 
 use chipdb_reader::ChipDb;
-use fabric_model::{Name, PinKind, is_on};
+use fabric_model::{PinKind, ShortText, is_on};
 use ice_image::AnyImage;
 use plane_map::TileKind;
 
@@ -29,14 +29,14 @@ fn pintype_bit(db: &ChipDb, image: &AnyImage, x: u8, y: u8, n: u8, k: u8) -> boo
     requires { HasTile image.now Io x y }
     ensures { result ≡ pintype_bit (database_in db.now) (configuration_of image.now) x y n k }
 {
-    let name = Name::with_number(b"IOB_", n, b".PINTYPE_");
+    let name = ShortText::with_number(b"IOB_", n, b".PINTYPE_");
     is_on(
         db,
         image,
         TileKind::Io,
         x,
         y,
-        Name::ending_in(name.bytes(), k).bytes(),
+        ShortText::ending_in(name.bytes(), k).bytes(),
     )
 }
 

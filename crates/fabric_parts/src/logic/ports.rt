@@ -6,21 +6,21 @@ ghost use Rattle.fabric_model.specs.Nets.{ending_in};
 ghost use Rattle.fabric_model.specs.Tiles.{each_below};
 
 use chipdb_reader::ChipDb;
-use fabric_model::Name;
+use fabric_model::ShortText;
 
 /// The net of a port of cell `i`. The port is the part of the name after the cell, such as `/out`.
 pub(crate) fn lutff_net(db: &ChipDb, x: u8, y: u8, i: u8, port: &[u8]) -> Option<u32>
     requires { length port.now ≤ 20 }
     ensures { result ≡ lutff_net (database_in db.now) x y i port.now }
 {
-    db.net_of(x, y, Name::with_number(b"lutff_", i, port).bytes())
+    db.net_of(x, y, ShortText::with_number(b"lutff_", i, port).bytes())
 }
 
 /// The net of input `k` of cell `i`.
 fn input_net(db: &ChipDb, x: u8, y: u8, i: u8, k: u8) -> Option<u32>
     ensures { result ≡ lutff_net (database_in db.now) x y i (ending_in (codes "/in_") k) }
 {
-    lutff_net(db, x, y, i, Name::ending_in(b"/in_", k).bytes())
+    lutff_net(db, x, y, i, ShortText::ending_in(b"/in_", k).bytes())
 }
 
 /// The nets of the four inputs of cell `i`.

@@ -9,7 +9,7 @@ ghost use Rattle.fabric_model.specs.On.{is_function_on};
 ghost use Rattle.fabric_parts.specs.Rams.{HasRam};
 
 use chipdb_reader::ChipDb;
-use fabric_model::{Name, is_on};
+use fabric_model::{ShortText, is_on};
 use ice_image::AnyImage;
 use plane_map::TileKind;
 
@@ -44,6 +44,6 @@ fn is_config_on(db: &ChipDb, image: &AnyImage, x: u8, y: u8, k: u8) -> bool
     requires { HasRam image.now x y }
     ensures { result ≡ is_function_on (database_in db.now) (configuration_of image.now) RamT x (y + 1) (ending_in (codes "RamConfig.CBIT_") k) }
 {
-    let name = Name::ending_in(b"RamConfig.CBIT_", k);
+    let name = ShortText::ending_in(b"RamConfig.CBIT_", k);
     is_on(db, image, TileKind::RamT, x, y + 1, name.bytes())
 }

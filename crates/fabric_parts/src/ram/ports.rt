@@ -6,7 +6,7 @@ ghost use Rattle.fabric_model.specs.Rams.{port_net};
 ghost use Rattle.fabric_model.specs.Tiles.{each_below};
 
 use chipdb_reader::ChipDb;
-use fabric_model::Name;
+use fabric_model::ShortText;
 
 /// The net of a port of the RAM at (x, y), or `None` if neither tile has such a net.
 pub(crate) fn port_net(db: &ChipDb, x: u8, y: u8, name: &[u8]) -> Option<u32>
@@ -25,7 +25,7 @@ pub(crate) fn numbered_net(db: &ChipDb, x: u8, y: u8, before: &[u8], k: u8) -> O
     requires short { length before.now ≤ 20 }
     ensures { result ≡ port_net (database_in db.now) x y (ending_in before.now k) }
 {
-    port_net(db, x, y, Name::ending_in(before, k).bytes())
+    port_net(db, x, y, ShortText::ending_in(before, k).bytes())
 }
 
 /// The nets of N ports whose names end in a number, counted from 0.

@@ -4,10 +4,10 @@ use Rattle.std.proofs.Math.Nat.{suc-mul}
 use Rattle.text_lines.specs.Written.{text_of}
 use Rattle.vlog_semantics.specs.declared.event.Event.{Event}
 use Rattle.vlog_semantics.proofs.Runs.{last_entry}
-use Rattle.vlog_waves.specs.inside.Sent.{Sends}
+use Rattle.ice_io.specs.Put.{Sends}
 use Rattle.vlog_waves.specs.inside.Tracing.{lines_after, lines_of_event}
 use Rattle.vlog_waves.specs.inside.Values.{event_room}
-use Rattle.vlog_waves.proofs.Sent.{passed-on}
+use Rattle.ice_io.proofs.Sent.{passed-on}
 use Rattle.vlog_waves.proofs.Tracing.{going-begun, going-ended, going-failed, going-next}
 use Rattle.vlog_waves.proofs.sending.write_events.Goals as goal
 

@@ -2,9 +2,9 @@ use Rattle.std.proofs.Common.{◌≡◌, ◌∙◌, ◌++◌, Err, ap, subst, sy
 use Rattle.text_lines.specs.Written.{text_of}
 use Rattle.vlog_semantics.specs.Run.{start}
 use Rattle.vlog_waves.specs.Waves.{waves_text}
-use Rattle.vlog_waves.specs.inside.Sent.{Sends}
+use Rattle.ice_io.specs.Put.{Sends}
 use Rattle.vlog_waves.specs.inside.Tracing.{lines_after}
-use Rattle.vlog_waves.proofs.Sent.{Sends-front, Sends-next, passed-on}
+use Rattle.ice_io.proofs.Sent.{Sends-front, Sends-next, passed-on}
 use Rattle.vlog_waves.proofs.Tracing.{waves-whole}
 use Rattle.vlog_waves.proofs.sending.write_run.Goals as goal
 

@@ -2,8 +2,8 @@ use Rattle.std.proofs.Common.{ℕ, List, ◌++◌, Ok, Err}
 use Rattle.text_lines.specs.Written.{text_of}
 use Rattle.ice_image.specs.Either.{configuration_of}
 use Rattle.asc_text.specs.Canonical.{all_tile_lines}
-use Rattle.asc_text.specs.inside.Sent.{Sends}
-use Rattle.asc_text.proofs.Sent.{passed-on, Sends-next, Sends-front}
+use Rattle.ice_io.specs.Put.{Sends}
+use Rattle.ice_io.proofs.Sent.{passed-on, Sends-next, Sends-front}
 use Rattle.asc_text.proofs.writing.canonical.write_around.Goals as goal
 
 pub returns-in_err-start-clause-sends : goal.returns-in_err-start-clause-sends

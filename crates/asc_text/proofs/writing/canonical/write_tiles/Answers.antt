@@ -4,8 +4,9 @@ use Rattle.text_lines.specs.Written.{text_of}
 use Rattle.plane_map.specs.Layout.{kind_of, grid_width, grid_height}
 use Rattle.ice_image.specs.Either.{configuration_of}
 use Rattle.asc_text.specs.Canonical.{lines_of_tile_at, all_tile_lines}
-use Rattle.asc_text.specs.inside.Sent.{Sends}
-use Rattle.asc_text.proofs.Sent.{passed-on, rows-begun, rows-next, rows-failed}
+use Rattle.ice_io.specs.Put.{Sends}
+use Rattle.ice_io.proofs.Sent.{passed-on}
+use Rattle.asc_text.proofs.RowsSent.{rows-begun, rows-next, rows-failed}
 use Rattle.asc_text.proofs.writing.canonical.write_tiles.Goals as goal
 
 pub loop-y-init : goal.loop-y-init

@@ -5,7 +5,7 @@ use Rattle.plane_map.specs.Layout.{kind_of, grid_width}
 use Rattle.ice_image.specs.Either.{configuration_of}
 use Rattle.asc_text.specs.Canonical.{lines_of_tile_at}
 use Rattle.asc_text.specs.inside.Room.{row_room}
-use Rattle.asc_text.specs.inside.Sent.{Sends}
+use Rattle.ice_io.specs.Put.{Sends}
 use Rattle.asc_text.proofs.writing.canonical.write_tiles.Given as goal
 
 abbrev pub invariant-loop-y : goal.invariant-loop-y

@@ -6,8 +6,7 @@ use Rattle.std.proofs.Math.Seq.{take-append-add}
 use Rattle.std.proofs.KnownBytes.{Appends-trans}
 use Rattle.std.specs.Io.KnownBytes.{Appends}
 use Rattle.ice_io.specs.declared.sink.PutFault.{PutFault}
-use Rattle.ice_io.specs.Put.{written_before}
-use Rattle.vlog_waves.specs.inside.Sent.{Sends}
+use Rattle.ice_io.specs.Put.{Sends, written_before}
 
 -- a piece after those before
 pub Sends-next : (a b c : Option (List ℕ)) (sent now : ℕ) (pieces piece : List ℕ) (result : Result ℕ PutFault) → Sends a b sent pieces (Ok now) → Sends b c now piece result → Sends a c sent (pieces ++ piece) result

@@ -9,7 +9,7 @@ use Rattle.plane_map.specs.declared.tile.Place.{Place}
 use Rattle.ice_image.specs.Bits.{Bit, OfTile, OfWord, Extra, IsBit, bit_of, number_bit, row_ones, word_ones, IsSet, Gains}
 use Rattle.ice_image.specs.Configuration.{Configuration, IsWhole}
 use Rattle.ice_image.proofs.Owned.{is_same_place-same, is_same_place-self}
-use Rattle.asc_text.specs.Rows.{memory_bytes, row_bit}
+use Rattle.asc_text.specs.Rows.{ram_line_bytes, row_bit}
 use Rattle.asc_text.specs.Meaning.{row_sets, line_sets, extra_sets}
 use Rattle.asc_text.specs.inside.Gains.{word_in, bytes_set, bytes_set_below}
 
@@ -160,7 +160,7 @@ bytes-all x y row bytes (OfTile bit) = refl
 bytes-all x y row bytes (Extra at) = refl
 
 -- a line's bytes are what the line says
-pub bytes-line : (x y row : ℕ) (line : List ℕ) (bit : Bit) → bytes_set x y row (memory_bytes line) bit ≡ line_sets x y row line bit
+pub bytes-line : (x y row : ℕ) (line : List ℕ) (bit : Bit) → bytes_set x y row (ram_line_bytes line) bit ≡ line_sets x y row line bit
 bytes-line x y row line (OfWord bit) = refl
 bytes-line x y row line (OfTile bit) = refl
 bytes-line x y row line (Extra at) = refl

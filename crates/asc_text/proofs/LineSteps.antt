@@ -14,7 +14,7 @@ use Rattle.asc_text.specs.declared.fault.AscCause.TheVariants.{Row as RowCause, 
 use Rattle.asc_text.specs.declared.reading.reader.Expected.{Expected}
 use Rattle.asc_text.specs.declared.reading.reader.Expected.TheVariants.{Statement as AnyStatement, Row, Memory}
 use Rattle.asc_text.specs.Statements.{statement_in, begins_with_dot}
-use Rattle.asc_text.specs.Rows.{is_row, is_memory_line, memory_bytes}
+use Rattle.asc_text.specs.Rows.{is_row, is_memory_line, ram_line_bytes}
 use Rattle.asc_text.specs.inside.Gains.{bytes_set}
 use Rattle.asc_text.specs.Meaning.{row_sets, line_sets}
 use Rattle.asc_text.proofs.Depths.{depth_after, depth-step}
@@ -177,10 +177,10 @@ pub took-memory : (layouts : Layouts) (lines : List (List ℕ)) (n x y row : ℕ
 took-memory layouts lines n x y row s new read stands fits refusal takes =
     let line = trimmed (line_at lines n) in
     let over : statement_over lines n ≡ Some (RamData x y) = over_is lines n s (Memory x y row) stands in
-    let same : device_known new.image ≡ device_known s.image = same_device s.image new.image (bytes_set x y row (memory_bytes line)) takes.1 in
+    let same : device_known new.image ≡ device_known s.image = same_device s.image new.image (bytes_set x y row (ram_line_bytes line)) takes.1 in
     let dot : begins_with_dot (line_at lines n) ≡ false = memory-dotless (line_at lines n) (passes (is_memory_line line) Hex refusal) in
     let has_read : ReaderState → Type 0 = λ t. HasRead layouts lines (n + 1) t in
-    let bits : HasImage layouts lines (n + 1) new.image = image-gains layouts lines n s.image new.image (bytes_set x y row (memory_bytes line)) read.image takes.1
+    let bits : HasImage layouts lines (n + 1) new.image = image-gains layouts lines n s.image new.image (bytes_set x y row (ram_line_bytes line)) read.image takes.1
     (λ bit. bytes-line x y row line bit ∙ sym (rw (over, stands.0, later row, before row) (and-true (line_sets x y row line bit)))) in
     subst has_read (sym takes.0) (row_step layouts lines n row s new.image (before_memory x y (row + 1)) read stands.0 stands.4 fits dot same bits (memory-stands lines n x y row s new.image stands same))
 

@@ -8,7 +8,7 @@ use Rattle.std.proofs.lemmas.List.Sums.{AllPass-from_list_all, list_all-from_All
 use Rattle.hex.specs.Hex.{decode_of, decode_sized, is_hex_digit}
 use Rattle.hex.specs.declared.error.FromHexError.{FromHexError}
 use Rattle.hex.proofs.HexLemmas.{IsOk-decode_sized, decode_sized-twice}
-use Rattle.asc_text.specs.Rows.{is_memory_line, memory_bytes, decoded}
+use Rattle.asc_text.specs.Rows.{is_memory_line, ram_line_bytes, decoded}
 
 -- what decodes into 32 bytes is such a line
 is_memory_line-yes : (line : List ℕ) → length line ≡ 64 → AllPass is_hex_digit line → is_memory_line line ≡ true
@@ -24,8 +24,8 @@ is_memory_line-decodes line is =
     (IsOk-decode_sized line 32).1 (size, AllPass-from_list_all is_hex_digit line parts.1)
 
 -- the line of bytes that were decoded
-pub memory_line-decoded : (line bytes : List ℕ) → decode_sized line 32 ≡ Ok bytes → (is_memory_line line ≡ true) × (memory_bytes line ≡ bytes)
-unfolding memory_bytes
+pub memory_line-decoded : (line bytes : List ℕ) → decode_sized line 32 ≡ Ok bytes → (is_memory_line line ≡ true) × (ram_line_bytes line ≡ bytes)
+unfolding ram_line_bytes
 memory_line-decoded line bytes is =
     let ok : IsOk (decode_sized line 32) = rw is refl in
     let parts = (IsOk-decode_sized line 32).0 ok in

@@ -5,7 +5,7 @@ use Rattle.std.proofs.lemmas.Bool.{ne_eqb}
 use Rattle.plane_map.specs.Layout.{columns_of}
 use Rattle.plane_map.specs.declared.tile.TileKind.{TileKind}
 use Rattle.ice_image.specs.declared.any.AnyImage.{AnyImage}
-use Rattle.asc_text.specs.Rows.{is_row, is_memory_line, memory_bytes}
+use Rattle.asc_text.specs.Rows.{is_row, is_memory_line, ram_line_bytes}
 use Rattle.asc_text.specs.Meaning.{row_sets}
 use Rattle.asc_text.specs.declared.reading.reader.Expected.{Expected}
 use Rattle.asc_text.specs.declared.reading.reader.Expected.TheVariants.{Statement as AnyStatement, Row, Memory}
@@ -64,7 +64,7 @@ before_memory-memory : (x y row : ℕ) → row < 16 → before_memory x y row �
 before_memory-memory x y row small = ap (λ (b : Bool). if b then AnyStatement else Memory x y row) (not-end row small)
 
 -- one line
-memory-first : (s : ReaderState) (x y row : ℕ) (before after : AnyImage) (text : List ℕ) → row < 16 → is_lf_at text 64 ≡ true → is_memory_line (take 64 text) ≡ true → GainsBits before after (bytes_set x y row (memory_bytes (take 64 text)))
+memory-first : (s : ReaderState) (x y row : ℕ) (before after : AnyImage) (text : List ℕ) → row < 16 → is_lf_at text 64 ≡ true → is_memory_line (take 64 text) ≡ true → GainsBits before after (bytes_set x y row (ram_line_bytes (take 64 text)))
     → TakesFirst (with_lines s (Some before) (before_memory x y row)) text (drop 65 text) (with_lines s (Some after) (before_memory x y (row + 1)))
 memory-first s x y row before after text small at is gains =
     let old : ReaderState = with_lines s (Some before) (before_memory x y row) in
@@ -75,6 +75,6 @@ memory-first s x y row before after text small at is gains =
 -- one more
 pub more-memory_lines : (x y first row : ℕ) (before : Option AnyImage) (middle after : AnyImage) (text left : List ℕ) → first ≤ row → row < 16
     → TakesBelow (Memory x y) first before text (row - first) left (Some middle) → is_lf_at left 64 ≡ true → is_memory_line (take 64 left) ≡ true
-    → GainsBits middle after (bytes_set x y row (memory_bytes (take 64 left))) → TakesBelow (Memory x y) first before text (row + 1 - first) (drop 65 left) (Some after)
+    → GainsBits middle after (bytes_set x y row (ram_line_bytes (take 64 left))) → TakesBelow (Memory x y) first before text (row + 1 - first) (drop 65 left) (Some after)
 more-memory_lines x y first row before middle after text left from small taken at is gains s image expected =
     one-more s (before_memory x y) first row middle after text left (drop 65 left) from (taken s image expected) (memory-first s x y row middle after left small at is gains)

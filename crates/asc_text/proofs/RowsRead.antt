@@ -16,7 +16,7 @@ use Rattle.bit_plane.specs.Rows.{row_from}
 use Rattle.bit_plane.proofs.Words.{get_or-word_bits}
 use Rattle.bit_plane.proofs.Made.{get_or-row_from}
 use Rattle.ice_image.proofs.Made.{row_word-bits, row_word-below}
-use Rattle.asc_text.specs.Rows.{is_row, row_bit, is_memory_line, decoded, memory_bytes, memory_word}
+use Rattle.asc_text.specs.Rows.{is_row, row_bit, is_memory_line, decoded, ram_line_bytes, memory_word}
 use Rattle.asc_text.specs.Canonical.{bit_character, row_line, two_bytes}
 use Rattle.asc_text.proofs.Spelled.{trimmed-word}
 
@@ -98,9 +98,9 @@ is_memory_line-encoded bytes small count =
     and_from (length (encode_lower bytes) == 64) (list_all is_hex_digit (encode_lower bytes)) (eq-eqb (length (encode_lower bytes)) 64 (omega (arith, length-encode_with lower_digits bytes))) (encoded-digits bytes small)
 
 -- the bytes that are read are those that were written
-pub memory_bytes-encoded : (bytes : List ℕ) → IsBytes bytes → memory_bytes (encode_lower bytes) ≡ bytes
-unfolding memory_bytes
-memory_bytes-encoded bytes small = ap decoded (decode_of-encode_lower bytes small)
+pub ram_line_bytes-encoded : (bytes : List ℕ) → IsBytes bytes → ram_line_bytes (encode_lower bytes) ≡ bytes
+unfolding ram_line_bytes
+ram_line_bytes-encoded bytes small = ap decoded (decode_of-encode_lower bytes small)
 
 -- ---- words as bytes
 
@@ -176,7 +176,7 @@ word-row_from-lt bits = row_word-below 16 bits (word_of (row_from 16 bits)) refl
 pub memory_word-encoded : (word : ℕ → ℕ) → ((place : ℕ) → place < 16 → word place < 65536) → (index : ℕ) → index < 16
     → memory_word (encode_lower (words_bytes 16 word)) index ≡ word (15 - index)
 memory_word-encoded word small index within =
-    let bytes = memory_bytes-encoded (words_bytes 16 word) (IsBytes-words_bytes 16 word small) in
+    let bytes = ram_line_bytes-encoded (words_bytes 16 word) (IsBytes-words_bytes 16 word small) in
     let place = 15 - index in
     let read = get_or-words_bytes 16 word place (omega arith) in
     let high : 30 - 2 * index ≡ 2 * place = omega arith in

@@ -11,7 +11,7 @@ use Rattle.plane_map.specs.declared.tile.TileKind.TheVariants.{RamB}
 use Rattle.asc_text.specs.declared.fault.AscCause.{AscCause}
 use Rattle.asc_text.specs.declared.fault.AscCause.TheVariants.{NoDevice, Kind, Row, StrayData}
 use Rattle.asc_text.specs.Statements.{statement_in}
-use Rattle.asc_text.specs.Rows.{is_row, memory_bytes}
+use Rattle.asc_text.specs.Rows.{is_row, ram_line_bytes}
 use Rattle.asc_text.specs.Blocks.{depth_at, opened_before, statement_over, statement_at, dot_before, device_before}
 use Rattle.asc_text.specs.Faults.{Fault, cause_at, asc_fault_of}
 use Rattle.asc_text.specs.Characters.{tile_statement, ram_statement, character_of, digit_bit_of, is_named_extra}
@@ -58,7 +58,7 @@ character_none = refl
 
 -- bit 1 of word 16 of a RAM: the last of the digits of the second line
 digit_one : digit_bit_of (lines_of (codes ".device 1k\n.ram_data 3 1\n\n0000000000000000000000000000000000000000000000000000000000000002\n")) (record { x = 3; y = 1; word = 16; bit = 1 }) ≡ true
-unfolding lines_of trimmed words_of pieces_of from_word number_of numbers_of least_below statement_in depth_at opened_before statement_at memory_bytes decode_pairs ram_statement
+unfolding lines_of trimmed words_of pieces_of from_word number_of numbers_of least_below statement_in depth_at opened_before statement_at ram_line_bytes decode_pairs ram_statement
 digit_one = refl
 
 -- an extra bit that a statement names

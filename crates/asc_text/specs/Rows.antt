@@ -21,12 +21,12 @@ decoded (Ok bytes) = bytes
 decoded (Err e) = []
 
 -- the bytes of hexadecimal digits, two digits a byte
-unfoldable pub memory_bytes : List ℕ → List ℕ
-memory_bytes line = decoded (decode_of line)
+unfoldable pub ram_line_bytes : List ℕ → List ℕ
+ram_line_bytes line = decoded (decode_of line)
 
 -- a word of a line of sixteen words of two bytes: the first word is the one at the right, and its high byte is the left one
 abbrev pub memory_word : List ℕ → ℕ → ℕ
-memory_word line index = 256 * get_or (memory_bytes line) (30 - 2 * index) 0 + get_or (memory_bytes line) (31 - 2 * index) 0
+memory_word line index = 256 * get_or (ram_line_bytes line) (30 - 2 * index) 0 + get_or (ram_line_bytes line) (31 - 2 * index) 0
 
 -- a bit of a word of a line, bit b being worth 2 ^ b
 abbrev pub memory_bit : List ℕ → ℕ → ℕ → Bool

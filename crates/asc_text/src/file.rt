@@ -4,7 +4,8 @@ ghost use Rattle.std.specs.Prelude.{◌≡◌};
 use ice_image::AnyImage;
 use std::marker::Model;
 
-/// A byte string. Contracts see it as the list of its bytes.
+/// A byte string. Contracts see it as the list of its bytes. No tool of this project needs it: it is for users of the library, as the name
+/// in a [`Symbol`].
 #[derive(Drop)]
 pub struct ByteText {
     bytes: Vec<u8>,
@@ -19,7 +20,7 @@ impl Model for ByteText {
 }
 
 impl ByteText {
-    /// The bytes.
+    /// The bytes. No tool of this project needs it: it is for users of the library.
     pub fn bytes(&self) -> &[u8]
         ensures { result.now ≡ self.now }
     {
@@ -34,14 +35,15 @@ impl ByteText {
     }
 }
 
-/// A net and its name.
+/// A net and its name. No tool of this project needs the names: they are for users of the library.
 #[derive(Drop)]
 pub struct Symbol {
     pub net: u32,
     pub name: ByteText,
 }
 
-/// The configuration that a text describes, and the names of nets in the order of the text.
+/// The configuration that a text describes, and the names of nets in the order of the text. Only `read` and `read_with` give it, for users
+/// of the library.
 #[derive(Drop)]
 pub struct AscFile {
     pub image: AnyImage,

@@ -61,13 +61,15 @@ pub trait Bits: Sized + Drop {
         requires row { y < HEIGHT }
         ensures { rows self.new ≡ with_row (rows self.old) y (gained x count bits (row_at (rows self.old) y)) };
 
-    /// Sets the eight bits from a position on to the bits of a byte, the most significant first.
+    /// Sets the eight bits from a position on to the bits of a byte, the most significant first. The code of this project moves whole rows,
+    /// by [`Bits::put_bytes`]: this is for users of the library.
     fn put_byte(&mut self, position: usize, byte: u8)
         requires { position + 8 ≤ WIDTH * HEIGHT }
         ensures { rows self.new ≡ rows_of WIDTH HEIGHT
             (placed position (byte_bits byte) (flat (rows self.old))) };
 
-    /// The byte of the eight bits from a position on, the most significant first.
+    /// The byte of the eight bits from a position on, the most significant first. The code of this project moves whole rows, by
+    /// [`Bits::take_bytes`]: this is for users of the library.
     fn take_byte(&self, position: usize) -> u8
         requires { position + 8 ≤ WIDTH * HEIGHT }
         ensures { result ≡ byte_of (take 8 (drop position (flat (rows self.now)))) };
@@ -84,7 +86,7 @@ pub trait Bits: Sized + Drop {
         requires bytes { 8 * length out.old ≡ count * WIDTH }
         ensures { out.new ≡ bytes_of (length out.old) (flat (take count (drop first (rows self.now)))) };
 
-    /// Whether all bits are equal.
+    /// Whether all bits are equal. No tool of this project needs it: it is for users of the library.
     fn same(&self, other: &Self) -> bool
         ensures { IsTrue result ↔ (rows self.now ≡ rows other.now) };
 

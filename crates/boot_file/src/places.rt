@@ -36,7 +36,7 @@ pub(crate) fn places(
             });
         }
         places.push(place as u32)?;
-        place = place_after(options.align, place, image.len());
+        place = offset_after(options.align, place, image.len());
     }
     Ok(places)
 }
@@ -55,7 +55,7 @@ fn first_place(options: Options) -> usize
 
 /// The offset of the image after one of this offset and length. If it doesn't fit an address, the answer may be less than the true
 /// offset, but it doesn't fit an address either.
-fn place_after(align: Option<u32>, place: usize, length: usize) -> usize
+fn offset_after(align: Option<u32>, place: usize, length: usize) -> usize
     requires within { place < 2 ^ 24 }
     requires alignment { align_fault align ≡ None }
     ensures near { result < 2 ^ 24 → result ≡ aligned align (place + length) }

@@ -8,7 +8,7 @@ use Rattle.shared_lemmas.proofs.Cuts.{drop_cons, drop_none}
 use Rattle.index_search.specs.Places.{gathered_below}
 use Rattle.index_search.proofs.Places.{gathered_below-more}
 use Rattle.text_lines.specs.Lines.{lines_of, whole_lines_of, line_at, trimmed, before_rest, is_blank}
-use Rattle.asc_text.specs.Rows.{is_memory_line, memory_bit, memory_bytes, memory_word}
+use Rattle.asc_text.specs.Rows.{is_memory_line, memory_bit, ram_line_bytes, memory_word}
 use Rattle.bram_replace.specs.HexText.{Contents}
 use Rattle.bram_replace.specs.Columns.{column_at, column_bit, column_count, column_from, is_same, match_of, same_fault}
 use Rattle.bram_replace.specs.Packed.{word_from}
@@ -47,7 +47,7 @@ word-before bits word bit value size few low other place below within =
 -- ---- one line
 
 -- the two bytes of a word
-pub word-bytes : (bytes line : List ℕ) (index value : ℕ) → bytes ≡ memory_bytes line → value ≡ 256 * get_or bytes (30 - 2 * index) 0 + get_or bytes (31 - 2 * index) 0 → value ≡ memory_word line index
+pub word-bytes : (bytes line : List ℕ) (index value : ℕ) → bytes ≡ ram_line_bytes line → value ≡ 256 * get_or bytes (30 - 2 * index) 0 + get_or bytes (31 - 2 * index) 0 → value ≡ memory_word line index
 word-bytes bytes line index value is two = two ∙ ap (λ bs. 256 * get_or bs (30 - 2 * index) 0 + get_or bs (31 - 2 * index) 0) is
 
 pub line-there : (old new : List Bool) (line : List ℕ) (row index value : ℕ) → ((k bit : ℕ) → k < index → bit < 16 → listed old (16 * row + k) bit ≡ memory_bit line k bit)

@@ -6,7 +6,7 @@ use Rattle.text_lines.specs.Lines.{lines_of, whole_lines_of, trimmed}
 use Rattle.text_lines.specs.Words.{words_of, pieces_of, from_word, number_of, numbers_of}
 use Rattle.hex.specs.Hex.{encode_with, decode_pairs}
 use Rattle.bit_plane.specs.BitList.{word_of}
-use Rattle.asc_text.specs.Rows.{memory_bytes}
+use Rattle.asc_text.specs.Rows.{ram_line_bytes}
 use Rattle.asc_text.specs.Statements.{statement_in}
 use Rattle.asc_text.specs.Blocks.{depth_at, opened_before, statement_over, statement_at}
 use Rattle.bram_replace.specs.declared.fault.BramFault.TheVariants.{Shape, SameColumns}
@@ -147,12 +147,12 @@ changed word bit = ((word == 1) && (bit == 3)) || given word bit
 -- a line with a word that changes gets all its digits anew, in lower case, and keeps the text after them
 line_changes : memory_line_with given changed 0 (digits ++ codes " \t\r\n")
     ≡ codes "00000000000000000000000000000000000000000000000000000000" ++ codes "0008abcd \t\r\n"
-unfolding any_below trimmed encode_with decode_pairs word_of memory_bytes gathered_below
+unfolding any_below trimmed encode_with decode_pairs word_of ram_line_bytes gathered_below
 line_changes = refl
 
 -- a line whose words all stay is as it was
 line_stays : memory_line_with given changed 1 (digits ++ codes " \t\r\n") ≡ digits ++ codes " \t\r\n"
-unfolding any_below trimmed encode_with decode_pairs word_of memory_bytes
+unfolding any_below trimmed encode_with decode_pairs word_of ram_line_bytes
 line_stays = refl
 
 -- ---- whole texts

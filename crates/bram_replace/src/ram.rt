@@ -4,7 +4,7 @@ ghost use Rattle.hex.specs.Hex.{encode_lower};
 ghost use Rattle.text_lines.specs.Lines.{line_at, lines_of, whole_lines_of};
 ghost use Rattle.index_search.specs.Places.{gathered_below};
 ghost use Rattle.asc_text.specs.Canonical.{two_bytes};
-ghost use Rattle.asc_text.specs.Rows.{is_memory_line, memory_bit, memory_bytes};
+ghost use Rattle.asc_text.specs.Rows.{is_memory_line, memory_bit, ram_line_bytes};
 ghost use Rattle.bram_replace.specs.Columns.{column_bit, column_count};
 ghost use Rattle.bram_replace.specs.ReadModes.{by_columns};
 ghost use Rattle.bram_replace.specs.Replaced.{bits_after, changes, column_found, columns_found, digits_with, memory_line_with, ram_bits};
@@ -63,7 +63,7 @@ fn put_line(bits: &mut RamBits, row: usize, line: &[u8])
     ensures there { (index bit : ℕ) → index < 16 → bit < 16 → listed bits.new (16 * row + index) bit ≡ memory_bit line.now index bit }
     ensures before { AreAlike (16 * row) (listed bits.new) (listed bits.old) }
 {
-    let bytes = memory_bytes(line);
+    let bytes = ram_line_bytes(line);
     for index in 0..SIXTEEN {
         let high = u16::from(bytes[30 - 2 * index]);
         let low = u16::from(bytes[31 - 2 * index]);
@@ -85,9 +85,9 @@ fn put_word(bits: &mut RamBits, word: usize, value: u16)
 }
 
 /// The bytes of a memory line.
-fn memory_bytes(line: &[u8]) -> [u8; 32]
+fn ram_line_bytes(line: &[u8]) -> [u8; 32]
     requires { is_memory_line line.now ≡ true }
-    ensures { result ≡ memory_bytes line.now }
+    ensures { result ≡ ram_line_bytes line.now }
 {
     let mut bytes = [0; 32];
     match hex::decode_to_slice(line, &mut bytes) {

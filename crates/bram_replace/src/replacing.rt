@@ -36,7 +36,8 @@ pub struct Replaced {
 }
 
 /// The text in which each bit column of a RAM that is equal to a column of `from` is replaced by the column of the same index of `to`.
-/// Everything else stays unchanged, including line ends.
+/// Everything else stays unchanged, including line ends. `icebram` calls [`replace_with`]: this is the short form, for users of the
+/// library.
 ///
 /// # Errors
 /// The first cause in the order of [`BramFault`]; `BramFault::Memory` if memory is out.

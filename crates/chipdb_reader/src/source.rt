@@ -13,7 +13,7 @@ use crate::reader::DbReader;
 use ice_io::{Files, Source, TakeFault, Taker, feed_all, load_into};
 use std::alloc::{AllocError, Global};
 
-/// Why a database couldn't be read from a source or a file.
+/// Why a database couldn't be read from a source or a file. Only [`read_from`] and [`read_file`] return it, for users of the library.
 #[derive(Clone, Copy, Debug, PartialEq, Eq)]
 pub enum SourceDbFault {
     /// A read failed.
@@ -41,7 +41,8 @@ impl Taker for DbReader {
     }
 }
 
-/// Reads a database from a source, up to its end.
+/// Reads a database from a source, up to its end. The tools feed a [`DbReader`] themselves: this is for users of the library who have a
+/// source.
 ///
 /// # Errors
 /// `Failed` if a read failed. `TooLong` if the source gives more than `limit` bytes; `limit + 1` bytes are read then. `Db` with the first
@@ -70,7 +71,8 @@ pub fn read_from<S: Source>(
     }
 }
 
-/// Reads a database from the file with that name.
+/// Reads a database from the file with that name. The tools feed a [`DbReader`] themselves: this is for users of the library who have the
+/// name of a file.
 ///
 /// # Errors
 /// `Failed` if the file couldn't be read. `TooLong` after `limit + 1` bytes were read. `Db` with the first faulty line. `Memory` if memory
@@ -88,6 +90,7 @@ pub fn read_file<F: Files>(
         × (length bytes ≤ limit) × TellsFault (db_fault_of bytes) fault)) }
     ensures too_long { IsErrOf result SourceDbFault.TooLong → HasMore (F.contents files.old) name.now limit }
     ensures read_past { IsErrOf result SourceDbFault.TooLong → RoseBy (limit + 1) (F.bytes_read files.old) (F.bytes_read files.new) }
+    ensures bytes_never_fall { F.bytes_read files.old ≤ F.bytes_read files.new }
     ensures lacks { IsErrOf result SourceDbFault.Failed → IsTrue (F.steady files.old) → LacksFile (F.contents files.old) name.now }
     ensures failed { IsErrOf result SourceDbFault.Failed → Rose (F.load_faults files.old) (F.load_faults files.new) }
     ensures same_contents { F.contents files.new ≡ F.contents files.old }

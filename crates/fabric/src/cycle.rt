@@ -19,7 +19,8 @@ impl Model for Cycle {
 }
 
 impl Cycle {
-    /// The classes of joined nets on the cycle, each by its least net. It allocates no memory.
+    /// The classes of joined nets on the cycle, each by its least net. It allocates no memory. No tool of this project needs it: it is for
+    /// users of the library.
     pub fn nets(&self) -> &[u32]
         ensures { result.now ≡ self.now }
     {

@@ -15,7 +15,7 @@ use fabric_model::{CarrySet, Driver, GlobalNet, LogicCell, LutInputs, Pin, RamCe
 use fabric_wiring::{Buffer, ClockEnd, Drive, Drivers, Output, Parts, Rule};
 use std::marker::Model;
 
-/// The two nets of a buffer.
+/// The two nets of a buffer. Only [`Design::link`] gives it, for users of the library.
 #[derive(Clone, Copy, Debug, PartialEq, Eq)]
 pub struct LinkEnds {
     pub src: u32,
@@ -110,7 +110,7 @@ impl Design {
         &self.outputs
     }
 
-    /// Which inputs the LUTs of the cells read.
+    /// Which inputs the LUTs of the cells read. No tool of this project needs it: it is for users of the library.
     pub fn lut_inputs(&self) -> LutInputs
         ensures { result ≡ self.now.parts.lut_inputs }
     {
@@ -133,7 +133,7 @@ impl Design {
         &self.parts.registers
     }
 
-    /// The carry inputs that are set, by tile.
+    /// The carry inputs that are set, by tile. No tool of this project needs it: it is for users of the library.
     pub fn sets(&self) -> &[CarrySet]
         ensures { result.now ≡ self.now.parts.sets.items }
     {
@@ -148,14 +148,14 @@ impl Design {
         &self.parts.rams
     }
 
-    /// The nets of global networks, by network and net.
+    /// The nets of global networks, by network and net. No tool of this project needs it: it is for users of the library.
     pub fn globals(&self) -> &[GlobalNet]
         ensures { result.now ≡ self.now.parts.globals.items }
     {
         &self.parts.globals
     }
 
-    /// How many nets there are.
+    /// How many nets there are. No tool of this project needs it: it is for users of the library.
     pub fn net_count(&self) -> usize
         ensures count { result ≡ length self.now.drivers.places }
         ensures design { IsDesign self.now }
@@ -183,7 +183,8 @@ impl Design {
         }
     }
 
-    /// The driver of a class of joined nets. It is `None` if the class has no driver, or if no class has this number.
+    /// The driver of a class of joined nets. It is `None` if the class has no driver, or if no class has this number. No tool of this
+    /// project needs it: it is for users of the library.
     pub fn driver(&self, class: u32) -> Option<Driver>
         ensures { result ≡ option_map (λ drive. drive.driver) (driver_in self.now.drivers class) }
     {
@@ -211,7 +212,8 @@ impl Design {
             .unwrap_or(ClockEnd::Undriven)
     }
 
-    /// The pin at which the clock chain from a net of the database ends, or `None` if it ends elsewhere.
+    /// The pin at which the clock chain from a net of the database ends, or `None` if it ends elsewhere. No tool of this project needs it:
+    /// it is for users of the library.
     pub fn clock(&self, net: u32) -> Option<PinXy>
         requires { net < length self.now.drivers.places }
         ensures { result ≡ end_pin self.now.inputs (end_in self.now.ends (class_in self.now.parts.links net)) }
@@ -226,7 +228,7 @@ impl Design {
         }
     }
 
-    /// Whether the buffer of a line is on.
+    /// Whether the buffer of a line is on. No tool of this project needs it: it is for users of the library.
     pub fn has_link(&self, line: u32) -> bool
         ensures { result ≡ is_some (link_in self.now line) }
     {
@@ -236,7 +238,7 @@ impl Design {
         }
     }
 
-    /// The two nets of the buffer of a line, which is on.
+    /// The two nets of the buffer of a line, which is on. No tool of this project needs it: it is for users of the library.
     pub fn link(&self, line: u32) -> LinkEnds
         requires { is_some (link_in self.now line) ≡ true }
         ensures { Some result ≡ link_in self.now line }

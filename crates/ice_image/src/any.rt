@@ -67,7 +67,7 @@ impl AnyImage {
         })
     }
 
-    /// The layout.
+    /// The layout. No tool of this project needs it: it is for users of the library.
     pub fn layout(&self) -> Layout
         ensures layout { result ≡ (configuration_of self.now).layout }
         ensures whole { IsWhole (configuration_of self.now) }
@@ -183,7 +183,7 @@ impl AnyImage {
         with_image!(self, |image| image.cram_bit(at))
     }
 
-    /// Sets the bit at a place of the configuration planes.
+    /// Sets the bit at a place of the configuration planes. No tool of this project needs it: it is for users of the library.
     pub fn set_cram_bit(&mut self, at: Place, bit: bool)
         requires { IsInCram (device_of self.old) at }
         ensures device { device_of self.new ≡ device_of self.old }
@@ -192,7 +192,7 @@ impl AnyImage {
         with_image!(self, |image| image.set_cram_bit(at, bit))
     }
 
-    /// The tile at (x, y), which has C columns.
+    /// The tile at (x, y), which has C columns. The tools read rows or bits of a tile: this is for users of the library who want it whole.
     pub fn tile<const C: usize>(&self, x: u8, y: u8) -> Tile<C>
         requires { columns_at (device_of self.now) x y ≡ C }
         ensures { result ≡ tile_of (configuration_of self.now) x y }
@@ -200,7 +200,8 @@ impl AnyImage {
         with_image!(self, |image| image.tile(x, y))
     }
 
-    /// Sets all bits of the tile at (x, y), which has C columns, to the bits of `tile`.
+    /// Sets all bits of the tile at (x, y), which has C columns, to the bits of `tile`. No tool of this project sets a whole tile: this is
+    /// for users of the library.
     pub fn put_tile<const C: usize>(&mut self, x: u8, y: u8, tile: &Tile<C>)
         requires { columns_at (device_of self.old) x y ≡ C }
         ensures device { device_of self.new ≡ device_of self.old }
@@ -226,7 +227,8 @@ impl AnyImage {
         with_image!(self, |image| image.ram_word(x, y, word))
     }
 
-    /// Sets a word of the RAM whose lower tile is at (x, y), bit b having the value 2^b.
+    /// Sets a word of the RAM whose lower tile is at (x, y), bit b having the value 2^b. No tool of this project sets a whole word: this is
+    /// for users of the library.
     pub fn set_ram_word(&mut self, x: u8, y: u8, word: u8, value: u16)
         requires { kind_of (device_of self.old) x y ≡ Some TileKind.RamB }
         ensures device { device_of self.new ≡ device_of self.old }

@@ -11,6 +11,7 @@ use plane_map::Place;
 use std::alloc::{AllocError, Global};
 use std::marker::Model;
 
+/// One plane for each of the four banks: the configuration planes of an image, or its RAM planes.
 #[derive(Drop)]
 pub(crate) struct Banks<P: Bits> {
     left_bottom: P,

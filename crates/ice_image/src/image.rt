@@ -48,6 +48,7 @@ impl<D: Device> Model for Image<D> {
 
 impl<D: Device> Image<D> {
     /// A blank image under the standard layout: no comment, the low oscillator range, warm boot on, the flash put to sleep, and all bits 0.
+    /// The code of this project calls `zeroed_with`: this is the short form, for users of the library.
     ///
     /// # Errors
     /// `AllocError` if memory is out, and for no other cause.
@@ -89,7 +90,7 @@ impl<D: Device> Image<D> {
         self.layout.device()
     }
 
-    /// The layout.
+    /// The layout. No tool of this project needs it: it is for users of the library.
     pub fn layout(&self) -> Layout
         ensures layout { result ≡ self.now.layout }
         ensures whole { IsWhole self.now }
@@ -195,7 +196,7 @@ impl<D: Device> Image<D> {
         self.cram.get(at)
     }
 
-    /// Sets the bit at a place of the configuration planes.
+    /// Sets the bit at a place of the configuration planes. No tool of this project needs it: it is for users of the library.
     pub fn set_cram_bit(&mut self, at: Place, bit: bool)
         requires { IsInCram self.old.layout.device at }
         ensures { self.new ≡ record self.old { cram = with_place_bit self.old.cram at bit } }
@@ -203,7 +204,7 @@ impl<D: Device> Image<D> {
         self.cram.set(at, bit);
     }
 
-    /// The configuration plane of a bank.
+    /// The configuration plane of a bank. No tool of this project needs it: it is for users of the library.
     pub fn cram(&self, bank: usize) -> &D::Cram
         requires { bank < 4 }
         ensures { D.Cram.rows result.now ≡ bank_rows self.now.cram bank }
@@ -220,7 +221,7 @@ impl<D: Device> Image<D> {
         self.cram.plane_mut(bank)
     }
 
-    /// The RAM plane of a bank.
+    /// The RAM plane of a bank. No tool of this project needs it: it is for users of the library.
     pub fn bram(&self, bank: usize) -> &D::Bram
         requires { bank < 4 }
         ensures { D.Bram.rows result.now ≡ bank_rows self.now.bram bank }
@@ -237,7 +238,7 @@ impl<D: Device> Image<D> {
         self.bram.plane_mut(bank)
     }
 
-    /// The tile at (x, y), which has C columns.
+    /// The tile at (x, y), which has C columns. The tools read rows or bits of a tile: this is for users of the library who want it whole.
     pub fn tile<const C: usize>(&self, x: u8, y: u8) -> Tile<C>
         requires { columns_at self.now.layout.device x y ≡ C }
         ensures { result ≡ tile_rows self.now.layout self.now.cram x y }
@@ -245,7 +246,8 @@ impl<D: Device> Image<D> {
         read_tile(&self.layout, &self.cram, x, y)
     }
 
-    /// Sets all bits of the tile at (x, y), which has C columns, to the bits of `tile`.
+    /// Sets all bits of the tile at (x, y), which has C columns, to the bits of `tile`. No tool of this project sets a whole tile: this is
+    /// for users of the library.
     pub fn put_tile<const C: usize>(&mut self, x: u8, y: u8, tile: &Tile<C>)
         requires { columns_at self.old.layout.device x y ≡ C }
         ensures tile { tile_rows self.old.layout self.new.cram x y ≡ tile.now }
@@ -286,7 +288,8 @@ impl<D: Device> Image<D> {
         read_word(&self.layout, &self.bram, x, y, word)
     }
 
-    /// Sets a word of the RAM whose lower tile is at (x, y), bit b having the value 2^b.
+    /// Sets a word of the RAM whose lower tile is at (x, y), bit b having the value 2^b. No tool of this project sets a whole word: this is
+    /// for users of the library.
     pub fn set_ram_word(&mut self, x: u8, y: u8, word: u8, value: u16)
         requires { kind_of self.old.layout.device x y ≡ Some TileKind.RamB }
         ensures word { word_value self.old.layout self.new.bram x y word ≡ value }

@@ -17,6 +17,6 @@ counted_by count more = min (count + more) last_count
 abbrev pub Rose : ℕ → ℕ → Type 0
 Rose old new = counted old ≤ new
 
--- a count is greater by so many, or stands at the last count
+-- so many more were counted, or fewer if the count came to the last one
 abbrev pub RoseBy : ℕ → ℕ → ℕ → Type 0
 RoseBy more old new = (counted_by old more ≤ new) × (new ≤ old + more)

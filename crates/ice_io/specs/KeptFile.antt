@@ -1,10 +1,8 @@
 -- The file of the system that was read last.
-use Rattle.std.specs.Prelude.{◌≡◌, ℕ, List, Option, Some, take}
-use Rattle.ice_io.specs.declared.kept_file.KeptFile.{KeptFile}
-use Rattle.ice_io.specs.declared.real.StdSource.{StdSource}
+use Rattle.std.specs.Prelude.{◌≡◌, ℕ, List, Option, Some}
 
--- this file is open; it was opened by that name, and that place was reached in it, or none past the last place
-pub record IsKept {F : Type 0} (kept : KeptFile F) (name : List ℕ) (place : Option ℕ) (file : StdSource F) : Type 0 where
-  pub is_open : kept.file ≡ Some file
-  pub opened_by : take kept.name_len kept.name ≡ name
-  pub reached : kept.place ≡ place
+-- what is kept is this file, noted as the one that was opened by that name, and in which that place was reached, or none past the last place
+pub record IsKept {F : Type 0} (kept : Option F) (noted : List ℕ) (reached : Option ℕ) (file : F) (name : List ℕ) (place : Option ℕ) : Type 0 where
+  pub is_open : kept ≡ Some file
+  pub opened_by : noted ≡ name
+  pub stands : reached ≡ place

@@ -54,7 +54,8 @@ impl<'a, R: rt::Files> DirFiles<'a, R> {
 
     // Counts bytes that were read.
     fn count_bytes(&mut self, count: usize)
-        ensures { self.new ≡ after_bytes self.old count }
+        ensures counted { self.new ≡ after_bytes self.old count }
+        ensures grew { self.old.bytes_read ≤ self.new.bytes_read }
     {
         self.bytes_read = self.bytes_read.saturating_add(count as u64);
     }
@@ -98,6 +99,7 @@ impl<R: rt::Files> Files for DirFiles<'_, R> {
 
         ensures read { IfOk result (λ bytes. self.new ≡ after_bytes self.old (vec_len bytes)) }
         ensures read_past { IsErrOf result TakeFault.TooLong → self.new ≡ after_bytes self.old (limit + 1) }
+        ensures bytes_never_fall { self.old.bytes_read ≤ self.new.bytes_read }
         ensures failed { IsErrOf result TakeFault.Failed → self.new ≡ after_load_fault self.old }
         ensures same { (e : AllocError) → IsErrOf result (TakeFault.Memory e) → self.new ≡ self.old }
 
@@ -129,6 +131,7 @@ impl<R: rt::Files> Files for DirFiles<'_, R> {
         ensures same_store_faults { self.new.store_faults ≡ self.old.store_faults }
 
         ensures counted { IfOk result (λ n. self.new ≡ after_bytes self.old n) }
+        ensures bytes_never_fall { self.old.bytes_read ≤ self.new.bytes_read }
         ensures failed { OnErr result (self.new ≡ after_load_fault self.old) }
 
         // `Ok` has read these bytes from a file, and 0 for a buffer that isn't empty comes only at its end.

@@ -40,7 +40,8 @@ pub trait Files {
     /// How many stores have failed. It never falls, and stays at `u64::MAX`.
     ghost store_faults: { Self → ℕ };
 
-    /// How many bytes have been read. It never falls, and stays at `u64::MAX`.
+    /// How many bytes were given by loads and by reads of parts. A load that passes its limit counts the limit and one. It never falls,
+    /// and stays at `u64::MAX`.
     ghost bytes_read: { Self → ℕ };
 
     /// All bytes of a file, if there are at most `limit`.
@@ -52,6 +53,7 @@ pub trait Files {
         ensures too_long { IsErrOf result TakeFault.TooLong → HasMore (contents self.old) name.now limit }
         ensures read { IfOk result (λ bytes. RoseBy (vec_len bytes) (bytes_read self.old) (bytes_read self.new)) }
         ensures read_past { IsErrOf result TakeFault.TooLong → RoseBy (limit + 1) (bytes_read self.old) (bytes_read self.new) }
+        ensures bytes_never_fall { bytes_read self.old ≤ bytes_read self.new }
         ensures lacks { IsErrOf result TakeFault.Failed → IsTrue (steady self.old) → LacksFile (contents self.old) name.now }
         ensures failed { IsErrOf result TakeFault.Failed → Rose (load_faults self.old) (load_faults self.new) }
 
@@ -68,6 +70,7 @@ pub trait Files {
         ensures end { IfOk result (λ n. n ≡ 0 → 0 < length into.new → EndsBefore (contents self.old) name.now at) }
         ensures read { IfOk result (λ n. RoseBy n (bytes_read self.old) (bytes_read self.new)) }
         ensures unread { OnErr result (bytes_read self.new ≡ bytes_read self.old) }
+        ensures bytes_never_fall { bytes_read self.old ≤ bytes_read self.new }
         ensures lacks { OnErr result (IsTrue (steady self.old) → LacksFile (contents self.old) name.now) }
         ensures failed { OnErr result (Rose (load_faults self.old) (load_faults self.new)) }
 
@@ -134,7 +137,10 @@ pub fn load_into<F: Files, T: Taker>(
         × (length bytes ≤ limit) × TakesMore T.has_taken taker.old taker.new bytes) }
     ensures part { OnErr result (TakesFrontOf (F.contents files.old) name.now T.has_taken taker.old taker.new) }
     ensures too_long { IsErrOf result TakeFault.TooLong → HasMore (F.contents files.old) name.now limit }
+    ensures read { OnOk result ((bytes : List ℕ) × HasFile (F.contents files.old) name.now bytes
+        × TakesMore T.has_taken taker.old taker.new bytes × RoseBy (length bytes) (F.bytes_read files.old) (F.bytes_read files.new)) }
     ensures read_past { IsErrOf result TakeFault.TooLong → RoseBy (limit + 1) (F.bytes_read files.old) (F.bytes_read files.new) }
+    ensures bytes_never_fall { F.bytes_read files.old ≤ F.bytes_read files.new }
     ensures lacks { IsErrOf result TakeFault.Failed → IsTrue (F.steady files.old) → LacksFile (F.contents files.old) name.now }
     ensures failed { IsErrOf result TakeFault.Failed → Rose (F.load_faults files.old) (F.load_faults files.new) }
 

@@ -1,5 +1,5 @@
 // The file of the system that was read last, which stays open.
-ghost use Rattle.std.specs.Prelude.{◌≡◌, ◌<◌, ◌≤◌, None, Some, length, IfNone, IfOk, IfSome};
+ghost use Rattle.std.specs.Prelude.{◌≡◌, ◌+◌, ◌<◌, ◌≤◌, ◌^◌, None, Some, length, take, IfNone, IfOk, IfSome};
 ghost use Rattle.ice_io.specs.DirFiles.{WereRead};
 ghost use Rattle.ice_io.specs.KeptFile.{IsKept};
 
@@ -46,8 +46,8 @@ impl<F: Read + Drop> KeptFile<F> {
     // The file, if it was opened by this name, and that place was reached.
     fn take(&mut self, name: &str, place: u64) -> Option<StdSource<F>>
         ensures closed { self.new.file ≡ None }
-        ensures kept { IfSome result (λ file. IsKept self.old name.now (Some place) file) }
-        ensures other { IfNone result ((file : StdSource F) → IsKept self.old name.now (Some place) file → ⊥) }
+        ensures kept { IfSome result (λ file. IsKept self.old.file (take self.old.name_len self.old.name) self.old.place file name.now (Some place)) }
+        ensures other { IfNone result ((file : StdSource F) → IsKept self.old.file (take self.old.name_len self.old.name) self.old.place file name.now (Some place) → ⊥) }
     {
         let file = self.file.take();
         let is_here = self.place == Some(place) && &self.name[..self.name_len] == name.as_bytes();
@@ -56,7 +56,7 @@ impl<F: Read + Drop> KeptFile<F> {
 
     // Keeps a file, with its name and the place that was reached in it, or closes it if the name doesn't fit.
     fn keep(&mut self, file: StdSource<F>, name: &str, place: Option<u64>)
-        ensures kept { length name.now ≤ NAME_ROOM → IsKept self.new name.now place file }
+        ensures kept { length name.now ≤ NAME_ROOM → IsKept self.new.file (take self.new.name_len self.new.name) self.new.place file name.now place }
         ensures long { NAME_ROOM < length name.now → self.new ≡ self.old }
     {
         if name.len() > self.name.len() {
@@ -79,6 +79,7 @@ pub(crate) fn read_part<R: rt::Files>(
 ) -> Result<usize, Failed>
     ensures count { IfOk result (λ n. n ≤ length into.new) }
     ensures read { IfOk result (WereRead R.File.remaining into.new) }
+    ensures kept { IfOk result (λ n. 0 < n → length name.now ≤ NAME_ROOM → at + n < 2 ^ 64 → (file : StdSource R.File) × IsKept kept.new.file (take kept.new.name_len kept.new.name) kept.new.place file name.now (Some (at + n))) }
 {
     let mut file = match kept.take(name, at) {
         Some(file) => file,

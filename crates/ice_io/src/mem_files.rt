@@ -16,7 +16,8 @@ use crate::source::{Failed, TakeFault};
 use std::alloc::{AllocError, Global};
 use std::marker::Model;
 
-/// Files in memory, of which one may be stored.
+/// Files in memory, of which one may be stored. No tool of this project needs them or their calls: they are for tests, and for users of the
+/// library.
 #[derive(Drop)]
 pub struct MemFiles {
     files: Vec<NamedFile>,
@@ -56,8 +57,11 @@ impl Model for MemFiles {
 
 impl MemFiles {
     /// Files in memory, whose bytes are read in parts and stored at most `most` at a time. Only `target` may be stored, with at most
-    /// `room` bytes. `failing` lists the calls that fail: loads, of whole files or of parts, and stores are counted together, from 1. The memory for `target`
-    /// is allocated here.
+    /// `room` bytes. `failing` lists the calls that fail: loads, of whole files or of parts, and stores are counted together, from 1.
+    /// The memory for `target` is allocated here.
+    ///
+    /// # Errors
+    /// `AllocError` if memory is out, and for no other cause.
     pub fn new(
         alloc: Global,
         files: Vec<NamedFile>,
@@ -158,6 +162,7 @@ impl Files for MemFiles {
     fn load(&mut self, alloc: Global, name: &str, limit: usize) -> Result<Vec<u8>, TakeFault>
         requires { limit < 2 ^ 32 }
         ensures never_falls { self.old.load_faults ≤ self.new.load_faults }
+        ensures bytes_never_fall { self.old.bytes_read ≤ self.new.bytes_read }
 
         ensures fails { IsErrOf result TakeFault.Failed ↔ LoadFails self.old name.now }
         ensures too_long { IsErrOf result TakeFault.TooLong → IsSomeAnd (get self.old.files name.now) (λ bytes. limit < length bytes) }
@@ -190,6 +195,7 @@ impl Files for MemFiles {
         ensures bytes { IfOk result (λ n. HasPart (Some self.old.files) name.now at (take n into.new)) }
         ensures end { IfOk result (λ n. n ≡ 0 → 0 < length into.new → EndsBefore (Some self.old.files) name.now at) }
         ensures never_falls { self.old.load_faults ≤ self.new.load_faults }
+        ensures bytes_never_fall { self.old.bytes_read ≤ self.new.bytes_read }
 
         ensures fails { IsErr result ↔ LoadFails self.old name.now }
         ensures size { IfOk result (λ n. IsSomeAnd (get self.old.files name.now) (λ all. n ≡ part_size self.old all at (length into.new))) }

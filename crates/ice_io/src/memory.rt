@@ -10,7 +10,7 @@ use crate::source::{Failed, Source};
 use std::alloc::{AllocError, Global};
 use std::marker::Model;
 
-/// A source of bytes in memory.
+/// A source of bytes in memory. No tool of this project needs it or its calls: it is for tests, and for users of the library.
 #[derive(Drop)]
 pub struct MemSource {
     bytes: Vec<u8>,
@@ -75,7 +75,7 @@ impl Source for MemSource {
     }
 }
 
-/// A sink for bytes in memory.
+/// A sink for bytes in memory. No tool of this project needs it or its calls: it is for tests, and for users of the library.
 #[derive(Drop)]
 pub struct MemSink {
     bytes: Vec<u8>,
@@ -100,6 +100,9 @@ impl Model for MemSink {
 impl MemSink {
     /// A sink for at most `room` bytes in all, and at most `most` in one write. `failing` lists the writes that fail, counted
     /// from 1. All memory is allocated here.
+    ///
+    /// # Errors
+    /// `AllocError` if memory is out, and for no other cause.
     pub fn new(
         alloc: Global,
         room: usize,

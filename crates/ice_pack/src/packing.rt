@@ -14,7 +14,8 @@ use layout_file::Layouts;
 use std::alloc::Global;
 
 /// The canonical bytes of what a text configures under the standard layouts. The flash stays awake after the configuration if
-/// `no_sleep` is true, whatever the text says.
+/// `no_sleep` is true, whatever the text says. `icepack` reads in pieces and calls [`pack_fed`]: this is for users of the library who have
+/// the whole text.
 ///
 /// # Errors
 /// `AscFault::At` for the first faulty line, with its tile or RAM and its cause; `AscFault::Memory` if memory is out.
@@ -37,7 +38,8 @@ pub fn pack(alloc: Global, asc: &[u8], no_sleep: bool) -> Result<Vec<u8>, AscFau
     pack_with(alloc, asc, no_sleep, Layouts::standard())
 }
 
-/// The canonical bytes of what a text configures under the layouts, with `no_sleep` as in [`pack`].
+/// The canonical bytes of what a text configures under the layouts, with `no_sleep` as in [`pack`]. `icepack` reads in pieces and calls
+/// [`pack_fed`]: this is for users of the library who have the whole text.
 ///
 /// # Errors
 /// As [`pack`].

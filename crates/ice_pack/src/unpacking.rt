@@ -12,7 +12,8 @@ use bin_stream::{BinFault, Decoder, decode_with};
 use layout_file::Layouts;
 use std::alloc::Global;
 
-/// The canonical text of what a bitstream spells under the standard layouts.
+/// The canonical text of what a bitstream spells under the standard layouts. `iceunpack` reads in pieces and calls [`unpack_fed`]: this is
+/// for users of the library who have the whole bitstream.
 ///
 /// # Errors
 /// `BinFault::At` for the first fault, with its offset and its cause; `BinFault::Memory` if memory is out.
@@ -36,7 +37,8 @@ pub fn unpack(alloc: Global, bin: &[u8]) -> Result<Vec<u8>, BinFault>
     unpack_with(alloc, bin, Layouts::standard())
 }
 
-/// The canonical text of what a bitstream spells under the layouts.
+/// The canonical text of what a bitstream spells under the layouts. `iceunpack` reads in pieces and calls [`unpack_fed`]: this is for users
+/// of the library who have the whole bitstream.
 ///
 /// # Errors
 /// As [`unpack`].

@@ -81,7 +81,7 @@ impl NameTable {
         self.names.has(id)
     }
 
-    /// How many names there are.
+    /// How many names there are. No tool of this project needs it: it is for users of the library.
     pub fn len(&self) -> usize
         ensures { result ≡ length self.now }
     {

@@ -59,7 +59,8 @@ fn got_bit(mode: u8, word: u16, high: u8, b: u8) -> bool
     }
 }
 
-/// The word with `value` put into it as its narrow word of high part `high`.
+/// The word with `value` put into it as its narrow word of high part `high`. No tool of this project needs it: it is for users of the
+/// library.
 pub fn put(mode: u8, word: u16, high: u8, value: u16) -> u16
     requires mode { mode < 4 }
     requires high { high < share mode }
@@ -73,7 +74,8 @@ pub fn put(mode: u8, word: u16, high: u8, value: u16) -> u16
     result
 }
 
-/// The narrow word of high part `high`, got from the word. Its bits are at the places of those of high part 0, and all other bits are 0.
+/// The narrow word of high part `high`, got from the word. Its bits are at the places of those of high part 0, and all other bits are 0. No
+/// tool of this project needs it: it is for users of the library.
 pub fn get(mode: u8, word: u16, high: u8) -> u16
     requires mode { mode < 4 }
     requires high { high < share mode }
@@ -86,7 +88,8 @@ pub fn get(mode: u8, word: u16, high: u8) -> u16
     result
 }
 
-/// The narrow word at an address of 256 words. The low eight bits of the address choose the word, the bits above them are the high part.
+/// The narrow word at an address of 256 words. The low eight bits of the address choose the word, the bits above them are the high part. No
+/// tool of this project needs it: it is for users of the library.
 pub fn narrow(mode: u8, words: &[u16], address: u16) -> u16
     requires mode { mode < 4 }
     requires words { length words.now ≡ 256 }

@@ -9,7 +9,8 @@ use crate::layout::Layout;
 use crate::rows::{py_of, row_at};
 use crate::tile::{Place, TileBit, TileKind, WordBit};
 
-/// The kind of the tile at a position of the grid, or `None` at a corner or outside of the grid.
+/// The kind of the tile at a position of the grid, or `None` at a corner or outside of the grid. The code of this project calls [`kind_on`]
+/// with the name of a device: this is for users of the library who have its type.
 pub fn kind_at<D: Device>(x: u32, y: u32) -> Option<TileKind>
     ensures kind { result ≡ kind_of D.NAME x y }
     ensures in_grid { OnSome result ((x < grid_width D.NAME) × (y < grid_height D.NAME)) }

@@ -7,7 +7,8 @@ ghost use Rattle.pin_file.specs.declared.pin_name.PinName.{PinName};
 ghost use Rattle.port_names.specs.NamedLaw.{NamedIsFabric};
 
 /// The module with the names of a pin file runs as the fabric, for every database and image that aren't refused and every pin file without
-/// a fault, whichever inputs LUTs read. The call does nothing: its clause is the law.
+/// a fault, whichever inputs LUTs read. The call does nothing: its clause is the law. No code of this project calls it: it is for users of
+/// the library.
 pub fn named_module_is_fabric()
     ensures { (named : List PinName) (inputs : LutInputs) (db : Database) (image : Configuration) → NamedIsFabric named inputs db image }
 {}

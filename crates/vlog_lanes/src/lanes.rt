@@ -60,7 +60,8 @@ impl Lanes {
         self.board.event(pin, active, bits);
     }
 
-    /// Makes the calls, one after another.
+    /// Makes the calls, one after another. `vlogsweep` makes one call at a time, by [`Lanes::event`]: this is for users of the library who
+    /// have a list.
     pub fn run(&mut self, calls: &[Call])
         requires { All (λ call. call.pin < input_count self.old) calls.now }
         ensures from_start { (lane : ℕ) (m : Parts) → lane < 64 → Shows self.old lane m (start m)
@@ -74,7 +75,7 @@ impl Lanes {
         }
     }
 
-    /// How many inputs there are.
+    /// How many inputs there are. No tool of this project needs it: it is for users of the library.
     pub fn inputs(&self) -> usize
         ensures is { result ≡ input_count self.now }
         ensures shown { (lane : ℕ) (m : Parts) (entry : Entry) → Shows self.now lane m entry → result ≡ length (input_names m.ports) }
@@ -89,7 +90,8 @@ impl Lanes {
         self.board.outputs()
     }
 
-    /// The bits of the register of one bit with this name, in all lanes, if there is one.
+    /// The bits of the register of one bit with this name, in all lanes, if there is one. No tool of this project needs it: it is for users
+    /// of the library.
     pub fn register(&self, name: &[u8]) -> Option<u64>
         ensures is { (lane : ℕ) (m : Parts) (entry : Entry) → Shows self.now lane m entry
             → option_map (λ word. bit_of word lane) result ≡ value_in entry.registers name.now }
@@ -98,7 +100,8 @@ impl Lanes {
         self.board.register(name)
     }
 
-    /// The word of the register of 16 bits with this name, in a lane, if there is one.
+    /// The word of the register of 16 bits with this name, in a lane, if there is one. No tool of this project needs it: it is for users of
+    /// the library.
     pub fn register_word(&self, lane: usize, name: &[u8]) -> Option<u16>
         requires { lane < 64 }
         ensures is { (m : Parts) (entry : Entry) → Shows self.now lane m entry → result ≡ value_in entry.words name.now }
@@ -107,7 +110,8 @@ impl Lanes {
         self.board.register_word(lane, name)
     }
 
-    /// The word at an address of the memory with this name, in a lane, if there is one.
+    /// The word at an address of the memory with this name, in a lane, if there is one. No tool of this project needs it: it is for users
+    /// of the library.
     pub fn word(&self, lane: usize, memory: &[u8], address: u8) -> Option<u16>
         requires { lane < 64 }
         ensures is { (m : Parts) (entry : Entry) → Shows self.now lane m entry

@@ -57,7 +57,8 @@ impl Runner {
         self.board.event(pin, true, bit);
     }
 
-    /// Runs events, one after another.
+    /// Runs events, one after another. The tools give one event at a time, by [`Runner::event`]: this is for users of the library who have
+    /// a list.
     pub fn run(&mut self, events: &[Event])
         requires { All (λ event. event.pin < input_count self.old) events.now }
         ensures from_start { (m : Parts) → Shows self.old m (start m) → Shows self.new m (last_of (start m) (module_run m events.now)) }
@@ -69,7 +70,7 @@ impl Runner {
         }
     }
 
-    /// How many inputs there are.
+    /// How many inputs there are. No tool of this project needs it: it is for users of the library.
     pub fn inputs(&self) -> usize
         ensures is { result ≡ input_count self.now }
         ensures shown { (m : Parts) (entry : Entry) → Shows self.now m entry → result ≡ length (input_names m.ports) }
@@ -84,7 +85,8 @@ impl Runner {
         self.board.outputs()
     }
 
-    /// The bit of the register of one bit with this name, if there is one.
+    /// The bit of the register of one bit with this name, if there is one. No tool of this project needs it: it is for users of the
+    /// library.
     pub fn register(&self, name: &[u8]) -> Option<bool>
         ensures is { (m : Parts) (entry : Entry) → Shows self.now m entry → result ≡ value_in entry.registers name.now }
         ensures declared { (m : Parts) (entry : Entry) → Shows self.now m entry → is_some result ≡ has_name (register_names m.items) name.now }
@@ -92,7 +94,8 @@ impl Runner {
         self.board.register(name)
     }
 
-    /// The word of the register of 16 bits with this name, if there is one.
+    /// The word of the register of 16 bits with this name, if there is one. No tool of this project needs it: it is for users of the
+    /// library.
     pub fn register_word(&self, name: &[u8]) -> Option<u16>
         ensures is { (m : Parts) (entry : Entry) → Shows self.now m entry → result ≡ value_in entry.words name.now }
         ensures declared { (m : Parts) (entry : Entry) → Shows self.now m entry → is_some result ≡ has_name (word_names m.items) name.now }
@@ -100,7 +103,8 @@ impl Runner {
         self.board.register_word(0, name)
     }
 
-    /// The word at an address of the memory with this name, if there is one.
+    /// The word at an address of the memory with this name, if there is one. No tool of this project needs it: it is for users of the
+    /// library.
     pub fn word(&self, memory: &[u8], address: u8) -> Option<u16>
         ensures is { (m : Parts) (entry : Entry) → Shows self.now m entry
             → result ≡ option_map (λ words. get_or words address 0) (value_in entry.memories memory.now) }

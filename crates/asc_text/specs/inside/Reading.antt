@@ -30,7 +30,7 @@ use Rattle.asc_text.specs.declared.reading.reader.LineRefusal.{LineRefusal}
 use Rattle.asc_text.specs.declared.reading.reader.LineRefusal.TheVariants.{Cause, Memory as NoMemory}
 use Rattle.asc_text.specs.Statements.{statement_in, begins_with_dot}
 use Rattle.asc_text.specs.inside.TileSets.{has_tile}
-use Rattle.asc_text.specs.Rows.{is_row, is_memory_line, memory_bytes}
+use Rattle.asc_text.specs.Rows.{is_row, is_memory_line, ram_line_bytes}
 use Rattle.ice_image.specs.Owned.{is_extra}
 use Rattle.asc_text.specs.Faults.{cause_if, extra_place, unknown_device, kind_cause, comment_cause, stray_cause}
 use Rattle.asc_text.specs.inside.Gains.{bytes_set}
@@ -244,7 +244,7 @@ TakesRow s kind x y row line new = (new ≡ record s { image = new.image; expect
 -- what a line of a RAM's contents changes
 abbrev pub TakesMemory : ReaderState → ℕ → ℕ → ℕ → List ℕ → ReaderState → Type 0
 TakesMemory s x y row line new = (new ≡ record s { image = new.image; expected = before_memory x y (row + 1) })
-    × ImageGains s.image new.image (bytes_set x y row (memory_bytes line))
+    × ImageGains s.image new.image (bytes_set x y row (ram_line_bytes line))
 
 -- what a line changes
 abbrev pub Takes : ReaderState → Expected → List ℕ → ReaderState → Type 0

@@ -4,7 +4,7 @@ ghost use Rattle.std.specs.List.{list_all};
 ghost use Rattle.asc_text.specs.Faults.{is_printable};
 ghost use Rattle.plane_map.specs.Layout.{columns_of};
 ghost use Rattle.ice_image.specs.Bits.{number_bit};
-ghost use Rattle.asc_text.specs.Rows.{is_memory_line, is_row, memory_bytes, row_bit};
+ghost use Rattle.asc_text.specs.Rows.{is_memory_line, is_row, ram_line_bytes, row_bit};
 
 use crate::reading::eights::row_bits_of;
 use plane_map::TileKind;
@@ -39,9 +39,9 @@ pub(crate) fn ones_of(line: &[u8], width: usize) -> Option<u64>
 }
 
 /// The bytes of 64 hexadecimal digits, the high digit of each byte first, or `None` if the line is not 64 such digits.
-pub(crate) fn memory_bytes(line: &[u8]) -> Option<[u8; 32]>
+pub(crate) fn ram_line_bytes(line: &[u8]) -> Option<[u8; 32]>
     ensures { MatchOption result (is_memory_line line.now ≡ false)
-        (λ bytes. (is_memory_line line.now ≡ true) × (memory_bytes line.now ≡ bytes)) }
+        (λ bytes. (is_memory_line line.now ≡ true) × (ram_line_bytes line.now ≡ bytes)) }
 {
     let mut bytes = [0; 32];
     match hex::decode_to_slice(line, &mut bytes) {

@@ -35,7 +35,8 @@ impl Decoder {
     ghost use Rattle.bin_stream.specs.Decoding.{fed_to, refusal_of, StandsFor};
     ghost use Rattle.bin_stream.specs.declared.fault.BinFault.{BinFault as Fault};
 
-    /// A new decoder of images under the standard layouts. It allocates nothing.
+    /// A new decoder of images under the standard layouts. It allocates nothing. The code of this project calls [`Decoder::with`]: this is
+    /// the short form, for users of the library.
     pub fn new(alloc: Global) -> Decoder
         ensures stands { StandsFor standard_layouts [] result }
         ensures fed { fed_to result ≡ 0 }

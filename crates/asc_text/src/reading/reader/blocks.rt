@@ -7,7 +7,7 @@ ghost use Rattle.asc_text.specs.inside.Reading.{state_of, HasKind, row_refusal, 
 use crate::fault::AscCause;
 use crate::reading::bits;
 use crate::reading::reader::{Expected, TextReader};
-use crate::reading::rows::{memory_bytes, row_ones};
+use crate::reading::rows::{ram_line_bytes, row_ones};
 use ice_image::AnyImage;
 use plane_map::TileKind;
 
@@ -53,7 +53,7 @@ impl TextReader {
         ensures refused { IfErr result (λ cause. memory_refusal line.now ≡ Some cause) }
         ensures kept { OnErr result (state_of self.new ≡ state_of self.old) }
     {
-        match memory_bytes(line) {
+        match ram_line_bytes(line) {
             Some(bytes) => {
                 set_memory_line(&mut self.image, x, y, row, &bytes);
                 self.expected = Expected::before_memory(x, y, row + 1);

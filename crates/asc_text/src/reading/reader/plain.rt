@@ -6,7 +6,7 @@ ghost use Rattle.plane_map.specs.Layout.{columns_of, kind_of};
 ghost use Rattle.plane_map.specs.Runs.{AreRunsOf};
 ghost use Rattle.ice_image.specs.Bits.{number_bit};
 ghost use Rattle.ice_image.specs.Either.{configuration_of, device_of};
-ghost use Rattle.asc_text.specs.Rows.{is_row, is_memory_line, row_bit, memory_bytes};
+ghost use Rattle.asc_text.specs.Rows.{is_row, is_memory_line, row_bit, ram_line_bytes};
 ghost use Rattle.asc_text.specs.Meaning.{row_sets};
 ghost use Rattle.asc_text.specs.declared.reading.reader.Expected.TheVariants.{Row, Memory};
 ghost use Rattle.asc_text.specs.inside.Gains.{bytes_set};
@@ -15,7 +15,7 @@ ghost use Rattle.asc_text.specs.inside.Reading.{state_of, HasKind, IsReady, Take
 use crate::reading::bits::set_memory_line;
 use crate::reading::reader::names::take_names;
 use crate::reading::reader::{Expected, TextReader};
-use crate::reading::rows::{memory_bytes, ones_of};
+use crate::reading::rows::{ones_of, ram_line_bytes};
 use ice_image::AnyImage;
 use plane_map::{TileKind, TileRuns};
 
@@ -258,7 +258,7 @@ fn set_plain_memory_line(image: &mut AnyImage, x: u8, y: u8, row: u8, text: &[u8
     requires there { kind_of (device_of image.old) x y ≡ Some TileKind.RamB }
     requires row { row < 16 }
     ensures { MatchBool result
-        ((is_lf_at text.now 64 ≡ true) × (is_memory_line (take 64 text.now) ≡ true) × GainsBits image.old image.new (bytes_set x y row (memory_bytes (take 64 text.now))))
+        ((is_lf_at text.now 64 ≡ true) × (is_memory_line (take 64 text.now) ≡ true) × GainsBits image.old image.new (bytes_set x y row (ram_line_bytes (take 64 text.now))))
         (image.new ≡ image.old) }
 {
     match plain_memory_line(text) {
@@ -273,10 +273,10 @@ fn set_plain_memory_line(image: &mut AnyImage, x: u8, y: u8, row: u8, text: &[u8
 /// The bytes of a line of the contents of a RAM at the front of a text with LF right after it.
 fn plain_memory_line(text: &[u8]) -> Option<[u8; 32]>
     ensures { IfSome result (λ bytes. (is_lf_at text.now 64 ≡ true) × (is_memory_line (take 64 text.now) ≡ true)
-        × (memory_bytes (take 64 text.now) ≡ bytes)) }
+        × (ram_line_bytes (take 64 text.now) ≡ bytes)) }
 {
     if is_lf_at(text, 64) {
-        memory_bytes(&text[..64])
+        ram_line_bytes(&text[..64])
     } else {
         None
     }

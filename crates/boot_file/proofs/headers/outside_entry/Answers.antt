@@ -1,6 +1,6 @@
 use Rattle.std.proofs.Common.{true, sym, ap, ◌∙◌, arith}
 use Rattle.std.specs.Prelude.{not}
-use Rattle.place_search.proofs.Places.{least_below-first, least_below-none}
+use Rattle.index_search.proofs.Places.{least_below-first, least_below-none}
 use Rattle.boot_file.specs.Headers.{entry_address, is_within}
 use Rattle.boot_file.proofs.Below.{below-more}
 use Rattle.boot_file.proofs.headers.outside_entry.Goals as goal

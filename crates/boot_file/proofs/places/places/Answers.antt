@@ -37,8 +37,8 @@ loop-index-preserved c =
     let size : c.len.result ≡ length (image_at images index) = omega (arith, ap length image) in
     let next = ap₂ (λ place length. aligned options.align (place + length)) here size ∙ sym (place-more images options index) in
     record {
-      near = λ small. c.place_after-place.ensures.near small ∙ next;
-      far = λ great. subst (λ n. 2 ^ 24 ≤ n) next (c.place_after-place.ensures.far great);
+      near = λ small. c.offset_after-place.ensures.near small ∙ next;
+      far = λ great. subst (λ n. 2 ^ 24 ≤ n) next (c.offset_after-place.ensures.far great);
       count = omega (arith, ap length added, length-append old (c.loop-index.place ∷ []), i.count);
       found = λ k below. ap (λ xs. get_or xs k 0) added ∙ found-more old c.loop-index.place index (place_of images options) i.count i.found here k below;
       small = λ k. subst (λ xs. get_or xs k 0 < 2 ^ 24) (sym added) (small-more old c.loop-index.place (2 ^ 24) i.small c.if-place-ge-ADDRESS_LIMIT.false k);

@@ -8,6 +8,6 @@ loop-index-preserved c =
     let two = ap₂ (λ high low. 256 * high + low) c.from-high.ensures c.from-low.ensures in
     record {
       there = line-there c.loop-index.bits c.put_word.new.bits c.args.line.now c.args.row c.loop-index.index _ i.there c.put_word.ensures.before c.put_word.ensures.there
-          (word-bytes c.memory_bytes-bytes.result c.args.line.now c.loop-index.index _ c.memory_bytes-bytes.ensures two);
+          (word-bytes c.ram_line_bytes-bytes.result c.args.line.now c.loop-index.index _ c.ram_line_bytes-bytes.ensures two);
       before = λ word bit few low. c.put_word.ensures.before word bit (omega arith) low ∙ i.before word bit few low;
     }

@@ -1,5 +1,5 @@
 use Rattle.std.proofs.Common.{◌∙◌}
-use Rattle.net_extract.specs.Outputs.{outputs_of}
+use Rattle.fabric_model.specs.Outputs.{outputs_of}
 use Rattle.fabric_wiring.proofs.output_pins.outputs.Goals as goal
 
 pub returns : goal.returns

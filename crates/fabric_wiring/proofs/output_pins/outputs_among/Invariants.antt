@@ -1,7 +1,7 @@
 use Rattle.std.proofs.Common.{◌≡◌, map, take}
 use Rattle.std.specs.Prelude.{flat_map, filter}
-use Rattle.net_extract.specs.declared.pin.Pin.{Pin}
-use Rattle.net_extract.specs.Outputs.{pin_outputs}
+use Rattle.fabric_model.specs.declared.pin.Pin.{Pin}
+use Rattle.fabric_model.specs.Outputs.{pin_outputs}
 use Rattle.fabric_wiring.specs.Outputs.{output_of}
 use Rattle.fabric_wiring.proofs.output_pins.outputs_among.Given as goal
 

@@ -1,7 +1,7 @@
 use Rattle.std.proofs.Common.{sym, ap, ◌∙◌, ◌&&◌, ◌==◌, Bool}
-use Rattle.net_extract.specs.declared.pin.Pin.{Pin}
-use Rattle.net_extract.specs.declared.register.Register.{Register}
-use Rattle.net_extract.specs.Drivers.{is_output_user, register_rule}
+use Rattle.fabric_model.specs.declared.pin.Pin.{Pin}
+use Rattle.fabric_model.specs.declared.register.Register.{Register}
+use Rattle.fabric_model.specs.Drivers.{is_output_user, register_rule}
 use Rattle.fabric_wiring.proofs.FoundPlaces.{find-numbered, find-no_numbered}
 use Rattle.fabric_wiring.proofs.output_pins.register_rule.Goals as goal
 

@@ -20,6 +20,7 @@ loop-buffer-init g c = record {
   room = omega arith;
   most = omega arith;
   read = (omega arith, omega arith);
+  bytes = omega arith;
   faults = omega arith;
   same_contents = refl;
   same_steady = refl;
@@ -48,6 +49,20 @@ returns-then-count-eq0-clause-bytes g c =
     subst (λ (contents : Option FileMap). EndsBefore contents name c.loop-buffer.taken) i.same_contents (c.in_ok-count.ensures.end (omega arith) (omega (arith, i.room, length-take {A = ℕ}))) in
     (taken.0, HasFront-all (g.F.Files.contents c.args.files.now) name taken.0 c.loop-buffer.taken taken.2 taken.1 ends, omega (arith, i.within, taken.2), taken.3)
 
+pub returns-then-count-eq0-clause-read : goal.returns-then-count-eq0-clause-read
+returns-then-count-eq0-clause-read g c =
+    let i = c.loop-buffer.invariant in
+    let e = c.in_ok-count.ensures in
+    let taken = i.taken in
+    let name = c.args.name.now in
+    let ends : EndsBefore (g.F.Files.contents c.args.files.now) name c.loop-buffer.taken =
+    subst (λ (contents : Option FileMap). EndsBefore contents name c.loop-buffer.taken) i.same_contents (e.end (omega arith) (omega (arith, i.room, length-take {A = ℕ}))) in (
+      taken.0,
+      HasFront-all (g.F.Files.contents c.args.files.now) name taken.0 c.loop-buffer.taken taken.2 taken.1 ends,
+      taken.3,
+      (omega (arith, i.read.0, e.read.0, taken.2), omega (arith, i.read.1, e.read.1, taken.2)),
+    )
+
 pub returns-then-taken-count-clause-part : goal.returns-then-taken-count-clause-part
 returns-then-taken-count-clause-part g c =
     let taken = c.loop-buffer.invariant.taken in
@@ -68,7 +83,7 @@ pub returns-then-taken-count-clause-read_past : goal.returns-then-taken-count-cl
 returns-then-taken-count-clause-read_past g c = λ _.
     let i = c.loop-buffer.invariant in
     let e = c.in_ok-count.ensures in
-    (omega (arith, i.read.0, e.read.0, e.count, i.within), omega (arith, i.read.1, e.read.1, e.count, i.within))
+    (omega (arith, i.read.0, e.read.0, e.count, i.within, length-take {A = ℕ}), omega (arith, i.read.1, e.read.1, e.count, i.within, length-take {A = ℕ}))
 
 pub take-requires-clause-short : goal.take-requires-clause-short
 take-requires-clause-short g c = omega (arith, c.loop-buffer.invariant.most, length-take {A = ℕ})
@@ -95,6 +110,7 @@ loop-buffer-preserved g c =
       room = i.room;
       most = i.most;
       read = (omega (arith, i.read.0, e.read.0), omega (arith, i.read.1, e.read.1));
+      bytes = omega (arith, i.bytes, e.bytes_never_fall);
       faults = omega (arith, i.faults, e.never_falls);
       same_contents = e.same_contents ∙ i.same_contents;
       same_steady = e.same_steady ∙ i.same_steady;

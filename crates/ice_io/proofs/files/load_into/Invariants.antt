@@ -16,6 +16,7 @@ invariant-loop-buffer g l =
       room : 1 ≤ vec_len l.buffer;
       most : vec_len l.buffer ≤ 65536;
       read : RoseBy l.taken (F.bytes_read l.initial.files) (F.bytes_read l.files);
+      bytes : F.bytes_read l.initial.files ≤ F.bytes_read l.files;
       faults : F.load_faults l.initial.files ≤ F.load_faults l.files;
       same_contents : F.contents l.files ≡ F.contents l.initial.files;
       same_steady : F.steady l.files ≡ F.steady l.initial.files;

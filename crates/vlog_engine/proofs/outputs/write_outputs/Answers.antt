@@ -1,13 +1,13 @@
 use Rattle.std.proofs.Common.{◌≡◌, ◌<◌, [], Bool, List, false, arith, ap, ap₂, cond, length, sym, ◌∙◌}
 use Rattle.std.specs.Prelude.{map}
 use Rattle.std.proofs.lemmas.List.{get_or-map, length-map}
-use Rattle.vlog_plan.specs.declared.plan.Operand.{Operand}
-use Rattle.vlog_plan.specs.declared.plan.Operand.TheVariants.{Constant}
-use Rattle.vlog_plan.specs.Steps.{operand_value}
-use Rattle.vlog_cells.specs.Lanes.{lane_bits}
-use Rattle.vlog_cells.proofs.Lanes.{lane-length, lane-set}
-use Rattle.vlog_cells.proofs.Merged.{merge-all, merge-none, merge-step}
-use Rattle.vlog_cells.proofs.outputs.write_outputs.Goals as goal
+use Rattle.vlog_semantics.specs.declared.plan.Operand.{Operand}
+use Rattle.vlog_semantics.specs.declared.plan.Operand.TheVariants.{Constant}
+use Rattle.vlog_semantics.specs.Steps.{operand_value}
+use Rattle.vlog_engine.specs.Lanes.{lane_bits}
+use Rattle.vlog_engine.proofs.Lanes.{lane-length, lane-set}
+use Rattle.vlog_engine.proofs.Merged.{merge-all, merge-none, merge-step}
+use Rattle.vlog_engine.proofs.outputs.write_outputs.Goals as goal
 
 pub loop-place-init : goal.loop-place-init
 loop-place-init g c = record {

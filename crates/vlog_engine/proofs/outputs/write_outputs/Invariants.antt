@@ -1,8 +1,8 @@
 use Rattle.std.proofs.Common.{◌≡◌, ◌<◌, ◌++◌, ℕ, [], cond, drop, length, take}
 use Rattle.std.specs.Prelude.{map}
-use Rattle.vlog_plan.specs.Steps.{operand_value}
-use Rattle.vlog_cells.specs.Lanes.{lane_bits}
-use Rattle.vlog_cells.proofs.outputs.write_outputs.Given as goal
+use Rattle.vlog_semantics.specs.Steps.{operand_value}
+use Rattle.vlog_engine.specs.Lanes.{lane_bits}
+use Rattle.vlog_engine.proofs.outputs.write_outputs.Given as goal
 
 abbrev pub invariant-loop-place : goal.invariant-loop-place
 invariant-loop-place g l = record {

@@ -22,6 +22,7 @@ returns-then-fill-clause-after g c =
       calls = c.saturating_add-self-inside.ensures i;
       load_faults = c.self.inside.load_faults;
       store_faults = c.self.inside.store_faults;
+      bytes_read = c.self.inside.bytes_read;
     })
 
 pub returns-clause-after_part : goal.returns-clause-after_part
@@ -39,4 +40,5 @@ returns-clause-after_part g c =
       calls = c.saturating_add-self-inside.ensures i;
       load_faults = c.self.inside.load_faults;
       store_faults = c.saturating_add-self-inside-2.ensures i;
+      bytes_read = c.self.inside.bytes_read;
     })

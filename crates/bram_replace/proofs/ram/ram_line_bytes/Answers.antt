@@ -1,7 +1,7 @@
 use Rattle.std.proofs.Common.{refl, sym, ◌∙◌}
 use Rattle.std.proofs.lemmas.Bool.{false≢true}
 use Rattle.asc_text.proofs.MemoryLines.{memory_line-decoded, memory_line-refused, decoded-written, decoded-refused}
-use Rattle.bram_replace.proofs.ram.memory_bytes.Goals as goal
+use Rattle.bram_replace.proofs.ram.ram_line_bytes.Goals as goal
 
 pub unreachable-requires : goal.unreachable-requires
 unreachable-requires c =

@@ -1,6 +1,6 @@
 use Rattle.std.proofs.Common.{refl}
 use Rattle.asc_text.proofs.MemoryLines.{memory_line-decoded, memory_line-refused, decoded-written, decoded-refused}
-use Rattle.asc_text.proofs.reading.rows.memory_bytes.Goals as goal
+use Rattle.asc_text.proofs.reading.rows.ram_line_bytes.Goals as goal
 
 pub returns-in-Ok : goal.returns-in-Ok
 returns-in-Ok c = memory_line-decoded c.args.line.now _ (decoded-written _ _ _ c.in-Ok.ensures.value refl)

@@ -1,0 +1,135 @@
+#!/usr/bin/env python3
+"""Checks what the documents say of the sources, and one another.
+
+Usage: check/documents.py          checks
+       check/documents.py --types  prints docs/TYPES.md as the sources make it
+
+Each link between the documents leads to a file, and to a heading of it. Each row of docs/DEFINITIONS.md names files of crates that are
+there and have what the row names. docs/TYPES.md is what the sources make. The table of crates in docs/ARCHITECTURE.md has each crate of
+crates.txt once. The last line is 'N passed, M failed'.
+"""
+import pathlib
+import re
+import sys
+
+TOP = pathlib.Path(__file__).resolve().parent.parent
+TESTS = ("base_tests", "format_tests", "fabric_tests", "vlog_tests", "sample_images")
+TYPE = re.compile(r"\s*(?:pub(?:\(\w+\))? )?(struct|enum|trait) (\w+)")
+
+
+def crates():
+    rows = (line.split(":")[0] for line in (TOP / "crates.txt").read_text().splitlines() if line and line[0] != "#")
+    return list(rows)
+
+
+def pages():
+    return [TOP / "README.md", TOP / "CONTRIBUTING.md", TOP / "check/README.md", TOP / "bench/README.md", *sorted((TOP / "docs").glob("*.md"))]
+
+
+def anchor_of(heading):
+    return re.sub(r"[^\w\- ]", "", heading.strip().lower()).replace(" ", "-")
+
+
+def anchors_in(page):
+    return {anchor_of(match.group(1)) for match in re.finditer(r"^#+ (.*)$", page.read_text(), re.M)}
+
+
+def broken_links():
+    for page in pages():
+        for match in re.finditer(r"\]\(([^)#\s]*)(?:#([^)\s]+))?\)", page.read_text()):
+            file, anchor = match.groups()
+            if "://" in file:
+                continue
+            target = (page.parent / file) if file else page
+            if not target.exists():
+                yield "%s: no file %s" % (page.relative_to(TOP), file)
+            elif anchor and target.suffix == ".md" and anchor not in anchors_in(target):
+                yield "%s: no heading %s in %s" % (page.relative_to(TOP), anchor, target.relative_to(TOP))
+
+
+def wrong_definitions():
+    page = TOP / "docs/DEFINITIONS.md"
+    for number, line in enumerate(page.read_text().splitlines(), 1):
+        cells = line.split(" | ")
+        files = re.findall(r"`([\w/]+\.antt)`", cells[1]) if len(cells) > 3 else []
+        if not files:
+            continue
+        texts = ""
+        for file in files:
+            path = TOP / "crates" / file
+            if path.exists():
+                texts += path.read_text()
+            else:
+                yield "docs/DEFINITIONS.md:%d: no file crates/%s" % (number, file)
+        for name in re.findall(r"`([\w.\-]+)`", cells[0].split(":")[0]):
+            if not re.search(r"(?<![\w-])%s(?![\w-])" % re.escape(name.split(".")[-1]), texts):
+                yield "docs/DEFINITIONS.md:%d: no %s in %s" % (number, name, ", ".join(files))
+
+
+def first_sentence(lines):
+    text = " ".join(lines)
+    end = re.search(r"\.(?= [A-Z`]|$)", text)
+    return text[:end.start()] if end else text.rstrip(".")
+
+
+def types_in(crate):
+    source = TOP / "crates" / crate / "src"
+    for file in sorted(source.rglob("*.rt")):
+        if "tests" in file.relative_to(source).parts:
+            continue
+        lines = file.read_text().splitlines()
+        for at, line in enumerate(lines):
+            match = TYPE.match(line)
+            if not match:
+                continue
+            before, said = at - 1, []
+            while before >= 0 and re.match(r"\s*(//|#\[)", lines[before]):
+                if "//" in lines[before]:
+                    said.insert(0, lines[before].strip().lstrip("/").strip())
+                before -= 1
+            if "" in said:
+                said = said[:said.index("")]
+            yield match.group(2), match.group(1), crate, file.relative_to(source).as_posix(), first_sentence(said)
+
+
+def types_page():
+    rows = sorted((row for crate in crates() if crate not in TESTS for row in types_in(crate)), key=lambda row: (row[0].lower(), row[2]))
+    head = ("# Types", "", "Where each type and each trait of the crates stands, and what it is. `check/documents.py --types` makes this page of the sources; crates with",
+            "tests alone are left out.", "", "| type | | crate, file | what it is |", "|---|---|---|---|")
+    return "\n".join([*head, *("| `%s` | %s | `%s`, `%s` | %s |" % (name, kind, crate, file, said) for name, kind, crate, file, said in rows), ""])
+
+
+def wrong_types():
+    page = TOP / "docs/TYPES.md"
+    if not page.exists() or page.read_text() != types_page():
+        yield "docs/TYPES.md isn't what the sources make: check/documents.py --types >docs/TYPES.md"
+
+
+def wrong_crates():
+    listed = re.findall(r"^\| `(\w+)` \|", (TOP / "docs/ARCHITECTURE.md").read_text().split("## The crates")[1].split("\n## ")[0], re.M)
+    for crate in crates():
+        if crate not in TESTS and listed.count(crate) != 1:
+            yield "docs/ARCHITECTURE.md: the table of crates has %s %d times" % (crate, listed.count(crate))
+    for name in listed:
+        if name not in crates():
+            yield "docs/ARCHITECTURE.md: the table of crates has %s, which isn't one" % name
+
+
+def main():
+    if sys.argv[1:] == ["--types"]:
+        sys.stdout.write(types_page())
+        return 0
+    if sys.argv[1:]:
+        print(__doc__)
+        return 2
+    checks = (broken_links, wrong_definitions, wrong_types, wrong_crates)
+    failures = [list(check()) for check in checks]
+    for told in failures:
+        print("\n".join(told), end="\n" if told else "")
+    failed = sum(1 for told in failures if told)
+    print("%d passed, %d failed" % (len(checks) - failed, failed))
+    return 1 if failed else 0
+
+
+if __name__ == "__main__":
+    sys.exit(main())

@@ -14,7 +14,7 @@ import sys
 
 TOP = pathlib.Path(__file__).resolve().parent.parent
 TESTS = ("base_tests", "format_tests", "fabric_tests", "vlog_tests", "sample_images")
-TYPE = re.compile(r"\s*(?:pub(?:\(\w+\))? )?(struct|enum|trait) (\w+)")
+TYPE = re.compile(r"(?:\s*(?:pub(?:\(\w+\))? )?(struct|enum|trait)|(?:pub(?:\(\w+\))? )?(type)) (\w+)")
 
 
 def crates():
@@ -89,13 +89,13 @@ def types_in(crate):
                 before -= 1
             if "" in said:
                 said = said[:said.index("")]
-            yield match.group(2), match.group(1), crate, file.relative_to(source).as_posix(), first_sentence(said)
+            yield match.group(3), match.group(1) or match.group(2), crate, file.relative_to(source).as_posix(), first_sentence(said)
 
 
 def types_page():
     rows = sorted((row for crate in crates() if crate not in TESTS for row in types_in(crate)), key=lambda row: (row[0].lower(), row[2]))
-    head = ("# Types", "", "Where each type and each trait of the crates stands, and what it is. `check/documents.py --types` makes this page of the sources; crates with",
-            "tests alone are left out.", "", "| type | | crate, file | what it is |", "|---|---|---|---|")
+    head = ("# Types", "", "Where each type, each trait and each other name of a type (`type`) stands, and what it is. `check/documents.py --types` makes this page of",
+            "the sources; crates with tests alone are left out.", "", "| type | | crate, file | what it is |", "|---|---|---|---|")
     return "\n".join([*head, *("| `%s` | %s | `%s`, `%s` | %s |" % (name, kind, crate, file, said) for name, kind, crate, file, said in rows), ""])
 
 

@@ -1,6 +1,6 @@
 -- The images of a boot file, as files that are loaded
 mod Images
--- The first text after the layout file, and the answer for it
+-- The first text under the layouts of a layout file, and the answer for it
 mod FirstText
 -- What the records of packing and unpacking say of the answers
 mod Packed

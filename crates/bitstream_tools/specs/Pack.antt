@@ -1,6 +1,6 @@
 -- `icepack`: packs a text into a bitstream. `-u` and `-s` are options of Project IceStorm's `icepack` (its usage text), `--layout` is this
 -- project's own.
-use Rattle.std.specs.Prelude.{ℕ, Bool, true, false, List, [], ◌∷◌, codes, get_or, is_some, Option, None, Some}
+use Rattle.std.specs.Prelude.{ℕ, Bool, true, false, List, [], ◌∷◌, codes, get_or, Option, None, Some}
 use Rattle.clap.specs.Words.{App, Row, Text, first_of}
 use Rattle.layout_file.specs.declared.layouts.Layouts.{Layouts}
 use Rattle.ice_image.specs.Configuration.{Configuration}
@@ -8,7 +8,7 @@ use Rattle.asc_text.specs.Faults.{Fault, asc_fault_of}
 use Rattle.asc_text.specs.Meaning.{asc_image_of}
 use Rattle.bin_stream.specs.CanonicalBytes.{canonical_bytes}
 use Rattle.ice_pack.specs.Packed.{awake_where}
-use Rattle.tool_run.specs.Tasks.{Answer, Done, Refused, Task, usage_error}
+use Rattle.tool_run.specs.Tasks.{Answer, Done, Refused, Task, layout_task, usage_error}
 use Rattle.tool_inputs.specs.Outcomes.{Manual, outcome}
 use Rattle.tool_inputs.specs.Commands.{command, flag, has_flag, long_option, positional}
 use Rattle.tool_run.specs.Needs.{text_of}
@@ -16,7 +16,7 @@ use Rattle.bitstream_tools.specs.declared.pack.Request.{Request}
 use Rattle.bitstream_tools.specs.declared.pack.Request.TheVariants.{Pack, Unpack}
 use Rattle.bitstream_tools.specs.declared.pack.TheConstants.{ICEPACK_HELP}
 use Rattle.tool_inputs.specs.Faults.{asc_fault_text}
-use Rattle.tool_inputs.specs.Layouts.{answer_under, behind_layout, layouts_for, with_layout}
+use Rattle.tool_inputs.specs.Layouts.{answer_under, layouts_for}
 use Rattle.bitstream_tools.specs.Unpack.{unpack_task}
 
 -- the most bytes that a text may have
@@ -37,9 +37,9 @@ packed no_sleep image (Some fault) = Refused (asc_fault_text fault.line fault.ti
 abbrev pub packed_under : Bool → List ℕ → Layouts → Answer
 packed_under no_sleep text layouts = packed no_sleep (asc_image_of layouts text) (asc_fault_of layouts text)
 
--- the answer for the texts that were loaded: the layout file if it is `named`, and the text
-abbrev pub pack_answer : Bool → Bool → List (List ℕ) → Answer
-pack_answer named no_sleep texts = answer_under (layouts_for named texts) (packed_under no_sleep (get_or texts (behind_layout named 0) []))
+-- the answer for the first text, under the layouts of a layout file if one is named
+abbrev pub pack_answer : Bool → Option (List ℕ) → List (List ℕ) → Answer
+pack_answer no_sleep layout texts = answer_under (layouts_for layout) (packed_under no_sleep (get_or texts 0 []))
 
 abbrev pub icepack_name : List ℕ
 icepack_name = codes "icepack"
@@ -52,12 +52,8 @@ icepack_command = command icepack_name (flag (codes "unpack") 117 ∷ flag (code
 
 -- the task of packing a text into a bitstream
 abbrev pub pack_task : Bool → Option Text → Option Text → Option Text → Task
-pack_task no_sleep layout input output = record {
-  tool_name = icepack_name;
-  needs = with_layout layout (record { name = input; limit = text_limit } ∷ []);
-  target = output;
-  answer = pack_answer (is_some layout) no_sleep;
-}
+pack_task no_sleep layout input output =
+    layout_task icepack_name layout (record { name = input; limit = text_limit } ∷ []) output (pack_answer no_sleep)
 
 -- with `-u` it unpacks, and then `-s` may not be there
 abbrev pub icepack_task_of : Bool → Bool → Option Text → Option Text → Option Text → Task

@@ -1,17 +1,17 @@
 -- `iceunpack`, and `icepack -u`, which does the same: unpacks a bitstream to a text.
-use Rattle.std.specs.Prelude.{ℕ, Bool, List, [], ◌∷◌, codes, get_or, is_some, Option, Result, Ok, Err}
+use Rattle.std.specs.Prelude.{ℕ, List, [], ◌∷◌, codes, get_or, Option, Result, Ok, Err}
 use Rattle.clap.specs.Words.{App, Row, Text, first_of}
 use Rattle.layout_file.specs.declared.layouts.Layouts.{Layouts}
 use Rattle.ice_image.specs.Configuration.{Configuration}
 use Rattle.asc_text.specs.Canonical.{asc_text_of}
 use Rattle.bin_stream.specs.Refusals.{Fault}
 use Rattle.bin_stream.specs.Spelling.{bin_read_of}
-use Rattle.tool_run.specs.Tasks.{Answer, Done, Refused, Task}
+use Rattle.tool_run.specs.Tasks.{Answer, Done, Refused, Task, layout_task}
 use Rattle.tool_inputs.specs.Outcomes.{Manual, outcome}
 use Rattle.tool_inputs.specs.Commands.{command, long_option, positional}
 use Rattle.bitstream_tools.specs.declared.unpack.TheConstants.{ICEUNPACK_HELP}
 use Rattle.tool_inputs.specs.Faults.{bin_fault_text}
-use Rattle.tool_inputs.specs.Layouts.{answer_under, behind_layout, layouts_for, with_layout}
+use Rattle.tool_inputs.specs.Layouts.{answer_under, layouts_for}
 
 -- the most bytes that a bitstream may have
 abbrev pub stream_limit : ℕ
@@ -26,9 +26,9 @@ unpacked (Err fault) = Refused (bin_fault_text fault.offset fault.cause)
 abbrev pub unpacked_under : List ℕ → Layouts → Answer
 unpacked_under bytes layouts = unpacked (bin_read_of layouts bytes)
 
--- the answer for the texts that were loaded: the layout file if it is `named`, and the bitstream
-abbrev pub unpack_answer : Bool → List (List ℕ) → Answer
-unpack_answer named texts = answer_under (layouts_for named texts) (unpacked_under (get_or texts (behind_layout named 0) []))
+-- the answer for the first bitstream, under the layouts of a layout file if one is named
+abbrev pub unpack_answer : Option (List ℕ) → List (List ℕ) → Answer
+unpack_answer layout texts = answer_under (layouts_for layout) (unpacked_under (get_or texts 0 []))
 
 abbrev pub iceunpack_name : List ℕ
 iceunpack_name = codes "iceunpack"
@@ -41,12 +41,7 @@ iceunpack_command = command iceunpack_name (long_option (codes "layout") ∷ pos
 
 -- the task of unpacking a bitstream to a text
 abbrev pub unpack_task : List ℕ → Option Text → Option Text → Option Text → Task
-unpack_task tool_name layout input output = record {
-  tool_name = tool_name;
-  needs = with_layout layout (record { name = input; limit = stream_limit } ∷ []);
-  target = output;
-  answer = unpack_answer (is_some layout);
-}
+unpack_task tool_name layout input output = layout_task tool_name layout (record { name = input; limit = stream_limit } ∷ []) output unpack_answer
 
 abbrev pub iceunpack_task_by : List Row → Task
 iceunpack_task_by rows = unpack_task iceunpack_name (first_of (codes "layout") rows) (first_of (codes "input") rows) (first_of (codes "output") rows)

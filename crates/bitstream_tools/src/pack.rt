@@ -5,15 +5,14 @@ ghost use Rattle.tool_run.specs.Needs.{text_of};
 ghost use Rattle.tool_run.specs.Runs.{Does};
 ghost use Rattle.bitstream_tools.specs.Pack.{icepack_command, icepack_outcome, icepack_task_by, icepack_task_for, icepack_task_of, pack_task};
 
-use crate::packing::packed_after;
+use crate::packing::packed;
 use crate::reading::First;
 use crate::unpack::{FileNames, names_in, unpack_between};
 use asc_text::AscReader;
 use clap::{ArgMatches, Command};
 use std::alloc::{AllocError, Global};
 use tool_inputs::{
-    CommandLine, LAYOUT_LIMIT, Taking, Words, flag, has_flag, long_option, positional, run_tool,
-    with, with_layout,
+    CommandLine, Words, flag, has_flag, layouts_for, long_option, positional, run_tool, with,
 };
 use tool_run::{Host, Job, Load, PieceTool, Stop};
 
@@ -51,49 +50,55 @@ failed; 4 writing failed; 5 out of memory; 6 FILE or the input is longer than
 its limit.
 ";
 
-/// Packs a text. If a layout file is named, it comes before the text, and the text is read under its layouts. If `no_sleep` is true, the
-/// flash stays awake, whatever the text says.
+/// Packs the text that it takes, under the layouts of a layout file if one is named. If `no_sleep` is true, the flash stays awake,
+/// whatever the text says.
 #[derive(Clone, Copy, Debug, PartialEq, Eq)]
 pub(crate) struct Pack {
-    /// Whether a layout file comes first.
-    pub(crate) named: bool,
     pub(crate) no_sleep: bool,
 }
 
 impl PieceTool for Pack {
     ghost use Rattle.asc_text.specs.Feeding.{StandsFor, fed_to};
-    ghost use Rattle.tool_inputs.specs.Taking.{IsTaking, fed_of};
     ghost use Rattle.bitstream_tools.specs.Pack.{pack_answer};
     ghost use Rattle.bitstream_tools.specs.Reading.{TakesFirst, fed_first};
 
-    type Intake = Taking<First<AscReader>>;
+    type Intake = First<AscReader>;
 
     type Made = Vec<u8>;
 
-    ghost answer_of = { λ tool texts. pack_answer tool.named tool.no_sleep texts };
+    ghost answer_of = { λ tool layout texts. pack_answer tool.no_sleep layout texts };
 
-    ghost takes = { λ tool texts packing bytes. IsTaking (TakesFirst StandsFor) tool.named texts bytes packing };
+    ghost takes = { λ tool layout texts intake bytes. TakesFirst StandsFor layout texts intake bytes };
 
-    ghost fed = { fed_of (fed_first fed_to) };
+    ghost fed = { fed_first fed_to };
 
-    fn begin(&self, alloc: Global) -> Taking<First<AscReader>> {
-        Taking::begin(alloc, self.named)
-    }
-
-    fn feed(&self, packing: &mut Taking<First<AscReader>>, piece: &[u8]) {
-        packing.feed(piece);
-    }
-
-    fn close(&self, alloc: Global, packing: &mut Taking<First<AscReader>>) {
-        packing.close(alloc);
-    }
-
-    fn finish(
+    fn begin(
         &self,
         alloc: Global,
-        packing: Taking<First<AscReader>>,
-    ) -> Result<Vec<u8>, Stop<'_>> {
-        packed_after(alloc, self.named, self.no_sleep, packing)
+        layout: Option<&[u8]>,
+    ) -> Result<First<AscReader>, Stop<'static>> {
+        match layouts_for(layout) {
+            Ok(layouts) => Ok(First {
+                reader: AscReader::with(alloc, layouts),
+                is_open: true,
+            }),
+            Err(stop) => Err(stop),
+        }
+    }
+
+    fn feed(&self, intake: &mut First<AscReader>, piece: &[u8]) {
+        if intake.is_open {
+            // The reader keeps what it refuses.
+            let _ = intake.reader.feed(piece);
+        }
+    }
+
+    fn close(&self, intake: &mut First<AscReader>) {
+        intake.is_open = false;
+    }
+
+    fn finish(&self, alloc: Global, intake: First<AscReader>) -> Result<Vec<u8>, Stop<'_>> {
+        packed(alloc, self.no_sleep, intake.reader)
     }
 }
 
@@ -144,26 +149,16 @@ fn request_in<'a>(matches: &ArgMatches<'a>) -> Option<Request<'a>>
 fn pack_between<H: Host>(alloc: Global, no_sleep: bool, names: FileNames<'_>, host: &mut H) -> u8
     ensures { Does H.outside (pack_task no_sleep (text_of names.entry.layout) (text_of names.entry.input) (text_of names.entry.output)) result (H.scene host.old) (H.scene host.new) }
 {
-    let loads = [
-        Load {
-            name: names.layout,
-            limit: LAYOUT_LIMIT,
-        },
-        Load {
-            name: names.input,
-            limit: TEXT_LIMIT,
-        },
-    ];
-    let tool = Pack {
-        named: names.layout.is_some(),
-        no_sleep,
-    };
+    let loads = [Load {
+        name: names.input,
+        limit: TEXT_LIMIT,
+    }];
     let job = Job {
         tool_name: "icepack",
-        loads: with_layout(names.layout, &loads),
+        loads: &loads,
         target: names.output,
     };
-    host.perform_in_pieces(alloc, &tool, &job)
+    host.perform_in_pieces(alloc, &Pack { no_sleep }, names.layout, &job)
 }
 
 // Does what the arguments ask for.

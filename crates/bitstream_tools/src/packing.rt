@@ -1,41 +1,23 @@
 // Packs a text that comes in pieces.
-ghost use Rattle.std.specs.Prelude.{◌≡◌, [], ℕ, List, IfOk, IfErr};
+ghost use Rattle.std.specs.Prelude.{◌≡◌, ℕ, List, IfOk, IfErr};
 ghost use Rattle.tool_run.specs.Stops.{StopsWith};
 ghost use Rattle.tool_run.specs.Tasks.{Done};
 ghost use Rattle.layout_file.specs.declared.layouts.Layouts.{Layouts};
 ghost use Rattle.asc_text.specs.Feeding.{StandsFor};
-ghost use Rattle.bitstream_tools.specs.Pack.{pack_answer, packed_under};
-ghost use Rattle.tool_inputs.specs.Taking.{IsTaking};
-ghost use Rattle.bitstream_tools.specs.Reading.{TakesFirst};
+ghost use Rattle.bitstream_tools.specs.Pack.{packed_under};
 
-use crate::reading::{First, reader_of};
 use asc_text::{AscFault, AscReader};
 use ice_pack::pack_fed;
 use std::alloc::Global;
-use tool_inputs::{Taking, asc_refusal};
+use tool_inputs::asc_refusal;
 use tool_run::Stop;
 
-/// The bitstream of the text that comes after the layout file, or why there is none. Called after the last piece. If `no_sleep` is
-/// true, the flash stays awake.
-pub(crate) fn packed_after(
+/// The bitstream of the text that was fed to a reader, or why there is none. If `no_sleep` is true, the flash stays awake.
+pub(crate) fn packed(
     alloc: Global,
-    named: bool,
     no_sleep: bool,
-    packing: Taking<First<AscReader>>,
+    reader: AscReader,
 ) -> Result<Vec<u8>, Stop<'static>>
-    ensures bytes { IfOk result (λ made. (texts : List (List ℕ)) → IsTaking (TakesFirst StandsFor) named texts [] packing
-        → pack_answer named no_sleep texts ≡ Done made.items) }
-    ensures stops { IfErr result (λ stop. (texts : List (List ℕ)) → IsTaking (TakesFirst StandsFor) named texts [] packing
-        → StopsWith (pack_answer named no_sleep texts) stop) }
-{
-    match reader_of(alloc, packing) {
-        Ok(reader) => packed(alloc, no_sleep, reader),
-        Err(stop) => Err(stop),
-    }
-}
-
-/// The bitstream of the text that was fed to a reader, or why there is none.
-fn packed(alloc: Global, no_sleep: bool, reader: AscReader) -> Result<Vec<u8>, Stop<'static>>
     ensures bytes { IfOk result (λ made. (layouts : Layouts) (text : List ℕ) → StandsFor layouts text reader
         → packed_under no_sleep text layouts ≡ Done made.items) }
     ensures stops { IfErr result (λ stop. (layouts : Layouts) (text : List ℕ) → StandsFor layouts text reader

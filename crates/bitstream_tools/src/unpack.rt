@@ -6,14 +6,13 @@ ghost use Rattle.tool_run.specs.Needs.{text_of};
 ghost use Rattle.bitstream_tools.specs.Unpack.{iceunpack_command, iceunpack_outcome, unpack_task};
 
 use crate::reading::First;
-use crate::unpacking::unpacked_after;
+use crate::unpacking::unpacked_text;
 use asc_text::CanonicalText;
 use bin_stream::Decoder;
 use clap::{ArgMatches, Command};
 use std::alloc::{AllocError, Global};
 use tool_inputs::{
-    CommandLine, LAYOUT_LIMIT, Taking, Words, long_option, positional, run_tool, value, with,
-    with_layout,
+    CommandLine, Words, layouts_for, long_option, positional, run_tool, value, with,
 };
 use tool_run::{Host, Job, Load, PieceTool, Stop};
 
@@ -50,47 +49,48 @@ its limit.
 /// The most bytes that a bitstream may have.
 pub(crate) const STREAM_LIMIT: usize = 4_194_304;
 
-/// Unpacks a bitstream. If a layout file is named, it comes before the bitstream, which is read under its layouts.
+/// Unpacks the bitstream that it takes, under the layouts of a layout file if one is named.
 #[derive(Clone, Copy, Debug, PartialEq, Eq)]
-pub(crate) struct Unpack {
-    /// Whether a layout file comes first.
-    pub(crate) named: bool,
-}
+pub(crate) struct Unpack;
 
 impl PieceTool for Unpack {
     ghost use Rattle.bin_stream.specs.Decoding.{StandsFor, fed_to};
-    ghost use Rattle.tool_inputs.specs.Taking.{IsTaking, fed_of};
     ghost use Rattle.bitstream_tools.specs.Reading.{TakesFirst, fed_first};
     ghost use Rattle.bitstream_tools.specs.Unpack.{unpack_answer};
 
-    type Intake = Taking<First<Decoder>>;
+    type Intake = First<Decoder>;
 
     type Made = CanonicalText;
 
-    ghost answer_of = { λ tool texts. unpack_answer tool.named texts };
+    ghost answer_of = { λ tool layout texts. unpack_answer layout texts };
 
-    ghost takes = { λ tool texts unpacking bytes. IsTaking (TakesFirst StandsFor) tool.named texts bytes unpacking };
+    ghost takes = { λ tool layout texts intake bytes. TakesFirst StandsFor layout texts intake bytes };
 
-    ghost fed = { fed_of (fed_first fed_to) };
+    ghost fed = { fed_first fed_to };
 
-    fn begin(&self, alloc: Global) -> Taking<First<Decoder>> {
-        Taking::begin(alloc, self.named)
+    fn begin(&self, alloc: Global, layout: Option<&[u8]>) -> Result<First<Decoder>, Stop<'static>> {
+        match layouts_for(layout) {
+            Ok(layouts) => Ok(First {
+                reader: Decoder::with(alloc, layouts),
+                is_open: true,
+            }),
+            Err(stop) => Err(stop),
+        }
     }
 
-    fn feed(&self, unpacking: &mut Taking<First<Decoder>>, piece: &[u8]) {
-        unpacking.feed(piece);
+    fn feed(&self, intake: &mut First<Decoder>, piece: &[u8]) {
+        if intake.is_open {
+            // The decoder keeps what it refuses.
+            let _ = intake.reader.feed(piece);
+        }
     }
 
-    fn close(&self, alloc: Global, unpacking: &mut Taking<First<Decoder>>) {
-        unpacking.close(alloc);
+    fn close(&self, intake: &mut First<Decoder>) {
+        intake.is_open = false;
     }
 
-    fn finish(
-        &self,
-        alloc: Global,
-        unpacking: Taking<First<Decoder>>,
-    ) -> Result<CanonicalText, Stop<'_>> {
-        unpacked_after(alloc, self.named, unpacking)
+    fn finish(&self, alloc: Global, intake: First<Decoder>) -> Result<CanonicalText, Stop<'_>> {
+        unpacked_text(alloc, intake.reader)
     }
 }
 
@@ -134,25 +134,16 @@ pub(crate) fn unpack_between<H: Host>(
 ) -> u8
     ensures { Does H.outside (unpack_task tool_name.now (text_of names.entry.layout) (text_of names.entry.input) (text_of names.entry.output)) result (H.scene host.old) (H.scene host.new) }
 {
-    let loads = [
-        Load {
-            name: names.layout,
-            limit: LAYOUT_LIMIT,
-        },
-        Load {
-            name: names.input,
-            limit: STREAM_LIMIT,
-        },
-    ];
-    let tool = Unpack {
-        named: names.layout.is_some(),
-    };
+    let loads = [Load {
+        name: names.input,
+        limit: STREAM_LIMIT,
+    }];
     let job = Job {
         tool_name,
-        loads: with_layout(names.layout, &loads),
+        loads: &loads,
         target: names.output,
     };
-    host.perform_in_pieces(alloc, &tool, &job)
+    host.perform_in_pieces(alloc, &Unpack, names.layout, &job)
 }
 
 /// `iceunpack` by its command line.

@@ -1,5 +1,5 @@
 // Unpacks a bitstream that comes in pieces.
-ghost use Rattle.std.specs.Prelude.{◌≡◌, [], ℕ, List, Result, IfOk, IfErr};
+ghost use Rattle.std.specs.Prelude.{◌≡◌, ℕ, List, Result, IfOk, IfErr};
 ghost use Rattle.tool_run.specs.Stops.{StopsWith};
 ghost use Rattle.tool_run.specs.Tasks.{Done};
 ghost use Rattle.layout_file.specs.declared.layouts.Layouts.{Layouts};
@@ -8,37 +8,17 @@ ghost use Rattle.bin_stream.specs.Decoding.{StandsFor};
 ghost use Rattle.ice_image.specs.Configuration.{Configuration};
 ghost use Rattle.bin_stream.specs.Refusals.{Fault};
 ghost use Rattle.bin_stream.specs.Spelling.{Tells};
-ghost use Rattle.bitstream_tools.specs.Unpack.{unpack_answer, unpacked, unpacked_under};
-ghost use Rattle.tool_inputs.specs.Taking.{IsTaking};
-ghost use Rattle.bitstream_tools.specs.Reading.{TakesFirst};
+ghost use Rattle.bitstream_tools.specs.Unpack.{unpacked, unpacked_under};
 
-use crate::reading::{First, reader_of};
 use asc_text::CanonicalText;
 use bin_stream::{BinFault, Decoder};
 use ice_pack::unpack_fed;
 use std::alloc::Global;
-use tool_inputs::{Taking, bin_refusal};
+use tool_inputs::bin_refusal;
 use tool_run::Stop;
 
-/// The text of the bitstream that comes after the layout file, or why there is none. Called after the last piece.
-pub(crate) fn unpacked_after(
-    alloc: Global,
-    named: bool,
-    unpacking: Taking<First<Decoder>>,
-) -> Result<CanonicalText, Stop<'static>>
-    ensures text { IfOk result (λ text. (texts : List (List ℕ)) → IsTaking (TakesFirst StandsFor) named texts [] unpacking
-        → unpack_answer named texts ≡ Done (canonical_in text)) }
-    ensures stops { IfErr result (λ stop. (texts : List (List ℕ)) → IsTaking (TakesFirst StandsFor) named texts [] unpacking
-        → StopsWith (unpack_answer named texts) stop) }
-{
-    match reader_of(alloc, unpacking) {
-        Ok(decoder) => text_of(alloc, decoder),
-        Err(stop) => Err(stop),
-    }
-}
-
 /// The text of the bitstream that was fed to a decoder, or its first fault.
-fn text_of(alloc: Global, decoder: Decoder) -> Result<CanonicalText, Stop<'static>>
+pub(crate) fn unpacked_text(alloc: Global, decoder: Decoder) -> Result<CanonicalText, Stop<'static>>
     ensures text { IfOk result (λ text. (layouts : Layouts) (bytes : List ℕ) → StandsFor layouts bytes decoder
         → unpacked_under bytes layouts ≡ Done (canonical_in text)) }
     ensures stops { IfErr result (λ stop. (layouts : Layouts) (bytes : List ℕ) → StandsFor layouts bytes decoder

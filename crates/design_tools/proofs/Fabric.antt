@@ -1,9 +1,10 @@
 -- The text that is written for a database and an image spells their fabric.
 use Rattle.std.proofs.Common.{◌≡◌, ◌∙◌, ℕ, ◌^◌, ◌≤◌, Bool, true, false, List, [], ap, refl, subst, sym}
-use Rattle.std.specs.Prelude.{Option, Some, None, Result, Ok, Err, get_or, codes, if◌then◌else◌, is_some, ◌&&◌, nat_le, length}
+use Rattle.std.specs.Prelude.{Option, Some, None, Result, Ok, Err, get_or, codes, if◌then◌else◌, ◌&&◌, nat_le, length}
 use Rattle.clap.specs.Words.{Row, Text, first_of, matches_of}
 use Rattle.layout_file.specs.declared.layouts.Layouts.{Layouts}
-use Rattle.tool_inputs.specs.Layouts.{answer_under, behind_layout, layouts_for}
+use Rattle.tool_inputs.specs.Appended.{UnderLayout}
+use Rattle.tool_inputs.specs.Layouts.{answer_under, layouts_for}
 use Rattle.tool_inputs.specs.DesignInput.{answer_of_both, answer_to_both}
 use Rattle.ice_image.specs.Configuration.{Configuration}
 use Rattle.chipdb_reader.specs.Database.{Database}
@@ -44,10 +45,10 @@ use Rattle.design_tools.specs.declared.request.TheConstants.{ICEBOX_VLOG_HELP}
 use Rattle.design_tools.specs.Names.{name_given}
 use Rattle.design_answers.specs.Lines.{fabric_events}
 use Rattle.design_answers.specs.Order.{write_order}
-use Rattle.design_tools.specs.Pins.{database_text, pin_text, texts_without_pins}
-use Rattle.design_tools.specs.Vlog.{Named, icebox_vlog, inputs_wanted, module_with_names, named_by, named_where, named_with, pins_in, written, written_module, written_named, written_with, vlog_command, vlog_name, vlog_outcome, vlog_task_by, vlog_task_of, vlog_usage}
-use Rattle.design_tools.specs.Fabric.{HasNoPinFault, PromisesFabric, SpellsFabric, WritesFabric, names_given, names_layout, package_given, texts_of_design}
-use Rattle.tool_inputs.proofs.Appended.{helped-kept}
+use Rattle.design_tools.specs.Pins.{database_text, pin_text}
+use Rattle.design_tools.specs.Vlog.{Named, icebox_vlog, inputs_wanted, module_with_names, named_answer, named_by, named_where, named_with, pins_in, written, written_module, written_named, written_with, vlog_answer, vlog_command, vlog_name, vlog_outcome, vlog_task_by, vlog_task_of, vlog_usage}
+use Rattle.design_tools.specs.Fabric.{HasNoPinFault, PromisesFabric, SpellsFabric, WritesFabric, layout_given, names_given, package_given, texts_of_design}
+use Rattle.tool_inputs.proofs.Appended.{first_gives, helped-kept}
 use Rattle.tool_inputs.proofs.Databases.{read-few, read-fit}
 use Rattle.design_answers.proofs.Lines.{run-shown}
 use Rattle.design_answers.proofs.Order.{order-is}
@@ -108,9 +109,9 @@ module _ (inputs : LutInputs) (name : List ℕ) (is_name : IsName name) (db : Da
 -- ---- the answer
 
 -- what the bytes are, by the package of a pin file if there is one
-IsWritten : Option (List ℕ) → Bool → List (List ℕ) → List ℕ → Database → Configuration → Type 0
-IsWritten package_name behind texts bytes db image =
-    HasNoPinFault package_name behind texts (fabric_of db image).pins × SpellsFabric (names_given package_name behind texts) db image bytes
+IsWritten : Option (List ℕ) → List (List ℕ) → List ℕ → Database → Configuration → Type 0
+IsWritten package_name texts bytes db image =
+    HasNoPinFault package_name texts (fabric_of db image).pins × SpellsFabric (names_given package_name texts) db image bytes
 
 own-done : (inputs : LutInputs) (name : List ℕ) → IsName name → (db : Database) (image : Configuration) → IsFit db → db.chip.nets ≤ 2 ^ 64 → (bytes : List ℕ) (fault : Option Fault)
     → design_fault inputs db image ≡ fault → written_with inputs name db image fault ≡ Done bytes → SpellsFabric [] db image bytes
@@ -146,19 +147,19 @@ module _ (inputs : LutInputs) (name : List ℕ) (is_name : IsName name) (db : Da
   named-done (Some fault) is done = absurd cc
   named-done None is done = accepted-done (pin_fault_of chosen (switched_places (fabric_with inputs db image).pins) file) is refl done
 
-module _ (package_name : Option (List ℕ)) (behind : Bool) (all : List (List ℕ)) (bytes : List ℕ) (answer : Database → Configuration → Answer)
-    (shown : (db : Database) (image : Configuration) → IsFit db → db.chip.nets ≤ 2 ^ 64 → answer db image ≡ Done bytes → IsWritten package_name behind all bytes db image) where
+module _ (package_name layout : Option (List ℕ)) (all : List (List ℕ)) (bytes : List ℕ) (answer : Database → Configuration → Answer)
+    (shown : (db : Database) (image : Configuration) → IsFit db → db.chip.nets ≤ 2 ^ 64 → answer db image ≡ Done bytes → IsWritten package_name all bytes db image) where
   abbrev texts : List (List ℕ)
-  texts = texts_of_design package_name behind all
+  texts = texts_of_design package_name all
 
   abbrev db_text : List ℕ
-  db_text = get_or texts (behind_layout behind 0) []
+  db_text = get_or texts 0 []
 
   abbrev image_text : List ℕ
-  image_text = get_or texts (behind_layout behind 1) []
+  image_text = get_or texts 1 []
 
   done-of : (layouts : Layouts) (db : Result Database (List ℕ)) (image : Result Configuration (List ℕ))
-      → layouts_for behind texts ≡ Ok layouts → database_read db_text ≡ db → image_read layouts image_text ≡ image → answer_of_both db image answer ≡ Done bytes → WritesFabric package_name behind all bytes
+      → layouts_for layout ≡ Ok layouts → database_read db_text ≡ db → image_read layouts image_text ≡ image → answer_of_both db image answer ≡ Done bytes → WritesFabric package_name layout all bytes
   unfolding IsWritten
   done-of layouts (Err text) image layouts_are db_is image_is done = absurd cc
   done-of layouts (Ok db) (Err text) layouts_are db_is image_is done = absurd cc
@@ -175,9 +176,28 @@ module _ (package_name : Option (List ℕ)) (behind : Bool) (all : List (List �
         spells = found.1;
       }
 
-  done-under : (read : Result Layouts (List ℕ)) → layouts_for behind texts ≡ read → answer_under read (answer_to_both answer db_text image_text) ≡ Done bytes → WritesFabric package_name behind all bytes
+  done-under : (read : Result Layouts (List ℕ)) → layouts_for layout ≡ read → answer_under read (answer_to_both answer db_text image_text) ≡ Done bytes → WritesFabric package_name layout all bytes
   done-under (Ok layouts) are done = done-of layouts (database_read db_text) (image_read layouts image_text) are refl refl done
   done-under (Err text) are done = absurd cc
+
+-- what is made without a pin file
+plain-writes : (inputs : LutInputs) (name : List ℕ) → IsName name → (layout : Option (List ℕ)) (texts : List (List ℕ)) (bytes : List ℕ)
+    → vlog_answer inputs layout name texts ≡ Done bytes → WritesFabric None layout texts bytes
+unfolding IsWritten
+plain-writes inputs name is_name layout texts bytes done =
+    done-under None layout texts bytes (written inputs name)
+    (λ db image fit few done. (tt, own-done inputs name is_name db image fit few bytes (design_fault inputs db image) refl done))
+    (layouts_for layout) refl done
+
+-- and with one
+named-writes : (inputs : LutInputs) (name package_name : List ℕ) → IsName name → (layout : Option (List ℕ)) (texts : List (List ℕ)) (bytes : List ℕ)
+    → named_answer inputs layout name package_name texts ≡ Done bytes → WritesFabric (Some package_name) layout texts bytes
+unfolding IsWritten
+named-writes inputs name package_name is_name layout texts bytes done =
+    let chosen = package_of package_name (database_text texts) in
+    done-under (Some package_name) layout texts bytes (written_named inputs name chosen (pin_text texts))
+    (λ db image fit few done. named-done inputs name is_name db image fit few chosen (pin_text texts) bytes (design_fault inputs db image) refl done)
+    (layouts_for layout) refl done
 
 -- ---- the arguments
 
@@ -192,37 +212,32 @@ unfolding is_name reserved_words
 given-name None name is = let same : codes "chip" ≡ name = cc in subst IsName same refl
 given-name (Some text) name is = name-by text name (nat_le (length text) 64) (is_name text) refl is
 
--- what a task makes of texts
-abbrev TaskWrites : Option (List ℕ) → Bool → Task → Type 0
-TaskWrites package_name behind task = (texts : List (List ℕ)) (bytes : List ℕ) → task.answer texts ≡ Done bytes → WritesFabric package_name behind texts bytes
+-- what a task makes of texts, the first of which is a layout file if one is named
+abbrev TaskWrites : Option (List ℕ) → Option Text → Task → Type 0
+TaskWrites package_name layout task = (texts : List (List ℕ)) (bytes : List ℕ) → task.answer texts ≡ Done bytes → UnderLayout layout (WritesFabric package_name) texts bytes
 
 task-of : (used : Bool) (name file package_name layout db image : Option Text) → ((one : Text) → name ≡ Some one → IsName one)
-    → TaskWrites package_name (is_some layout) (vlog_task_of used name (named_by file package_name) layout db image)
-unfolding IsWritten
+    → TaskWrites package_name layout (vlog_task_of used name (named_by file package_name) layout db image)
 task-of used (Some name) None None layout (Some db) image is_name texts bytes done =
-    done-under None (is_some layout) texts bytes (written (inputs_wanted used) name)
-    (λ db image fit few done. (tt, own-done (inputs_wanted used) name (is_name name refl) db image fit few bytes (design_fault (inputs_wanted used) db image) refl done))
-    (layouts_for (is_some layout) texts) refl done
+    first_gives layout (λ given all. vlog_answer (inputs_wanted used) given name all) (WritesFabric None)
+    (λ given all made done. plain-writes (inputs_wanted used) name (is_name name refl) given all made done) texts bytes done
 task-of used (Some name) (Some file) (Some package_name) layout (Some db) image is_name texts bytes done =
-    let behind = is_some layout in
-    let chosen = package_of package_name (database_text behind texts) in
-    done-under (Some package_name) behind texts bytes (written_named (inputs_wanted used) name chosen (pin_text behind texts))
-    (λ db image fit few done. named-done (inputs_wanted used) name (is_name name refl) db image fit few chosen (pin_text behind texts) bytes (design_fault (inputs_wanted used) db image) refl done)
-    (layouts_for behind (texts_without_pins behind texts)) refl done
+    first_gives layout (λ given all. named_answer (inputs_wanted used) given name package_name all) (WritesFabric (Some package_name))
+    (λ given all made done. named-writes (inputs_wanted used) name package_name (is_name name refl) given all made done) texts bytes done
 task-of used (Some name) (Some file) None layout db image is_name texts bytes done = absurd cc
 task-of used (Some name) None (Some package_name) layout db image is_name texts bytes done = absurd cc
 task-of used (Some name) None None layout None image is_name texts bytes done = absurd cc
 task-of used (Some name) (Some file) (Some package_name) layout None image is_name texts bytes done = absurd cc
 task-of used None file package_name layout db image is_name texts bytes done = absurd cc
 
-task-writes : (args : List Text) → TaskWrites (package_given args) (names_layout args) (asked icebox_vlog args)
+task-writes : (args : List Text) → TaskWrites (package_given args) (layout_given args) (asked icebox_vlog args)
 unfolding asked
 task-writes args = by_case (is_taken vlog_command args)
   where
     rows : List Row
     rows = matches_of vlog_command args
 
-    by_case : (taken : Bool) → TaskWrites (package_given args) (names_layout args) (if taken then vlog_task_by rows else usage_error vlog_name vlog_usage)
+    by_case : (taken : Bool) → TaskWrites (package_given args) (layout_given args) (if taken then vlog_task_by rows else usage_error vlog_name vlog_usage)
     by_case true =
         task-of (has_flag (codes "used-inputs") rows) (name_given (first_of (codes "name") rows)) (first_of (codes "pins") rows) (first_of (codes "package") rows)
         (first_of (codes "layout") rows) (first_of (codes "db") rows) (first_of (codes "image") rows) (given-name (first_of (codes "name") rows))
@@ -255,4 +270,4 @@ pub promise-kept : {F I O E : Type 0} (by : Outside F I O E) (args : List Text) 
     → PromisesFabric by args status old new
 promise-kept by args status old new does done asks =
     let same : asked icebox_vlog args ≡ vlog_outcome args = helped-no vlog_name ICEBOX_VLOG_HELP.now args (asked icebox_vlog args) asks in
-    helped-kept (WritesFabric (package_given args) (names_layout args)) by (asked icebox_vlog args) (vlog_outcome args) status old new same (task-writes args) (task-target args) does done
+    helped-kept (UnderLayout (layout_given args) (WritesFabric (package_given args))) by (asked icebox_vlog args) (vlog_outcome args) status old new same (task-writes args) (task-target args) does done

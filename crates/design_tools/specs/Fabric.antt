@@ -1,9 +1,9 @@
 -- What a written module promises: it behaves as the fabric of the database and the image for which it was written.
-use Rattle.std.specs.Prelude.{◌≡◌, ℕ, Bool, false, List, [], map, codes, get_or, is_some, Option, Some, None, Ok}
+use Rattle.std.specs.Prelude.{◌≡◌, ℕ, Bool, false, List, [], map, codes, get_or, Option, Some, None, Ok}
 use Rattle.std.specs.List.{AllZip}
 use Rattle.clap.specs.Words.{first_of, matches_of}
 use Rattle.layout_file.specs.declared.layouts.Layouts.{Layouts}
-use Rattle.tool_inputs.specs.Layouts.{behind_layout, layouts_for}
+use Rattle.tool_inputs.specs.Layouts.{layouts_for}
 use Rattle.ice_image.specs.Configuration.{Configuration}
 use Rattle.chipdb_reader.specs.Database.{Database}
 use Rattle.vlog_forms.specs.Items.{IsSpelling}
@@ -22,7 +22,7 @@ use Rattle.port_names.specs.Named.{named_ports, switched_places}
 use Rattle.port_names.specs.Matching.{MatchesNamed}
 use Rattle.tool_run.specs.Runs.{Outside, Scene}
 use Rattle.tool_run.specs.Tasks.{asks_for_help}
-use Rattle.tool_inputs.specs.Appended.{AppendsFor}
+use Rattle.tool_inputs.specs.Appended.{AppendsFor, UnderLayout}
 use Rattle.tool_inputs.specs.Databases.{database_read}
 use Rattle.tool_inputs.specs.Images.{image_read}
 use Rattle.design_answers.specs.Lines.{fabric_events, fabric_text}
@@ -48,40 +48,40 @@ pub record SpellsFabric (named : List PinName) (db : Database) (image : Configur
 -- ---- what was appended
 
 -- the texts without the pin file, if there is one for a package
-abbrev pub texts_of_design : Option (List ℕ) → Bool → List (List ℕ) → List (List ℕ)
-texts_of_design None behind texts = texts
-texts_of_design (Some package_name) behind texts = texts_without_pins behind texts
+abbrev pub texts_of_design : Option (List ℕ) → List (List ℕ) → List (List ℕ)
+texts_of_design None texts = texts
+texts_of_design (Some package_name) texts = texts_without_pins texts
 
 -- the package of that name in the database
-abbrev pub package_read : List ℕ → Bool → List (List ℕ) → Package
-package_read package_name behind texts = package_of package_name (database_text behind texts)
+abbrev pub package_read : List ℕ → List (List ℕ) → Package
+package_read package_name texts = package_of package_name (database_text texts)
 
 -- the names that the pin file gives for the package, if there is one
-abbrev pub names_given : Option (List ℕ) → Bool → List (List ℕ) → List PinName
-names_given None behind texts = []
-names_given (Some package_name) behind texts = ports_of (package_read package_name behind texts) (pin_text behind texts)
+abbrev pub names_given : Option (List ℕ) → List (List ℕ) → List PinName
+names_given None texts = []
+names_given (Some package_name) texts = ports_of (package_read package_name texts) (pin_text texts)
 
 -- the pin file, if there is one, has no fault, for a design with these pins
-abbrev pub HasNoPinFault : Option (List ℕ) → Bool → List (List ℕ) → List Pin → Type 0
-HasNoPinFault None behind texts pins = Unit {0}
-HasNoPinFault (Some package_name) behind texts pins =
-    pin_fault_of (package_read package_name behind texts) (switched_places pins) (pin_text behind texts) ≡ None
+abbrev pub HasNoPinFault : Option (List ℕ) → List (List ℕ) → List Pin → Type 0
+HasNoPinFault None texts pins = Unit {0}
+HasNoPinFault (Some package_name) texts pins =
+    pin_fault_of (package_read package_name texts) (switched_places pins) (pin_text texts) ≡ None
 
--- Bytes spell the fabric of a database and an image. The texts are those that were loaded: the layout file if one is `named`, the pin
--- file if a package is given, then the database, then the image, which is read under the layouts.
-pub record WritesFabric (package_name : Option (List ℕ)) (named : Bool) (texts : List (List ℕ)) (bytes : List ℕ) : Type 0 where
+-- Bytes spell the fabric of a database and an image. `layout` is the layout file if one is named. The texts are those that were loaded
+-- after it: the pin file if a package is given, then the database, then the image, which is read under the layouts.
+pub record WritesFabric (package_name : Option (List ℕ)) (layout : Option (List ℕ)) (texts : List (List ℕ)) (bytes : List ℕ) : Type 0 where
   pub layouts : Layouts
   pub db : Database
   pub image : Configuration
-  pub layouts_are : layouts_for named (texts_of_design package_name named texts) ≡ Ok layouts
-  pub db_is : database_read (get_or (texts_of_design package_name named texts) (behind_layout named 0) []) ≡ Ok db
-  pub image_is : image_read layouts (get_or (texts_of_design package_name named texts) (behind_layout named 1) []) ≡ Ok image
-  pub faultless : HasNoPinFault package_name named texts (fabric_of db image).pins
-  pub spells : SpellsFabric (names_given package_name named texts) db image bytes
+  pub layouts_are : layouts_for layout ≡ Ok layouts
+  pub db_is : database_read (get_or (texts_of_design package_name texts) 0 []) ≡ Ok db
+  pub image_is : image_read layouts (get_or (texts_of_design package_name texts) 1 []) ≡ Ok image
+  pub faultless : HasNoPinFault package_name texts (fabric_of db image).pins
+  pub spells : SpellsFabric (names_given package_name texts) db image bytes
 
--- whether the arguments of `icebox_vlog` name a layout file
-abbrev pub names_layout : List (List ℕ) → Bool
-names_layout args = is_some (first_of (codes "layout") (matches_of vlog_command args))
+-- the name of the layout file, if the arguments of `icebox_vlog` name one
+abbrev pub layout_given : List (List ℕ) → Option (List ℕ)
+layout_given args = first_of (codes "layout") (matches_of vlog_command args)
 
 -- the package that the arguments name
 abbrev pub package_given : List (List ℕ) → Option (List ℕ)
@@ -92,4 +92,5 @@ package_given args = first_of (codes "package") (matches_of vlog_command args)
 -- input tell their contents, as those in memory do, the texts are these contents; real files tell nothing of them.
 abbrev pub PromisesFabric : {F I O E : Type 0} → Outside F I O E → List (List ℕ) → ℕ → Scene F I O E → Scene F I O E → Type 0
 PromisesFabric by args status old new =
-    status ≡ 0 → asks_for_help args ≡ false → AppendsFor by (WritesFabric (package_given args) (names_layout args)) (vlog_outcome args) old new
+    status ≡ 0 → asks_for_help args ≡ false
+    → AppendsFor by (UnderLayout (layout_given args) (WritesFabric (package_given args))) (vlog_outcome args) old new

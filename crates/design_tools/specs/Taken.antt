@@ -1,22 +1,31 @@
 -- What `icebox_vlog` has taken of its texts so far, if a pin file names the ports.
-use Rattle.std.specs.Prelude.{ℕ, Bool, List, length}
+use Rattle.std.specs.Prelude.{◌≡◌, ℕ, List, [], ◌∷◌, Option}
+use Rattle.pin_file.specs.declared.pin_reader.PinReader.{PinReader}
 use Rattle.tool_run.specs.Collected.{Collects}
+use Rattle.tool_run.specs.declared.collected.Collected.{Collected}
 use Rattle.tool_inputs.specs.DesignInput.{TakesInput, fed_input}
-use Rattle.tool_inputs.specs.Taking.{IsTaking, fed_of}
+use Rattle.tool_inputs.specs.declared.design_input.DesignInput.{DesignInput}
 use Rattle.design_tools.specs.declared.named_intake.NextText.{NextText}
+use Rattle.design_tools.specs.declared.named_intake.NextText.TheVariants as next
 use Rattle.design_tools.specs.declared.named_intake.NamedIntake.{NamedIntake}
-use Rattle.design_tools.specs.Pins.{HasPins, StandsBehind, database_so_far, design_bytes, pin_file_so_far, texts_without_pins}
+use Rattle.design_tools.specs.Pins.{HasPins}
 
--- these whole texts were taken, and these bytes of the next one
-pub record TakesAt (package_name : List ℕ) (named : Bool) (texts : List (List ℕ)) (bytes : List ℕ) (at : NextText) (intake : NamedIntake) : Type 0 where
-  pub stands : StandsBehind named (length texts) at
-  pub taking : IsTaking TakesInput named (texts_without_pins named texts) (design_bytes at bytes) intake.taking
-  pub file : Collects (pin_file_so_far named texts at bytes) intake.file
-  pub pins : HasPins package_name (database_so_far named texts at bytes) intake.pins
+-- Under a layout file, if one is named, these whole texts were taken, and these bytes of the next one. The first text is the pin file,
+-- which is collected. The input takes the texts after it. The reader of pins reads the first of them, the database.
+abbrev pub HasNamedTexts : List ℕ → Option (List ℕ) → List (List ℕ) → List ℕ → Collected → DesignInput → Option PinReader
+    → NextText → Type 0
+HasNamedTexts package_name layout texts bytes file input pins next.PinFile =
+    (texts ≡ []) × Collects bytes file × TakesInput layout [] input [] × HasPins package_name [] pins
+HasNamedTexts package_name layout texts bytes file input pins next.Database =
+    (first : List ℕ) × (texts ≡ first ∷ []) × Collects first file × TakesInput layout [] input bytes × HasPins package_name bytes pins
+HasNamedTexts package_name layout texts bytes file input pins next.Other =
+    (first : List ℕ) × (db : List ℕ) × (others : List (List ℕ)) × (texts ≡ first ∷ db ∷ others)
+    × Collects first file × TakesInput layout (db ∷ others) input bytes × HasPins package_name db pins
 
-abbrev pub TakesNamed : List ℕ → Bool → List (List ℕ) → List ℕ → NamedIntake → Type 0
-TakesNamed package_name named texts bytes intake = TakesAt package_name named texts bytes intake.next intake
+abbrev pub TakesNamed : List ℕ → Option (List ℕ) → List (List ℕ) → NamedIntake → List ℕ → Type 0
+TakesNamed package_name layout texts intake bytes =
+    HasNamedTexts package_name layout texts bytes intake.file intake.input intake.pins intake.next
 
 -- how many bytes of the next text count towards its limit
 abbrev pub fed_named : NamedIntake → ℕ
-fed_named intake = fed_of fed_input intake.taking
+fed_named intake = fed_input intake.input

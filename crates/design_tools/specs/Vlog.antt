@@ -1,6 +1,6 @@
 -- `icebox_vlog`: writes the module of a database and an image. `-n` and `-p` are options of Project IceStorm's `icebox_vlog` (its usage
 -- text).
-use Rattle.std.specs.Prelude.{ℕ, Bool, true, false, List, [], ◌∷◌, codes, is_some, Option, None, Some}
+use Rattle.std.specs.Prelude.{ℕ, Bool, true, false, List, [], ◌∷◌, codes, Option, None, Some}
 use Rattle.std.specs.Option.{option_map}
 use Rattle.clap.specs.Words.{App, Row, Text, first_of}
 use Rattle.ice_image.specs.Configuration.{Configuration}
@@ -14,11 +14,10 @@ use Rattle.fabric_model.specs.Wiring.{wiring_of}
 use Rattle.fabric_model.specs.Faults.{Fault, design_fault}
 use Rattle.fabric_module.specs.Written.{module_of}
 use Rattle.tool_run.specs.Needs.{text_of}
-use Rattle.tool_run.specs.Tasks.{Answer, Done, Refused, Task, usage_error}
+use Rattle.tool_run.specs.Tasks.{Answer, Done, Refused, Task, layout_task, usage_error}
 use Rattle.tool_inputs.specs.Outcomes.{Manual, outcome}
 use Rattle.tool_inputs.specs.Commands.{command, has_flag, long_flag, long_option, positional, short_option}
 use Rattle.tool_inputs.specs.DesignInput.{input_answer}
-use Rattle.tool_inputs.specs.Layouts.{with_layout}
 use Rattle.tool_inputs.specs.Images.{image_limit}
 use Rattle.tool_inputs.specs.Databases.{database_limit}
 use Rattle.design_tools.specs.declared.name.ModuleName.{ModuleName}
@@ -70,14 +69,14 @@ named_where inputs name chosen file db image (Some fault) = Refused (design_faul
 abbrev pub written_named : LutInputs → List ℕ → Package → List ℕ → Database → Configuration → Answer
 written_named inputs name chosen file db image = named_where inputs name chosen file db image (design_fault inputs db image)
 
--- the answer for the texts that were loaded: the layout file if it is `named`, the pin file, the database, and the image
-abbrev pub named_answer : LutInputs → Bool → List ℕ → List ℕ → List (List ℕ) → Answer
-named_answer inputs named name package_name texts =
-    input_answer named (written_named inputs name (package_of package_name (database_text named texts)) (pin_text named texts)) (texts_without_pins named texts)
+-- the answer for the layout file, if one is named, and for the texts after it: the pin file, the database, and the image
+abbrev pub named_answer : LutInputs → Option (List ℕ) → List ℕ → List ℕ → List (List ℕ) → Answer
+named_answer inputs layout name package_name texts =
+    input_answer layout (written_named inputs name (package_of package_name (database_text texts)) (pin_text texts)) (texts_without_pins texts)
 
--- the answer for the texts that were loaded, without a pin file: the layout file if it is `named`, the database, and the image
-abbrev pub vlog_answer : LutInputs → Bool → List ℕ → List (List ℕ) → Answer
-vlog_answer inputs named name texts = input_answer named (written inputs name) texts
+-- the answer without a pin file: for the layout file, if one is named, and for the texts after it: the database, and the image
+abbrev pub vlog_answer : LutInputs → Option (List ℕ) → List ℕ → List (List ℕ) → Answer
+vlog_answer inputs layout name texts = input_answer layout (written inputs name) texts
 
 -- ---- the arguments
 
@@ -99,12 +98,9 @@ inputs_wanted true = read.Used
 
 -- the task without a pin file: it needs the database, and the image from a file or from standard input
 abbrev pub write_task : LutInputs → Text → Option Text → Text → Option Text → Task
-write_task inputs name layout db image = record {
-  tool_name = vlog_name;
-  needs = with_layout layout (record { name = Some db; limit = database_limit } ∷ record { name = image; limit = image_limit } ∷ []);
-  target = None;
-  answer = vlog_answer inputs (is_some layout) name;
-}
+write_task inputs name layout db image =
+    layout_task vlog_name layout (record { name = Some db; limit = database_limit } ∷ record { name = image; limit = image_limit } ∷ [])
+    None (λ file texts. vlog_answer inputs file name texts)
 
 -- the most bytes that a pin file may have
 abbrev pub pins_limit : ℕ
@@ -117,13 +113,10 @@ pub record Named : Type 0 where
 
 -- the task with a pin file: it needs that, and what is needed without it
 abbrev pub named_task : LutInputs → Text → Named → Option Text → Text → Option Text → Task
-named_task inputs name pins layout db image = record {
-  tool_name = vlog_name;
-  needs = with_layout layout
-      (record { name = Some pins.file; limit = pins_limit } ∷ record { name = Some db; limit = database_limit } ∷ record { name = image; limit = image_limit } ∷ []);
-  target = None;
-  answer = named_answer inputs (is_some layout) name pins.package_name;
-}
+named_task inputs name pins layout db image =
+    layout_task vlog_name layout
+    (record { name = Some pins.file; limit = pins_limit } ∷ record { name = Some db; limit = database_limit } ∷ record { name = image; limit = image_limit } ∷ [])
+    None (λ file texts. named_answer inputs file name pins.package_name texts)
 
 -- the task with a pin file or without
 abbrev pub task_with : LutInputs → Text → Option Named → Option Text → Text → Option Text → Task

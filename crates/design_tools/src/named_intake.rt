@@ -1,32 +1,45 @@
 // The input of `icebox_vlog` if a pin file names the ports.
-ghost use Rattle.std.specs.Prelude.{◌≡◌, ◌++◌, ◌∷◌, [], ◌+◌, ◌<◌, ◌≤◌, ◌^◌, ℕ, Bool, List, length};
-ghost use Rattle.design_tools.specs.Pins.{HasPins, IsIdle, first_text};
+ghost use Rattle.std.specs.Prelude.{◌≡◌, ◌++◌, ◌∷◌, [], ◌+◌, ◌<◌, ◌≤◌, ◌^◌, ℕ, List, Option, IfOk, IfErr, length};
+ghost use Rattle.ice_io.specs.Takers.{TakesMore};
+ghost use Rattle.ice_image.specs.Configuration.{Configuration};
+ghost use Rattle.chipdb_reader.specs.Database.{Database};
+ghost use Rattle.tool_run.specs.Needs.{text_of};
+ghost use Rattle.tool_run.specs.Stops.{StopsWith};
+ghost use Rattle.tool_run.specs.Tasks.{Answer};
+ghost use Rattle.tool_inputs.specs.DesignInput.{input_answer};
+ghost use Rattle.tool_inputs.specs.Layouts.{layouts_for, StopsLayouts};
+ghost use Rattle.design_tools.specs.Pins.{HasPins, IsIdle};
 
 use pin_file::PinReader;
 use std::alloc::Global;
-use tool_inputs::{DesignInput, Taking};
-use tool_run::Collected;
+use tool_inputs::DesignInput;
+use tool_run::{Collected, Stop};
 
 /// Which text comes next.
 #[derive(Clone, Copy, Debug, PartialEq, Eq)]
 pub(crate) enum NextText {
-    Layout,
     PinFile,
     Database,
     /// The image, or a text that the tool doesn't need.
     Other,
 }
 
-/// A layout file if one is named, then the pin file, which is collected, then a database and an image. The pins of the package are read
-/// from the database as it comes.
+/// The pin file, which is collected, then a database and an image. The pins of the package are read from the database as it comes.
 #[derive(Drop)]
 pub(crate) struct NamedIntake {
-    pub(crate) taking: Taking<DesignInput>,
+    pub(crate) input: DesignInput,
     pub(crate) file: Collected,
     /// `None` if memory was out.
     pub(crate) pins: Option<PinReader>,
     next: NextText,
-    ghost idle: { IsIdle next taking },
+    ghost idle: { IsIdle next input },
+}
+
+/// A reader of the pins of a package, by its name. `None` if memory is out.
+fn reader_for(alloc: Global, package_name: &str) -> Option<PinReader>
+    ensures { HasPins package_name.now [] result }
+{
+    PinReader::new(alloc, package_name.as_bytes()).ok()
 }
 
 /// Feeds a piece of the database to the reader of pins, if there is one. If memory is out, the reader remembers that, and tells it at the
@@ -42,65 +55,62 @@ fn feed_pins(pins: &mut Option<PinReader>, piece: &[u8])
     }
 }
 
-/// Which text comes first.
-fn first_text(named: bool) -> NextText
-    ensures { result ≡ first_text named }
-{
-    if named {
-        NextText::Layout
-    } else {
-        NextText::PinFile
-    }
-}
-
 impl NamedIntake {
     ghost use Rattle.design_tools.specs.Taken.{TakesNamed, fed_named};
 
-    /// Nothing is taken yet.
-    pub(crate) fn begin(alloc: Global, named: bool, package_name: &str) -> NamedIntake
-        ensures taken { TakesNamed package_name.now named [] [] result }
-        ensures none { fed_named result ≡ 0 }
+    /// Nothing is taken yet. The image is read under the layouts of the layout file if one is named, and else under the standard layouts.
+    ///
+    /// # Errors
+    /// `Stop::Refused` with the first faulty line of the layout file, and for no other cause.
+    pub(crate) fn begin(
+        alloc: Global,
+        layout: Option<&[u8]>,
+        package_name: &str,
+    ) -> Result<NamedIntake, Stop<'static>>
+        ensures taken { IfOk result (λ intake. TakesNamed package_name.now (text_of layout.entry) [] intake []) }
+        ensures none { IfOk result (λ intake. fed_named intake ≡ 0) }
+        ensures refused { IfErr result (StopsLayouts (layouts_for (text_of layout.entry))) }
+        ensures stops { IfErr result (λ stop. (texts : List (List ℕ)) (answer : Database → Configuration → Answer)
+            → StopsWith (input_answer (text_of layout.entry) answer texts) stop) }
     {
-        NamedIntake {
-            taking: Taking::begin(alloc, named),
-            file: Collected::new(alloc),
-            pins: PinReader::new(alloc, package_name.as_bytes()).ok(),
-            next: first_text(named),
+        match DesignInput::begin(alloc, layout) {
+            Ok(input) => Ok(NamedIntake {
+                input,
+                file: Collected::new(alloc),
+                pins: reader_for(alloc, package_name),
+                next: NextText::PinFile,
+            }),
+            Err(stop) => Err(stop),
         }
     }
 
-    /// Takes the next piece of the text.
+    /// Takes the next piece of a text.
     pub(crate) fn feed(&mut self, piece: &[u8])
         requires few { fed_named self.old + length piece.now < 2 ^ 32 }
-        requires short { length piece.now ≤ 65536 }
-        ensures taken { (package_name : List ℕ) (named : Bool) (texts : List (List ℕ)) (bytes : List ℕ) → TakesNamed package_name named texts bytes self.old
-            → TakesNamed package_name named texts (bytes ++ piece.now) self.new }
+        ensures taken { (package_name : List ℕ) (layout : Option (List ℕ))
+            → TakesMore (TakesNamed package_name layout) self.old self.new piece.now }
         ensures bound { fed_named self.new ≤ fed_named self.old + length piece.now }
     {
         match self.next {
             NextText::PinFile => self.file.push(piece),
             NextText::Database => {
-                self.taking.feed(piece);
+                self.input.feed(piece);
                 feed_pins(&mut self.pins, piece);
             }
-            NextText::Layout | NextText::Other => self.taking.feed(piece),
+            NextText::Other => self.input.feed(piece),
         }
     }
 
-    /// Ends the current text. The next piece begins the next text.
-    pub(crate) fn close(&mut self, alloc: Global)
-        ensures closed { (package_name : List ℕ) (named : Bool) (texts : List (List ℕ)) (bytes : List ℕ) → TakesNamed package_name named texts bytes self.old
-            → TakesNamed package_name named (texts ++ bytes ∷ []) [] self.new }
+    /// Ends the text that was taken last.
+    pub(crate) fn close(&mut self)
+        ensures closed { (package_name : List ℕ) (layout : Option (List ℕ)) (texts : List (List ℕ)) (bytes : List ℕ)
+            → TakesNamed package_name layout texts self.old bytes → TakesNamed package_name layout (texts ++ bytes ∷ []) self.new [] }
         ensures none { fed_named self.new ≡ 0 }
     {
         match self.next {
-            NextText::Layout => {
-                self.taking.close(alloc);
-                self.next = NextText::PinFile;
-            }
             NextText::PinFile => self.next = NextText::Database,
             NextText::Database | NextText::Other => {
-                self.taking.close(alloc);
+                self.input.close();
                 self.next = NextText::Other;
             }
         }

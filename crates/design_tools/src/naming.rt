@@ -1,5 +1,5 @@
 // `icebox_vlog` with a pin file: writes the module of an image, whose ports have the names of the file.
-ghost use Rattle.std.specs.Prelude.{◌≡◌, [], ℕ, Bool, List, IfOk, IfErr};
+ghost use Rattle.std.specs.Prelude.{◌≡◌, [], ℕ, List, Option, IfOk, IfErr};
 ghost use Rattle.ice_image.specs.Configuration.{Configuration};
 ghost use Rattle.ice_image.specs.Either.{configuration_of};
 ghost use Rattle.chipdb_reader.specs.Database.{Database};
@@ -32,7 +32,7 @@ use ice_image::AnyImage;
 use pin_file::{PackagePins, PinFileCause, PinFileFault, PinName, PinPlace, PinReader, pin_names};
 use port_names::{name_ports, switched_places};
 use std::alloc::{AllocError, Global};
-use tool_inputs::{DB_LIMIT, DesignInput, IMAGE_LIMIT, LAYOUT_LIMIT, refusal, with_layout};
+use tool_inputs::{DB_LIMIT, IMAGE_LIMIT, refusal};
 use tool_run::{Collected, Host, Job, Load, PieceTool, Refusal, Stop, decimal, text};
 use vlog_emit::emit;
 use vlog_parser::print;
@@ -40,12 +40,10 @@ use vlog_parser::print;
 /// The most bytes that a pin file may have.
 const PINS_LIMIT: usize = 1_048_576;
 
-/// Writes the module of a database and an image under a name, with the names of a pin file for its ports. LUTs read these inputs. If a
-/// layout file is named, it comes first, then the pin file.
+/// Writes the module of a database and an image under a name, with the names of a pin file for its ports. LUTs read these inputs. The pin
+/// file comes first. The image is read under the layouts of the layout file, if one is named.
 #[derive(Clone, Copy, Debug, PartialEq, Eq)]
 struct Naming<'a> {
-    /// Whether a layout file comes first.
-    named: bool,
     inputs: LutInputs,
     name: ModuleName<'a>,
     /// The package whose pins the pin file names.
@@ -60,22 +58,22 @@ impl<'a> PieceTool for Naming<'a> {
 
     type Made = Vec<u8>;
 
-    ghost answer_of = { λ tool texts. named_answer tool.inputs tool.named tool.name.text.now tool.package_name.now texts };
+    ghost answer_of = { λ tool layout texts. named_answer tool.inputs layout tool.name.text.now tool.package_name.now texts };
 
-    ghost takes = { λ tool texts intake bytes. TakesNamed tool.package_name.now tool.named texts bytes intake };
+    ghost takes = { λ tool layout texts intake bytes. TakesNamed tool.package_name.now layout texts intake bytes };
 
     ghost fed = { fed_named };
 
-    fn begin(&self, alloc: Global) -> NamedIntake {
-        NamedIntake::begin(alloc, self.named, self.package_name)
+    fn begin(&self, alloc: Global, layout: Option<&[u8]>) -> Result<NamedIntake, Stop<'static>> {
+        NamedIntake::begin(alloc, layout, self.package_name)
     }
 
     fn feed(&self, intake: &mut NamedIntake, piece: &[u8]) {
         intake.feed(piece);
     }
 
-    fn close(&self, alloc: Global, intake: &mut NamedIntake) {
-        intake.close(alloc);
+    fn close(&self, intake: &mut NamedIntake) {
+        intake.close();
     }
 
     fn finish(&self, alloc: Global, intake: NamedIntake) -> Result<Vec<u8>, Stop<'_>> {
@@ -91,18 +89,18 @@ fn named_after(
     intake: NamedIntake,
 ) -> Result<Vec<u8>, Stop<'static>>
     requires { IsName name.now }
-    ensures bytes { IfOk result (λ bytes. (package_name : List ℕ) (named : Bool) (texts : List (List ℕ)) → TakesNamed package_name named texts [] intake
-        → named_answer inputs named name.now package_name texts ≡ Done bytes.items) }
-    ensures stops { IfErr result (λ stop. (package_name : List ℕ) (named : Bool) (texts : List (List ℕ)) → TakesNamed package_name named texts [] intake
-        → StopsWith (named_answer inputs named name.now package_name texts) stop) }
+    ensures bytes { IfOk result (λ bytes. (package_name : List ℕ) (layout : Option (List ℕ)) (texts : List (List ℕ))
+        → TakesNamed package_name layout texts intake [] → named_answer inputs layout name.now package_name texts ≡ Done bytes.items) }
+    ensures stops { IfErr result (λ stop. (package_name : List ℕ) (layout : Option (List ℕ)) (texts : List (List ℕ))
+        → TakesNamed package_name layout texts intake [] → StopsWith (named_answer inputs layout name.now package_name texts) stop) }
 {
     let NamedIntake {
         file,
-        taking,
+        input,
         pins,
         ..
     } = intake;
-    match DesignInput::read(alloc, taking) {
+    match input.read(alloc) {
         Ok((db, image)) => named_text_of(alloc, &db, &image, inputs, name, &file, pins),
         Err(stop) => Err(stop),
     }
@@ -241,10 +239,6 @@ pub(crate) fn write_named<H: Host>(
 {
     let loads = [
         Load {
-            name: request.layout,
-            limit: LAYOUT_LIMIT,
-        },
-        Load {
             name: Some(pins.file),
             limit: PINS_LIMIT,
         },
@@ -258,15 +252,14 @@ pub(crate) fn write_named<H: Host>(
         },
     ];
     let tool = Naming {
-        named: request.layout.is_some(),
         inputs: request.inputs,
         name: request.name,
         package_name: pins.package_name,
     };
     let job = Job {
         tool_name: "icebox_vlog",
-        loads: with_layout(request.layout, &loads),
+        loads: &loads,
         target: None,
     };
-    host.perform_in_pieces(alloc, &tool, &job)
+    host.perform_in_pieces(alloc, &tool, request.layout, &job)
 }

@@ -1,5 +1,5 @@
 // `icebox_vlog`: writes the module of an image.
-ghost use Rattle.std.specs.Prelude.{◌≡◌, [], ℕ, Bool, List, map, string_bytes, IfOk, IfErr, Some};
+ghost use Rattle.std.specs.Prelude.{◌≡◌, [], ℕ, List, Option, map, string_bytes, IfOk, IfErr, Some};
 ghost use Rattle.ice_image.specs.Configuration.{Configuration};
 ghost use Rattle.ice_image.specs.Either.{configuration_of};
 ghost use Rattle.chipdb_reader.specs.Database.{Database};
@@ -10,7 +10,6 @@ ghost use Rattle.tool_run.specs.Runs.{Does};
 ghost use Rattle.tool_run.specs.Stops.{StopsWith};
 ghost use Rattle.tool_run.specs.Tasks.{Done};
 ghost use Rattle.tool_inputs.specs.DesignInput.{TakesInput};
-ghost use Rattle.tool_inputs.specs.Taking.{IsTaking};
 ghost use Rattle.design_tools.specs.Fabric.{PromisesFabric};
 ghost use Rattle.design_tools.specs.Vlog.{vlog_answer, vlog_outcome, vlog_task_for, write_task, written};
 ghost use Rattle.tool_run.specs.Needs.{text_of};
@@ -25,53 +24,47 @@ use fabric::{Design, design_with};
 use fabric_model::LutInputs;
 use ice_image::AnyImage;
 use std::alloc::{AllocError, Global};
-use tool_inputs::{
-    CommandLine, DB_LIMIT, DesignInput, IMAGE_LIMIT, LAYOUT_LIMIT, Taking, Words, run_tool,
-    with_layout,
-};
+use tool_inputs::{CommandLine, DB_LIMIT, DesignInput, IMAGE_LIMIT, Words, run_tool};
 use tool_run::{Host, Job, Load, PieceTool, Stop};
 use vlog_emit::emit;
 use vlog_parser::print;
 
-/// Writes the module of a database and an image under a name. LUTs read these inputs. If a layout file is named, it comes first, and the
-/// image is read under its layouts.
+/// Writes the module of a database and an image under a name. LUTs read these inputs. The image is read under the layouts of the layout
+/// file, if one is named.
 #[derive(Clone, Copy, Debug, PartialEq, Eq)]
 pub(crate) struct Writing<'a> {
-    /// Whether a layout file comes first.
-    pub(crate) named: bool,
     pub(crate) inputs: LutInputs,
     pub(crate) name: ModuleName<'a>,
 }
 
 impl<'a> PieceTool for Writing<'a> {
     ghost use Rattle.tool_inputs.specs.DesignInput.{TakesInput, fed_input};
-    ghost use Rattle.tool_inputs.specs.Taking.{IsTaking, fed_of};
     ghost use Rattle.design_tools.specs.Vlog.{vlog_answer};
 
-    type Intake = Taking<DesignInput>;
+    type Intake = DesignInput;
 
     type Made = Vec<u8>;
 
-    ghost answer_of = { λ tool texts. vlog_answer tool.inputs tool.named tool.name.text.now texts };
+    ghost answer_of = { λ tool layout texts. vlog_answer tool.inputs layout tool.name.text.now texts };
 
-    ghost takes = { λ tool texts taking bytes. IsTaking TakesInput tool.named texts bytes taking };
+    ghost takes = { λ tool layout texts intake bytes. TakesInput layout texts intake bytes };
 
-    ghost fed = { fed_of fed_input };
+    ghost fed = { fed_input };
 
-    fn begin(&self, alloc: Global) -> Taking<DesignInput> {
-        Taking::begin(alloc, self.named)
+    fn begin(&self, alloc: Global, layout: Option<&[u8]>) -> Result<DesignInput, Stop<'static>> {
+        DesignInput::begin(alloc, layout)
     }
 
-    fn feed(&self, taking: &mut Taking<DesignInput>, piece: &[u8]) {
-        taking.feed(piece);
+    fn feed(&self, intake: &mut DesignInput, piece: &[u8]) {
+        intake.feed(piece);
     }
 
-    fn close(&self, alloc: Global, taking: &mut Taking<DesignInput>) {
-        taking.close(alloc);
+    fn close(&self, intake: &mut DesignInput) {
+        intake.close();
     }
 
-    fn finish(&self, alloc: Global, taking: Taking<DesignInput>) -> Result<Vec<u8>, Stop<'_>> {
-        written_after(alloc, self.inputs, self.name.text.as_bytes(), taking)
+    fn finish(&self, alloc: Global, intake: DesignInput) -> Result<Vec<u8>, Stop<'_>> {
+        written_after(alloc, self.inputs, self.name.text.as_bytes(), intake)
     }
 }
 
@@ -80,15 +73,15 @@ fn written_after(
     alloc: Global,
     inputs: LutInputs,
     name: &[u8],
-    taking: Taking<DesignInput>,
+    intake: DesignInput,
 ) -> Result<Vec<u8>, Stop<'static>>
     requires { IsName name.now }
-    ensures bytes { IfOk result (λ bytes. (named : Bool) (texts : List (List ℕ)) → IsTaking TakesInput named texts [] taking
-        → vlog_answer inputs named name.now texts ≡ Done bytes.items) }
-    ensures stops { IfErr result (λ stop. (named : Bool) (texts : List (List ℕ)) → IsTaking TakesInput named texts [] taking
-        → StopsWith (vlog_answer inputs named name.now texts) stop) }
+    ensures bytes { IfOk result (λ bytes. (layout : Option (List ℕ)) (texts : List (List ℕ)) → TakesInput layout texts intake []
+        → vlog_answer inputs layout name.now texts ≡ Done bytes.items) }
+    ensures stops { IfErr result (λ stop. (layout : Option (List ℕ)) (texts : List (List ℕ)) → TakesInput layout texts intake []
+        → StopsWith (vlog_answer inputs layout name.now texts) stop) }
 {
-    match DesignInput::read(alloc, taking) {
+    match intake.read(alloc) {
         Ok((db, image)) => text_of(alloc, &db, &image, inputs, name),
         Err(stop) => Err(stop),
     }
@@ -128,10 +121,6 @@ fn write_plain<H: Host>(alloc: Global, request: Request<'_>, host: &mut H) -> u8
 {
     let loads = [
         Load {
-            name: request.layout,
-            limit: LAYOUT_LIMIT,
-        },
-        Load {
             name: Some(request.db),
             limit: DB_LIMIT,
         },
@@ -141,16 +130,15 @@ fn write_plain<H: Host>(alloc: Global, request: Request<'_>, host: &mut H) -> u8
         },
     ];
     let tool = Writing {
-        named: request.layout.is_some(),
         inputs: request.inputs,
         name: request.name,
     };
     let job = Job {
         tool_name: "icebox_vlog",
-        loads: with_layout(request.layout, &loads),
+        loads: &loads,
         target: None,
     };
-    host.perform_in_pieces(alloc, &tool, &job)
+    host.perform_in_pieces(alloc, &tool, request.layout, &job)
 }
 
 // Does a request: loads its files and writes the module.

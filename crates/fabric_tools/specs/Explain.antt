@@ -1,6 +1,6 @@
 -- `icebox_explain`: tells what the set bits of an image mean. `-t` is an option of Project IceStorm's `icebox_explain` (its usage text),
 -- `--layout` is this project's own.
-use Rattle.std.specs.Prelude.{ℕ, ◌==◌, Bool, List, [], ◌∷◌, codes, is_some, option_map, Option, None, Some}
+use Rattle.std.specs.Prelude.{ℕ, ◌==◌, List, [], ◌∷◌, codes, option_map, Option, None, Some}
 use Rattle.std.specs.List.{before_first, after_first}
 use Rattle.clap.specs.Words.{App, Row, Text, first_of}
 use Rattle.text_lines.specs.Words.{number_of}
@@ -10,11 +10,10 @@ use Rattle.chipdb_reader.specs.Database.{Database}
 use Rattle.image_explain.specs.declared.fault.ExplainFault.{ExplainFault}
 use Rattle.image_explain.specs.Explained.{explained, explain_fault_of}
 use Rattle.tool_run.specs.Needs.{text_of}
-use Rattle.tool_run.specs.Tasks.{Answer, Done, Refused, Task, usage_error}
+use Rattle.tool_run.specs.Tasks.{Answer, Done, Refused, Task, layout_task, usage_error}
 use Rattle.tool_inputs.specs.Outcomes.{Manual, outcome}
 use Rattle.tool_inputs.specs.Commands.{command, long_option, positional, short_option}
 use Rattle.tool_inputs.specs.DesignInput.{input_answer}
-use Rattle.tool_inputs.specs.Layouts.{with_layout}
 use Rattle.fabric_tools.specs.declared.request.Request.{Request}
 use Rattle.fabric_tools.specs.declared.request.TheConstants.{ICEBOX_EXPLAIN_HELP}
 use Rattle.fabric_tools.specs.Faults.{explain_fault_text}
@@ -31,9 +30,9 @@ told_with text (Some fault) = Refused (explain_fault_text fault)
 abbrev pub told : Database → Configuration → Option TileXy → Answer
 told database image only = told_with (explained database image only) (explain_fault_of database image only)
 
--- the answer for the texts that were loaded: the layout file if it is `named`, the database, and the image
-abbrev pub explain_answer : Bool → Option TileXy → List (List ℕ) → Answer
-explain_answer named only texts = input_answer named (λ db image. told db image only) texts
+-- the answer for the layout file, if one is named, and for the texts that were loaded: the database, and the image
+abbrev pub explain_answer : Option TileXy → Option (List ℕ) → List (List ℕ) → Answer
+explain_answer only layout texts = input_answer layout (λ db image. told db image only) texts
 
 -- ---- the arguments
 
@@ -63,12 +62,9 @@ tile_given (Some text) = option_map Some (tile_in text)
 -- ---- the task
 
 abbrev pub read_task : Option TileXy → Option Text → Text → Option Text → Task
-read_task only layout db image = record {
-  tool_name = explain_name;
-  needs = with_layout layout (record { name = Some db; limit = database_limit } ∷ record { name = image; limit = image_limit } ∷ []);
-  target = None;
-  answer = explain_answer (is_some layout) only;
-}
+read_task only layout db image =
+    layout_task explain_name layout (record { name = Some db; limit = database_limit } ∷ record { name = image; limit = image_limit } ∷ [])
+    None (explain_answer only)
 
 -- there must be a database
 abbrev pub explain_task_of : Option (Option TileXy) → Option Text → Option Text → Option Text → Task

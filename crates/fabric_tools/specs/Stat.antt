@@ -1,5 +1,5 @@
 -- `icebox_stat`: counts what an image uses of its device.
-use Rattle.std.specs.Prelude.{ℕ, Bool, List, [], ◌∷◌, codes, is_some, Option, None, Some}
+use Rattle.std.specs.Prelude.{ℕ, List, [], ◌∷◌, codes, Option, None, Some}
 use Rattle.clap.specs.Words.{App, Row, Text, first_of}
 use Rattle.ice_image.specs.Configuration.{Configuration}
 use Rattle.chipdb_reader.specs.Database.{Database}
@@ -7,11 +7,10 @@ use Rattle.fabric_model.specs.Faults.{Fault}
 use Rattle.image_stat.specs.Counts.{counts_of, stat_text}
 use Rattle.image_stat.specs.Faults.{stat_fault}
 use Rattle.tool_run.specs.Needs.{text_of}
-use Rattle.tool_run.specs.Tasks.{Answer, Done, Refused, Task, usage_error}
+use Rattle.tool_run.specs.Tasks.{Answer, Done, Refused, Task, layout_task, usage_error}
 use Rattle.tool_inputs.specs.Outcomes.{Manual, outcome}
 use Rattle.tool_inputs.specs.Commands.{command, long_option, positional, required}
 use Rattle.tool_inputs.specs.DesignInput.{input_answer}
-use Rattle.tool_inputs.specs.Layouts.{with_layout}
 use Rattle.tool_inputs.specs.Images.{image_limit}
 use Rattle.tool_inputs.specs.Databases.{database_limit}
 use Rattle.design_answers.specs.Faults.{design_fault_text}
@@ -28,9 +27,9 @@ counted_with db image (Some fault) = Refused (design_fault_text fault)
 abbrev pub counted : Database → Configuration → Answer
 counted db image = counted_with db image (stat_fault db image)
 
--- the answer for the texts that were loaded: the layout file if it is `named`, the database, and the image
-abbrev pub stat_answer : Bool → List (List ℕ) → Answer
-stat_answer named texts = input_answer named counted texts
+-- the answer for the layout file, if one is named, and for the texts that were loaded: the database, and the image
+abbrev pub stat_answer : Option (List ℕ) → List (List ℕ) → Answer
+stat_answer layout texts = input_answer layout counted texts
 
 -- ---- the arguments
 
@@ -47,12 +46,9 @@ stat_command = command stat_name (long_option (codes "layout") ∷ required (cod
 
 -- the layout file if one is named, the database, and the image from a file or from standard input
 abbrev pub count_task : Option Text → Text → Option Text → Task
-count_task layout db image = record {
-  tool_name = stat_name;
-  needs = with_layout layout (record { name = Some db; limit = database_limit } ∷ record { name = image; limit = image_limit } ∷ []);
-  target = None;
-  answer = stat_answer (is_some layout);
-}
+count_task layout db image =
+    layout_task stat_name layout (record { name = Some db; limit = database_limit } ∷ record { name = image; limit = image_limit } ∷ [])
+    None stat_answer
 
 -- there must be a database
 abbrev pub stat_task_of : Option Text → Option Text → Option Text → Task

@@ -1,5 +1,5 @@
 // `icebox_stat`: counts what an image uses of its device.
-ghost use Rattle.std.specs.Prelude.{◌≡◌, [], ℕ, Bool, List, map, string_bytes, IfOk, IfErr, Some};
+ghost use Rattle.std.specs.Prelude.{◌≡◌, [], ℕ, List, Option, map, string_bytes, IfOk, IfErr, Some};
 ghost use Rattle.clap.specs.Words.{app_of, found_of, rows_of};
 ghost use Rattle.ice_image.specs.Either.{configuration_of};
 ghost use Rattle.chipdb_reader.specs.Kept.{database_in};
@@ -8,7 +8,6 @@ ghost use Rattle.tool_run.specs.Runs.{Does};
 ghost use Rattle.tool_run.specs.Stops.{StopsWith};
 ghost use Rattle.tool_run.specs.Tasks.{Done};
 ghost use Rattle.tool_inputs.specs.DesignInput.{TakesInput};
-ghost use Rattle.tool_inputs.specs.Taking.{IsTaking};
 ghost use Rattle.fabric_tools.specs.Stat.{counted, stat_answer, stat_command, stat_outcome, stat_task_by, stat_task_for, stat_task_of};
 
 use crate::faults::stat_stop;
@@ -18,8 +17,8 @@ use ice_image::AnyImage;
 use image_stat::stat;
 use std::alloc::{AllocError, Global};
 use tool_inputs::{
-    CommandLine, DB_LIMIT, DesignInput, IMAGE_LIMIT, LAYOUT_LIMIT, Taking, Words, long_option,
-    positional, required, run_tool, value, with, with_layout,
+    CommandLine, DB_LIMIT, DesignInput, IMAGE_LIMIT, Words, long_option, positional, required,
+    run_tool, value, with,
 };
 use tool_run::{Host, Job, Load, PieceTool, Stop};
 
@@ -73,53 +72,49 @@ first fault; 2 the command line isn't taken; 3 reading failed; 4 writing failed;
 5 out of memory; 6 an input is longer than its limit.
 ";
 
-/// Counts what an image uses, by a database. If a layout file is named, it comes first, and the image is read under its layouts.
+/// Counts what an image uses, by a database. The image is read under the layouts of a layout file if one is named.
 #[derive(Clone, Copy, Debug, PartialEq, Eq)]
-pub(crate) struct Counting {
-    /// Whether a layout file comes first.
-    pub(crate) named: bool,
-}
+pub(crate) struct Counting;
 
 impl PieceTool for Counting {
     ghost use Rattle.tool_inputs.specs.DesignInput.{TakesInput, fed_input};
-    ghost use Rattle.tool_inputs.specs.Taking.{IsTaking, fed_of};
     ghost use Rattle.fabric_tools.specs.Stat.{stat_answer};
 
-    type Intake = Taking<DesignInput>;
+    type Intake = DesignInput;
 
     type Made = Vec<u8>;
 
-    ghost answer_of = { λ tool texts. stat_answer tool.named texts };
+    ghost answer_of = { λ tool layout texts. stat_answer layout texts };
 
-    ghost takes = { λ tool texts taking bytes. IsTaking TakesInput tool.named texts bytes taking };
+    ghost takes = { λ tool layout texts intake bytes. TakesInput layout texts intake bytes };
 
-    ghost fed = { fed_of fed_input };
+    ghost fed = { fed_input };
 
-    fn begin(&self, alloc: Global) -> Taking<DesignInput> {
-        Taking::begin(alloc, self.named)
+    fn begin(&self, alloc: Global, layout: Option<&[u8]>) -> Result<DesignInput, Stop<'static>> {
+        DesignInput::begin(alloc, layout)
     }
 
-    fn feed(&self, taking: &mut Taking<DesignInput>, piece: &[u8]) {
-        taking.feed(piece);
+    fn feed(&self, intake: &mut DesignInput, piece: &[u8]) {
+        intake.feed(piece);
     }
 
-    fn close(&self, alloc: Global, taking: &mut Taking<DesignInput>) {
-        taking.close(alloc);
+    fn close(&self, intake: &mut DesignInput) {
+        intake.close();
     }
 
-    fn finish(&self, alloc: Global, taking: Taking<DesignInput>) -> Result<Vec<u8>, Stop<'_>> {
-        counted_after(alloc, taking)
+    fn finish(&self, alloc: Global, intake: DesignInput) -> Result<Vec<u8>, Stop<'_>> {
+        counted_text(alloc, intake)
     }
 }
 
-// The text of the counts. Called after the last piece of the image.
-fn counted_after(alloc: Global, taking: Taking<DesignInput>) -> Result<Vec<u8>, Stop<'static>>
-    ensures bytes { IfOk result (λ bytes. (named : Bool) (texts : List (List ℕ)) → IsTaking TakesInput named texts [] taking
-        → stat_answer named texts ≡ Done bytes.items) }
-    ensures stops { IfErr result (λ stop. (named : Bool) (texts : List (List ℕ)) → IsTaking TakesInput named texts [] taking
-        → StopsWith (stat_answer named texts) stop) }
+// The text of the counts, after the last piece of the image.
+fn counted_text(alloc: Global, intake: DesignInput) -> Result<Vec<u8>, Stop<'static>>
+    ensures bytes { IfOk result (λ bytes. (layout : Option (List ℕ)) (texts : List (List ℕ)) → TakesInput layout texts intake []
+        → stat_answer layout texts ≡ Done bytes.items) }
+    ensures stops { IfErr result (λ stop. (layout : Option (List ℕ)) (texts : List (List ℕ)) → TakesInput layout texts intake []
+        → StopsWith (stat_answer layout texts) stop) }
 {
-    match DesignInput::read(alloc, taking) {
+    match intake.read(alloc) {
         Ok((db, image)) => count_text(alloc, &db, &image),
         Err(stop) => Err(stop),
     }
@@ -185,10 +180,6 @@ fn count_files<H: Host>(alloc: Global, inputs: Inputs<'_>, host: &mut H) -> u8
 {
     let loads = [
         Load {
-            name: inputs.layout,
-            limit: LAYOUT_LIMIT,
-        },
-        Load {
             name: Some(inputs.db),
             limit: DB_LIMIT,
         },
@@ -197,15 +188,12 @@ fn count_files<H: Host>(alloc: Global, inputs: Inputs<'_>, host: &mut H) -> u8
             limit: IMAGE_LIMIT,
         },
     ];
-    let tool = Counting {
-        named: inputs.layout.is_some(),
-    };
     let job = Job {
         tool_name: "icebox_stat",
-        loads: with_layout(inputs.layout, &loads),
+        loads: &loads,
         target: None,
     };
-    host.perform_in_pieces(alloc, &tool, &job)
+    host.perform_in_pieces(alloc, &Counting, inputs.layout, &job)
 }
 
 /// `icebox_stat` by its command line.

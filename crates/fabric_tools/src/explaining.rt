@@ -1,12 +1,11 @@
 // `icebox_explain`: tells what the set bits of an image mean.
-ghost use Rattle.std.specs.Prelude.{◌≡◌, [], ℕ, Bool, List, map, string_bytes, IfOk, IfErr, Some};
+ghost use Rattle.std.specs.Prelude.{◌≡◌, [], ℕ, List, Option, map, string_bytes, IfOk, IfErr, Some};
 ghost use Rattle.chipdb_reader.specs.Kept.{database_in};
 ghost use Rattle.tool_run.specs.Needs.{text_of};
 ghost use Rattle.tool_run.specs.Runs.{Does};
 ghost use Rattle.tool_run.specs.Stops.{StopsWith};
 ghost use Rattle.tool_run.specs.Tasks.{Done};
 ghost use Rattle.tool_inputs.specs.DesignInput.{TakesInput};
-ghost use Rattle.tool_inputs.specs.Taking.{IsTaking};
 ghost use Rattle.fabric_tools.specs.Explain.{explain_answer, explain_outcome, explain_task_for, told};
 ghost use Rattle.ice_image.specs.Either.{configuration_of};
 
@@ -18,65 +17,58 @@ use clap::{ArgMatches, Command};
 use ice_image::AnyImage;
 use image_explain::{ExplainFault, explain};
 use std::alloc::{AllocError, Global};
-use tool_inputs::{
-    CommandLine, DB_LIMIT, DesignInput, IMAGE_LIMIT, LAYOUT_LIMIT, Taking, Words, run_tool,
-    with_layout,
-};
+use tool_inputs::{CommandLine, DB_LIMIT, DesignInput, IMAGE_LIMIT, Words, run_tool};
 use tool_run::{Host, Job, Load, PieceTool, Stop};
 
-/// Explains one tile of an image, or all, by a database. If a layout file is named, it comes first, and the image is read under its
-/// layouts.
+/// Explains one tile of an image, or all, by a database. The image is read under the layouts of a layout file if one is named.
 #[derive(Clone, Copy, Debug, PartialEq, Eq)]
 pub(crate) struct Explaining {
-    /// Whether a layout file comes first.
-    pub(crate) named: bool,
     pub(crate) only: Option<TileXy>,
 }
 
 impl PieceTool for Explaining {
     ghost use Rattle.tool_inputs.specs.DesignInput.{TakesInput, fed_input};
-    ghost use Rattle.tool_inputs.specs.Taking.{IsTaking, fed_of};
     ghost use Rattle.fabric_tools.specs.Explain.{explain_answer};
 
-    type Intake = Taking<DesignInput>;
+    type Intake = DesignInput;
 
     type Made = Vec<u8>;
 
-    ghost answer_of = { λ tool texts. explain_answer tool.named tool.only texts };
+    ghost answer_of = { λ tool layout texts. explain_answer tool.only layout texts };
 
-    ghost takes = { λ tool texts taking bytes. IsTaking TakesInput tool.named texts bytes taking };
+    ghost takes = { λ tool layout texts intake bytes. TakesInput layout texts intake bytes };
 
-    ghost fed = { fed_of fed_input };
+    ghost fed = { fed_input };
 
-    fn begin(&self, alloc: Global) -> Taking<DesignInput> {
-        Taking::begin(alloc, self.named)
+    fn begin(&self, alloc: Global, layout: Option<&[u8]>) -> Result<DesignInput, Stop<'static>> {
+        DesignInput::begin(alloc, layout)
     }
 
-    fn feed(&self, taking: &mut Taking<DesignInput>, piece: &[u8]) {
-        taking.feed(piece);
+    fn feed(&self, intake: &mut DesignInput, piece: &[u8]) {
+        intake.feed(piece);
     }
 
-    fn close(&self, alloc: Global, taking: &mut Taking<DesignInput>) {
-        taking.close(alloc);
+    fn close(&self, intake: &mut DesignInput) {
+        intake.close();
     }
 
-    fn finish(&self, alloc: Global, taking: Taking<DesignInput>) -> Result<Vec<u8>, Stop<'_>> {
-        explained_after(alloc, self.only, taking)
+    fn finish(&self, alloc: Global, intake: DesignInput) -> Result<Vec<u8>, Stop<'_>> {
+        explained(alloc, self.only, intake)
     }
 }
 
-// The text that explains the image by the database. Called after the last piece of the image.
-fn explained_after(
+// The text that explains the image by the database, after the last piece of the image.
+fn explained(
     alloc: Global,
     only: Option<TileXy>,
-    taking: Taking<DesignInput>,
+    intake: DesignInput,
 ) -> Result<Vec<u8>, Stop<'static>>
-    ensures bytes { IfOk result (λ bytes. (named : Bool) (texts : List (List ℕ)) → IsTaking TakesInput named texts [] taking
-        → explain_answer named only texts ≡ Done bytes.items) }
-    ensures stops { IfErr result (λ stop. (named : Bool) (texts : List (List ℕ)) → IsTaking TakesInput named texts [] taking
-        → StopsWith (explain_answer named only texts) stop) }
+    ensures bytes { IfOk result (λ bytes. (layout : Option (List ℕ)) (texts : List (List ℕ)) → TakesInput layout texts intake []
+        → explain_answer only layout texts ≡ Done bytes.items) }
+    ensures stops { IfErr result (λ stop. (layout : Option (List ℕ)) (texts : List (List ℕ)) → TakesInput layout texts intake []
+        → StopsWith (explain_answer only layout texts) stop) }
 {
-    match DesignInput::read(alloc, taking) {
+    match intake.read(alloc) {
         Ok((db, image)) => text_of(alloc, &db, &image, only),
         Err(stop) => Err(stop),
     }
@@ -105,10 +97,6 @@ fn explain_files<H: Host>(alloc: Global, request: Request<'_>, host: &mut H) -> 
 {
     let loads = [
         Load {
-            name: request.layout,
-            limit: LAYOUT_LIMIT,
-        },
-        Load {
             name: Some(request.db),
             limit: DB_LIMIT,
         },
@@ -117,16 +105,13 @@ fn explain_files<H: Host>(alloc: Global, request: Request<'_>, host: &mut H) -> 
             limit: IMAGE_LIMIT,
         },
     ];
-    let tool = Explaining {
-        named: request.layout.is_some(),
-        only: request.only,
-    };
+    let tool = Explaining { only: request.only };
     let job = Job {
         tool_name: "icebox_explain",
-        loads: with_layout(request.layout, &loads),
+        loads: &loads,
         target: None,
     };
-    host.perform_in_pieces(alloc, &tool, &job)
+    host.perform_in_pieces(alloc, &tool, request.layout, &job)
 }
 
 /// `icebox_explain` by its command line.

@@ -1,11 +1,11 @@
 -- What a run of a task appends to standard output.
-use Rattle.std.proofs.Common.{◌≡◌, ℕ, List, subst, sym}
-use Rattle.std.specs.Prelude.{Option, None}
+use Rattle.std.proofs.Common.{◌≡◌, ℕ, List, [], drop, subst, sym}
+use Rattle.std.specs.Prelude.{Option, None, Some, get_or}
 use Rattle.tool_run.specs.Effects.{Delivers}
 use Rattle.tool_run.specs.Runs.{Does, Outside, Scene}
-use Rattle.tool_run.specs.Tasks.{Done, Task}
+use Rattle.tool_run.specs.Tasks.{Answer, Done, Task, layout_first}
 use Rattle.tool_run.proofs.Same.{Does-same}
-use Rattle.tool_inputs.specs.Appended.{AppendsFor}
+use Rattle.tool_inputs.specs.Appended.{AppendsFor, UnderLayout}
 
 -- P holds of what a task makes of texts
 abbrev Gives : (List (List ℕ) → List ℕ → Type 0) → Task → Type 0
@@ -30,3 +30,10 @@ module _ (P : List (List ℕ) → List ℕ → Type 0) where
       → AppendsFor by P other old new
   helped-kept by task other status old new same gives target does done =
       subst (λ one. AppendsFor by P one old new) same (done-appends by task status old new gives target (Does-same by other task status old new (sym same) does) done)
+
+-- P holds of what an answer under a layout file makes of all texts
+pub first_gives : (layout : Option (List ℕ)) (answer : Option (List ℕ) → List (List ℕ) → Answer) (P : Option (List ℕ) → List (List ℕ) → List ℕ → Type 0)
+    → ((file : Option (List ℕ)) (texts : List (List ℕ)) (bytes : List ℕ) → answer file texts ≡ Done bytes → P file texts bytes)
+    → (texts : List (List ℕ)) (bytes : List ℕ) → layout_first layout answer texts ≡ Done bytes → UnderLayout layout P texts bytes
+first_gives None answer P gives texts bytes done = gives None texts bytes done
+first_gives (Some file) answer P gives texts bytes done = gives (Some (get_or texts 0 [])) (drop 1 texts) bytes done

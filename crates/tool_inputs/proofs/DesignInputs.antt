@@ -1,6 +1,6 @@
 -- A chip database and an image that came in pieces, and the answer of a tool for them.
-use Rattle.std.proofs.Common.{◌≡◌, ◌∷◌, [], ◌++◌, Bool, true, false, ℕ, List, refl, sym, ap, subst}
-use Rattle.std.specs.Prelude.{get_or, Result, Ok}
+use Rattle.std.proofs.Common.{◌≡◌, ◌∷◌, [], ◌++◌, ℕ, List, refl, sym, ap, subst}
+use Rattle.std.specs.Prelude.{get_or, Option, Result, Ok}
 use Rattle.layout_file.specs.declared.layouts.Layouts.{Layouts}
 use Rattle.ice_image.specs.Configuration.{Configuration}
 use Rattle.chipdb_reader.specs.Database.{Database}
@@ -15,7 +15,6 @@ use Rattle.tool_inputs.specs.Databases.{StopsDatabase}
 use Rattle.tool_inputs.specs.DesignInput.{HasTexts, answer_of_both, answer_to_both, input_answer}
 use Rattle.tool_inputs.specs.Images.{StopsImage}
 use Rattle.tool_inputs.specs.Layouts.{answer_under, layouts_for}
-use Rattle.tool_inputs.specs.Taking.{texts_behind}
 use Rattle.tool_inputs.specs.declared.design_input.NextText.{NextText}
 use Rattle.tool_inputs.specs.declared.design_input.NextText.TheVariants as next
 
@@ -59,9 +58,7 @@ module _ (answer : Database → Configuration → Answer) where
   pub both-read : (read : Result Database (List ℕ)) (image : Result Configuration (List ℕ)) (db : Database) (config : Configuration) → read ≡ Ok db → image ≡ Ok config → answer_of_both read image answer ≡ answer db config
   both-read read image db config is configures = rw (is, configures) refl
 
-  -- the texts after the layout file are the database and the image
-  pub input_behind : (named : Bool) (texts : List (List ℕ)) (layouts : Layouts) → layouts_for named texts ≡ Ok layouts
-      → input_answer named answer texts ≡ answer_to_both answer (get_or (texts_behind named texts) 0 []) (get_or (texts_behind named texts) 1 []) layouts
-  input_behind false texts layouts is = ap (λ (read : Result Layouts (List ℕ)). answer_under read (answer_to_both answer (get_or texts 0 []) (get_or texts 1 []))) is
-  input_behind true [] layouts is = ap (λ (read : Result Layouts (List ℕ)). answer_under read (answer_to_both answer [] [])) is
-  input_behind true (file ∷ texts) layouts is = ap (λ (read : Result Layouts (List ℕ)). answer_under read (answer_to_both answer (get_or texts 0 []) (get_or texts 1 []))) is
+  -- under the layouts that are read
+  pub input_under : (layout : Option (List ℕ)) (texts : List (List ℕ)) (layouts : Layouts) → layouts_for layout ≡ Ok layouts
+      → input_answer layout answer texts ≡ answer_to_both answer (get_or texts 0 []) (get_or texts 1 []) layouts
+  input_under layout texts layouts is = ap (λ (read : Result Layouts (List ℕ)). answer_under read (answer_to_both answer (get_or texts 0 []) (get_or texts 1 []))) is

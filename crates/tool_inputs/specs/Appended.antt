@@ -1,5 +1,5 @@
 -- What a run of a task appends to standard output.
-use Rattle.std.specs.Prelude.{ℕ, List}
+use Rattle.std.specs.Prelude.{ℕ, List, [], drop, get_or, Option, None, Some}
 use Rattle.std.specs.Io.KnownBytes.{Appends}
 use Rattle.tool_run.specs.Loads.{AreTextsOf}
 use Rattle.tool_run.specs.Runs.{Outside, Scene}
@@ -11,3 +11,9 @@ abbrev pub AppendsFor : {F I O E : Type 0} → Outside F I O E → (List (List �
 AppendsFor by P task old new =
     (bytes : List ℕ) × Appends (by.held old.output) (by.held new.output) bytes
     × ((texts : List (List ℕ)) × AreTextsOf (by.contents old.files) (by.left old.input) task.needs texts × P texts bytes)
+
+-- P holds of a layout file, if one is named, of the other texts, and of bytes. The texts are those of all needs of a `layout_task`, so the
+-- first of them is the layout file if one is named.
+abbrev pub UnderLayout : Option (List ℕ) → (Option (List ℕ) → List (List ℕ) → List ℕ → Type 0) → List (List ℕ) → List ℕ → Type 0
+UnderLayout None P texts bytes = P None texts bytes
+UnderLayout (Some file) P texts bytes = P (Some (get_or texts 0 [])) (drop 1 texts) bytes

@@ -1,5 +1,5 @@
 -- A chip database and an image that a tool takes in pieces, and its answer for them.
-use Rattle.std.specs.Prelude.{◌≡◌, ℕ, Bool, List, [], ◌∷◌, get_or, Result, Ok, Err}
+use Rattle.std.specs.Prelude.{◌≡◌, ℕ, List, [], ◌∷◌, get_or, Option, Result, Ok, Err}
 use Rattle.layout_file.specs.declared.layouts.Layouts.{Layouts}
 use Rattle.ice_image.specs.Configuration.{Configuration}
 use Rattle.chipdb_reader.specs.Database.{Database}
@@ -9,7 +9,7 @@ use Rattle.tool_run.specs.Collected.{Collects}
 use Rattle.tool_run.specs.declared.collected.Collected.{Collected}
 use Rattle.tool_inputs.specs.Databases.{database_read}
 use Rattle.tool_inputs.specs.Images.{image_read}
-use Rattle.tool_inputs.specs.Layouts.{answer_under, behind_layout, layouts_for}
+use Rattle.tool_inputs.specs.Layouts.{answer_under, layouts_for}
 use Rattle.tool_inputs.specs.declared.design_input.NextText.{NextText}
 use Rattle.tool_inputs.specs.declared.design_input.NextText.TheVariants as next
 use Rattle.tool_inputs.specs.declared.design_input.DesignInput.{DesignInput}
@@ -26,11 +26,9 @@ answer_of_both (Ok db) (Ok image) answer = answer db image
 abbrev pub answer_to_both : (Database → Configuration → Answer) → List ℕ → List ℕ → Layouts → Answer
 answer_to_both answer db image layouts = answer_of_both (database_read db) (image_read layouts image) answer
 
--- the answer for the texts of a tool: the layout file if it is named, then the database, then the image
-abbrev pub input_answer : Bool → (Database → Configuration → Answer) → List (List ℕ) → Answer
-input_answer named answer texts =
-    answer_under (layouts_for named texts)
-    (answer_to_both answer (get_or texts (behind_layout named 0) []) (get_or texts (behind_layout named 1) []))
+-- the answer for the layout file of a tool, if one is named, and for its texts: the database, then the image
+abbrev pub input_answer : Option (List ℕ) → (Database → Configuration → Answer) → List (List ℕ) → Answer
+input_answer layout answer texts = answer_under (layouts_for layout) (answer_to_both answer (get_or texts 0 []) (get_or texts 1 []))
 
 -- ---- what was taken
 
@@ -41,9 +39,9 @@ HasTexts texts bytes db image next.Image = (text : List ℕ) × (texts ≡ text 
 HasTexts texts bytes db image next.Other =
     (text : List ℕ) × (other : List ℕ) × (others : List (List ℕ)) × (texts ≡ text ∷ other ∷ others) × StandsFor text db × Collects other image
 
--- the input has taken these texts and bytes, and has these layouts
-abbrev pub TakesInput : Layouts → List (List ℕ) → DesignInput → List ℕ → Type 0
-TakesInput layouts texts input bytes = (input.layouts ≡ layouts) × HasTexts texts bytes input.db input.image input.next
+-- the input has the layouts of this layout file, if one is named, and has taken these texts and bytes
+abbrev pub TakesInput : Option (List ℕ) → List (List ℕ) → DesignInput → List ℕ → Type 0
+TakesInput layout texts input bytes = (layouts_for layout ≡ Ok input.layouts) × HasTexts texts bytes input.db input.image input.next
 
 -- how many bytes of the database were taken, while it is taken; 0 after that
 abbrev pub fed_of_next : NextText → Intake → ℕ

@@ -1,6 +1,5 @@
 -- Layouts for a tool that takes `--layout FILE`.
-use Rattle.std.specs.Prelude.{◌≡◌, ℕ, ◌+◌, Bool, true, false, List, [], ◌∷◌, ◌++◌, codes, decimal, get_or, if◌then◌else◌, Option, None, Some, Result, Ok, Err}
-use Rattle.clap.specs.Words.{Text}
+use Rattle.std.specs.Prelude.{◌≡◌, ℕ, List, ◌++◌, codes, decimal, Option, None, Some, Result, Ok, Err}
 use Rattle.layout_file.specs.declared.fault.LayoutCause.{LayoutCause}
 use Rattle.layout_file.specs.declared.fault.LayoutCause.TheVariants.{Statement, Device, Repeated, Width, Place}
 use Rattle.layout_file.specs.declared.fault.LayoutFault.{LayoutFault}
@@ -8,23 +7,9 @@ use Rattle.layout_file.specs.declared.layouts.Layouts.{Layouts}
 use Rattle.layout_file.specs.Faults.{layout_fault_of}
 use Rattle.layout_file.specs.Layouts.{layouts_in, standard_layouts}
 use Rattle.tool_run.specs.Lines.{refusal_text}
-use Rattle.tool_run.specs.Needs.{Need}
 use Rattle.tool_run.specs.Tasks.{Answer, Refused as Refuses}
 use Rattle.tool_run.specs.declared.tool.Stop.{Stop}
 use Rattle.tool_run.specs.declared.tool.Stop.TheVariants.{Refused, UsageError, Memory}
-
--- the most bytes that a layout file may have
-abbrev pub layout_limit : ℕ
-layout_limit = 65536
-
--- the needs with the layout file before them, if one is named
-abbrev pub with_layout : Option Text → List Need → List Need
-with_layout None needs = needs
-with_layout (Some file) needs = record { name = Some file; limit = layout_limit } ∷ needs
-
--- the index of a load, by its index without the layout file
-abbrev pub behind_layout : Bool → ℕ → ℕ
-behind_layout named place = if named then place + 1 else place
 
 -- the word for a cause
 abbrev pub layout_cause_text : LayoutCause → List ℕ
@@ -45,10 +30,10 @@ layouts_with layouts (Some fault) = Err (layout_fault_text fault)
 unfoldable pub layouts_read : List ℕ → Result Layouts (List ℕ)
 layouts_read bytes = layouts_with (layouts_in bytes) (layout_fault_of bytes)
 
--- the layouts for a tool: those of the layout file, which it loaded first, if one is named, and else the standard layouts
-abbrev pub layouts_for : Bool → List (List ℕ) → Result Layouts (List ℕ)
-layouts_for false texts = Ok standard_layouts
-layouts_for true texts = layouts_read (get_or texts 0 [])
+-- the layouts for a tool: those of the layout file if one is named, and else the standard layouts
+abbrev pub layouts_for : Option (List ℕ) → Result Layouts (List ℕ)
+layouts_for None = Ok standard_layouts
+layouts_for (Some bytes) = layouts_read bytes
 
 -- the answer of a tool under layouts; a faulty layout file is refused before anything else is read
 abbrev pub answer_under : Result Layouts (List ℕ) → (Layouts → Answer) → Answer

@@ -1,8 +1,6 @@
 pub mod Commands
 pub mod Faults
 pub mod Layouts
-pub mod Reading
-pub mod Taking
 pub mod Databases
 pub mod Images
 pub mod DesignInput

@@ -1,19 +1,21 @@
 // The input of a tool that works on a chip database and an image.
-ghost use Rattle.std.specs.Prelude.{◌≡◌, ◌++◌, ◌∷◌, [], ◌+◌, ◌<◌, ◌≤◌, ◌^◌, ℕ, Bool, List, Ok, IfOk, IfErr, length};
-ghost use Rattle.layout_file.specs.declared.layouts.Layouts.{Layouts};
+ghost use Rattle.std.specs.Prelude.{◌≡◌, ◌++◌, ◌∷◌, [], ◌+◌, ◌<◌, ◌≤◌, ◌^◌, ℕ, List, Ok, Option, IfOk, IfErr, length};
+ghost use Rattle.ice_io.specs.Takers.{TakesMore};
 ghost use Rattle.layout_file.specs.Layouts.{AreLayouts};
 ghost use Rattle.ice_image.specs.Configuration.{Configuration};
 ghost use Rattle.ice_image.specs.Either.{configuration_of};
 ghost use Rattle.chipdb_reader.specs.Database.{Database};
 ghost use Rattle.chipdb_reader.specs.Kept.{database_in};
 ghost use Rattle.tool_run.specs.Collected.{Collects};
+ghost use Rattle.tool_run.specs.Needs.{text_of};
 ghost use Rattle.tool_run.specs.Stops.{StopsWith};
 ghost use Rattle.tool_run.specs.Tasks.{Answer};
 ghost use Rattle.tool_inputs.specs.Images.{image_read, StopsImage};
+ghost use Rattle.tool_inputs.specs.Layouts.{layouts_for, StopsLayouts};
 
 use crate::database::finish_database;
 use crate::image::read_image;
-use crate::taking::{Taking, TextTaker};
+use crate::layouts::layouts_for;
 use chipdb_reader::{ChipDb, DbReader};
 use ice_image::AnyImage;
 use layout_file::Layouts;
@@ -40,23 +42,37 @@ pub struct DesignInput {
     ghost laid: { AreLayouts layouts },
 }
 
-impl TextTaker for DesignInput {
-    ghost use Rattle.tool_inputs.specs.DesignInput.{TakesInput, fed_input};
+impl DesignInput {
+    ghost use Rattle.tool_inputs.specs.DesignInput.{TakesInput, fed_input, input_answer};
 
-    ghost takes = { TakesInput };
-
-    ghost fed = { fed_input };
-
-    fn under(alloc: Global, layouts: Layouts) -> DesignInput {
-        DesignInput {
-            layouts,
-            db: DbReader::new(alloc),
-            image: Collected::new(alloc),
-            next: NextText::Database,
+    /// Nothing is taken yet. The image is read under the layouts of the layout file if one is named, and else under the standard layouts.
+    ///
+    /// # Errors
+    /// `Stop::Refused` with the first faulty line of the layout file, and for no other cause.
+    pub fn begin(alloc: Global, layout: Option<&[u8]>) -> Result<DesignInput, Stop<'static>>
+        ensures taken { IfOk result (λ input. TakesInput (text_of layout.entry) [] input []) }
+        ensures none { IfOk result (λ input. fed_input input ≡ 0) }
+        ensures refused { IfErr result (StopsLayouts (layouts_for (text_of layout.entry))) }
+        ensures stops { IfErr result (λ stop. (texts : List (List ℕ)) (answer : Database → Configuration → Answer)
+            → StopsWith (input_answer (text_of layout.entry) answer texts) stop) }
+    {
+        match layouts_for(layout) {
+            Ok(layouts) => Ok(DesignInput {
+                layouts,
+                db: DbReader::new(alloc),
+                image: Collected::new(alloc),
+                next: NextText::Database,
+            }),
+            Err(stop) => Err(stop),
         }
     }
 
-    fn feed(&mut self, piece: &[u8]) {
+    /// Takes the next piece of a text.
+    pub fn feed(&mut self, piece: &[u8])
+        requires few { fed_input self.old + length piece.now < 2 ^ 32 }
+        ensures taken { (layout : Option (List ℕ)) → TakesMore (TakesInput layout) self.old self.new piece.now }
+        ensures bound { fed_input self.new ≤ fed_input self.old + length piece.now }
+    {
         match self.next {
             NextText::Database => {
                 // If memory was out, the reader remembers that, and tells it at the end.
@@ -67,47 +83,28 @@ impl TextTaker for DesignInput {
         }
     }
 
-    fn close(&mut self) {
+    /// Ends the text that was taken last.
+    pub fn close(&mut self)
+        ensures closed { (layout : Option (List ℕ)) (texts : List (List ℕ)) (bytes : List ℕ) → TakesInput layout texts self.old bytes
+            → TakesInput layout (texts ++ bytes ∷ []) self.new [] }
+        ensures none { fed_input self.new ≡ 0 }
+    {
         match self.next {
             NextText::Database => self.next = NextText::Image,
             NextText::Image => self.next = NextText::Other,
             NextText::Other => {}
         }
     }
-}
-
-impl DesignInput {
-    ghost use Rattle.tool_inputs.specs.DesignInput.{TakesInput, answer_to_both, input_answer};
-    ghost use Rattle.tool_inputs.specs.Taking.{IsTaking};
-    ghost use Rattle.std.specs.Prelude.{get_or};
 
     /// The database and the image, after all texts were taken.
     ///
     /// # Errors
-    /// `Stop::Refused` with the first fault, of the layout file, else of the database, else of the image. `Stop::Memory` if memory is out.
-    pub fn read(
-        alloc: Global,
-        taking: Taking<DesignInput>,
-    ) -> Result<(ChipDb, AnyImage), Stop<'static>>
-        ensures read { IfOk result (λ read. (named : Bool) (texts : List (List ℕ)) (answer : Database → Configuration → Answer)
-            → IsTaking TakesInput named texts [] taking
-            → input_answer named answer texts ≡ answer (database_in read.0) (configuration_of read.1)) }
-        ensures stops { IfErr result (λ stop. (named : Bool) (texts : List (List ℕ)) (answer : Database → Configuration → Answer)
-            → IsTaking TakesInput named texts [] taking → StopsWith (input_answer named answer texts) stop) }
-    {
-        match taking.finish(alloc) {
-            Ok(input) => input.read_both(alloc),
-            Err(stop) => Err(stop),
-        }
-    }
-
-    // The database and the image, after the layout file was read. A fault of the database goes before one of the image.
-    fn read_both(self, alloc: Global) -> Result<(ChipDb, AnyImage), Stop<'static>>
-        ensures read { IfOk result (λ read. (layouts : Layouts) (texts : List (List ℕ)) (answer : Database → Configuration → Answer)
-            → TakesInput layouts texts self []
-            → answer_to_both answer (get_or texts 0 []) (get_or texts 1 []) layouts ≡ answer (database_in read.0) (configuration_of read.1)) }
-        ensures stops { IfErr result (λ stop. (layouts : Layouts) (texts : List (List ℕ)) (answer : Database → Configuration → Answer)
-            → TakesInput layouts texts self [] → StopsWith (answer_to_both answer (get_or texts 0 []) (get_or texts 1 []) layouts) stop) }
+    /// `Stop::Refused` with the first fault, of the database, else of the image. `Stop::Memory` if memory is out.
+    pub fn read(self, alloc: Global) -> Result<(ChipDb, AnyImage), Stop<'static>>
+        ensures read { IfOk result (λ read. (layout : Option (List ℕ)) (texts : List (List ℕ)) (answer : Database → Configuration → Answer)
+            → TakesInput layout texts self [] → input_answer layout answer texts ≡ answer (database_in read.0) (configuration_of read.1)) }
+        ensures stops { IfErr result (λ stop. (layout : Option (List ℕ)) (texts : List (List ℕ)) (answer : Database → Configuration → Answer)
+            → TakesInput layout texts self [] → StopsWith (input_answer layout answer texts) stop) }
     {
         let db = finish_database(self.db)?;
         let image = collected_image(alloc, &self.image, self.layouts)?;

@@ -6,7 +6,7 @@
 //! what these functions do, on the arguments alone: `command` is the command, `is_taken` is whether the arguments are taken, and
 //! `has_flag`, `first_of` and `values_of` are what was found.
 //!
-//! A tool that takes `--layout FILE` loads that file before the others. All tools that read a database or an image read it in one way, and
+//! A tool that takes `--layout FILE` gets its layouts by `layouts_for`. All tools that read a database or an image read it in one way, and
 //! report its faults with the same messages.
 #![tactic(auto)]
 
@@ -18,7 +18,6 @@ mod image;
 mod layouts;
 mod refusals;
 mod running;
-mod taking;
 
 pub use commands::{
     flag, has_flag, long_flag, long_option, parse, positional, required, several, short_option,
@@ -28,7 +27,6 @@ pub use database::{DB_LIMIT, read_database};
 pub use design_input::DesignInput;
 pub use faults::{asc_refusal, bin_cause, bin_refusal};
 pub use image::{IMAGE_LIMIT, read_image};
-pub use layouts::{LAYOUT_LIMIT, behind_layout, layouts_for, with_layout};
+pub use layouts::layouts_for;
 pub use refusals::{refusal, whole};
 pub use running::{CommandLine, Words, run_tool};
-pub use taking::{Taking, TextTaker};

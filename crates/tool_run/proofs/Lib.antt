@@ -4,6 +4,8 @@ mod Deliveries
 mod Pieces
 -- what a load gives, and why it stops
 mod Loading
+-- a layout file that is read before other needs
+mod AfterLayout
 -- what is loaded and reached of needs that have texts, where these are told
 mod Reaching
 -- from loading and delivering to what a run does

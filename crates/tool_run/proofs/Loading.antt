@@ -90,7 +90,7 @@ texts-append contents left (need ∷ needs) others [] more are rest = absurd are
 texts-append contents left (need ∷ needs) others (bytes ∷ texts) more are rest = (are.0, texts-append contents left needs others texts more are.1 rest)
 
 -- a count that rose since later rose since earlier
-SourceRose-earlier : (need : Need) (loads earlier_loads new_loads inputs new_inputs : ℕ) → earlier_loads ≤ loads → SourceRose need loads new_loads inputs new_inputs → SourceRose need earlier_loads new_loads inputs new_inputs
+pub SourceRose-earlier : (need : Need) (loads earlier_loads new_loads inputs new_inputs : ℕ) → earlier_loads ≤ loads → SourceRose need loads new_loads inputs new_inputs → SourceRose need earlier_loads new_loads inputs new_inputs
 SourceRose-earlier need loads earlier_loads new_loads inputs new_inputs le rose = by_name need.name rose
   where
     by_name : (name : Option (List ℕ)) → MatchOption name (Rose inputs new_inputs) (λ n. Rose loads new_loads) → MatchOption name (Rose inputs new_inputs) (λ n. Rose earlier_loads new_loads)

@@ -11,6 +11,7 @@ use Rattle.tool_run.specs.Effects.{Foretells, SourceRose, Tells}
 use Rattle.tool_run.specs.Loads.{AreTextsOf, FailsToLoad, IsReached}
 use Rattle.tool_run.specs.Stops.{StopsWith}
 use Rattle.tool_run.specs.Answering.{Gives}
+use Rattle.tool_run.specs.Intakes.{TakesOrStops}
 use Rattle.tool_run.specs.declared.tool.Stop.{Stop}
 use Rattle.tool_run.specs.Jobs.{RefusesWith}
 use Rattle.tool_run.specs.Runs.{HasBytes, IsRefusal, IsStatusFor}
@@ -106,13 +107,11 @@ pub gives_of : {M : Type 0} (bytes : M → List ℕ) (made : Result M Stop) (ans
 gives_of bytes (Ok content) answer done stops = done
 gives_of bytes (Err stop) answer done stops = stops
 
--- and so where they are made of texts that were taken
-pub gives_taken : {M : Type 0} (bytes : M → List ℕ) (made : Result M Stop) (answer : List (List ℕ) → Answer) (takes : List (List ℕ) → Type 0) (texts : List (List ℕ))
-    → IfOk made (λ content. (taken : List (List ℕ)) → takes taken → answer taken ≡ Done (bytes content))
-    → IfErr made (λ stop. (taken : List (List ℕ)) → takes taken → StopsWith (answer taken) stop)
-    → takes texts → Gives bytes (answer texts) made
-gives_taken bytes (Ok content) answer takes texts done stops has = done texts has
-gives_taken bytes (Err stop) answer takes texts done stops has = stops texts has
+-- what an intake has taken at first, or why there is none
+pub begun : {I : Type 0} (takes : I → List ℕ → Type 0) (answer : List (List ℕ) → Answer) (result : Result I Stop) → IfOk result (λ intake. takes intake [])
+    → IfErr result (λ stop. (texts : List (List ℕ)) → StopsWith (answer texts) stop) → TakesOrStops takes answer result []
+begun takes answer (Ok intake) taken stops = taken
+begun takes answer (Err stop) taken stops = stops
 
 pub refuses : (task : Task) (needs : List Need) (answer : Answer) (status : ℕ) (said : List ℕ) (S : List ℕ → Type 0) → RefusesWith answer status said → S (line_of task.tool_name said)
     → ((answered task needs answer).status ≡ status) × S (answered task needs answer).message

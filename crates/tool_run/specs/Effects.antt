@@ -1,4 +1,4 @@
--- What a run does to the files and the streams, where these tell what they hold.
+-- What a run does to the files and the streams, if these tell what they hold.
 use Rattle.std.specs.Prelude.{◌≡◌, ◌⊎◌, ℕ, true, List, Option, None, Some, MatchOption, take}
 use Rattle.std.specs.Io.KnownBytes.{Appends}
 use Rattle.ice_io.specs.Faults.{Rose}
@@ -36,7 +36,7 @@ pub record Tells (o : Outcome) (contents : Option FileMap) (left : Option (List 
   pub files_told : o.reads_files ≡ true → contents ≡ Some files
   pub input_told : o.reads_input ≡ true → left ≡ Some input
 
--- where files and input are told as far as the outcome reads them, the outcome has P
+-- if files and input are told as far as the outcome reads them, the outcome has P
 abbrev pub Foretells : Task → Option FileMap → Option (List ℕ) → (Outcome → Type 0) → Type 0
 Foretells task contents left P =
     (files : FileMap) (input : List ℕ) → Tells (outcome_of task files input) contents left files input → P (outcome_of task files input)

@@ -1,10 +1,10 @@
 -- The task of a job, and how a tool refuses.
-use Rattle.std.specs.Prelude.{◌≡◌, ℕ, List, map}
+use Rattle.std.specs.Prelude.{◌≡◌, ℕ, List, Option, map}
 use Rattle.tool_run.specs.Needs.{need_of, text_of}
-use Rattle.tool_run.specs.Tasks.{Answer, Done, UsageError, Refused, Task}
+use Rattle.tool_run.specs.Tasks.{Answer, Done, UsageError, Refused, Task, layout_task}
 use Rattle.tool_run.specs.declared.performing.Job.{Job}
 
--- the task of a job, where this is made of what was read
+-- the task of a job, if this is made of what was read
 abbrev pub task_of : Job → (List (List ℕ) → Answer) → Task
 task_of job answer = record {
   tool_name = job.tool_name.now;
@@ -12,6 +12,10 @@ task_of job answer = record {
   target = text_of job.target;
   answer = answer;
 }
+
+-- the task of a job under a layout file, if one is named
+abbrev pub task_under : Option (List ℕ) → Job → (Option (List ℕ) → List (List ℕ) → Answer) → Task
+task_under layout job answer = layout_task job.tool_name.now layout (map need_of job.loads.now) (text_of job.target) answer
 
 -- the answer refuses with this status and text
 abbrev pub RefusesWith : Answer → ℕ → List ℕ → Type 0

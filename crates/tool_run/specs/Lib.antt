@@ -5,6 +5,7 @@ pub mod Effects
 pub mod Loads
 pub mod Keeping
 pub mod Stops
+pub mod Intakes
 pub mod Answering
 pub mod Concluding
 pub mod Jobs

@@ -25,7 +25,7 @@ number_text (number.Decimal n) = decimal n
 number_text (number.Hexadecimal n) = four_digits n
 number_text (number.Binary n) = six_digits n
 
--- a text, and the number behind it
+-- a text, and the number after it
 abbrev pub phrase_text : Phrase → List ℕ
 phrase_text phrase = phrase.text.now ++ number_text phrase.number
 
@@ -75,6 +75,6 @@ write_failed target = codes "write failed: " ++ target_name target
 abbrev pub out_of_memory : List ℕ
 out_of_memory = codes "out of memory"
 
--- what is said where the command line isn't taken
+-- what is said if the command line isn't taken
 abbrev pub usage_text : List ℕ → List ℕ
 usage_text usage = codes "usage: " ++ usage

@@ -7,17 +7,17 @@ use Rattle.tool_run.specs.Effects.{SourceRose}
 use Rattle.tool_run.specs.declared.load.LoadStop.{LoadStop}
 use Rattle.tool_run.specs.declared.load.LoadStop.TheVariants.{Failed, TooLong, Memory}
 
--- where standard input is told, it has these bytes
+-- if standard input is told, it has these bytes
 abbrev pub HasInput : Option (List ℕ) → List ℕ → Type 0
 HasInput None bytes = ⊤
 HasInput (Some input) bytes = input ≡ bytes
 
--- where it is told, standard input has these bytes, or the file of that name
+-- if it is told, standard input has these bytes, or the file of that name
 abbrev pub SourceHas : Option FileMap → Option (List ℕ) → Option (List ℕ) → List ℕ → Type 0
 SourceHas contents left None bytes = HasInput left bytes
 SourceHas contents left (Some name) bytes = HasFile contents name bytes
 
--- bytes that a need may have: no more than its limit, and those that are told where they are told
+-- bytes that a need may have: no more than its limit, and those that are told if they are told
 abbrev pub IsTextOf : Option FileMap → Option (List ℕ) → Need → List ℕ → Type 0
 IsTextOf contents left need bytes = (length bytes ≤ need.limit) × SourceHas contents left need.name bytes
 
@@ -33,7 +33,7 @@ pub record Reaches (contents : Option FileMap) (left : Option (List ℕ)) (needs
   pub order : needs ≡ before ++ need ∷ behind
   pub read : AreTextsOf contents left before texts
 
--- a need failed to be read: it was reached, the count of its side rose, and over steady files there is no such file. Where it is
+-- a need failed to be read: it was reached, the count of its side rose, and over steady files there is no such file. If it is
 -- a file, standard input wasn't tried
 pub record FailsToLoad {I : Type 0} (contents : Option FileMap) (steady : Bool) (left : I → Option (List ℕ)) (input_faults : I → ℕ) (needs : List Need) (load_faults new_load_faults : ℕ) (input new_input : I) (need : Need) : Type 0 where
   pub reached : Reaches contents (left input) needs need
@@ -41,7 +41,7 @@ pub record FailsToLoad {I : Type 0} (contents : Option FileMap) (steady : Bool) 
   pub lacks : steady ≡ true → MatchOption need.name (Unit {0}) (λ name. LacksFile contents name)
   pub untried : is_stream need.name ≡ false → new_input ≡ input
 
--- a need passes its limit: it was reached, and has more bytes. Where it is a file, standard input wasn't tried
+-- a need passes its limit: it was reached, and has more bytes. If it is a file, standard input wasn't tried
 pub record PassesLimit {I : Type 0} (contents : Option FileMap) (left : I → Option (List ℕ)) (needs : List Need) (input new_input : I) (need : Need) : Type 0 where
   pub reached : Reaches contents (left input) needs need
   pub longer : (bytes : List ℕ) × SourceHas contents (left input) need.name bytes × (need.limit < length bytes)

@@ -1,21 +1,34 @@
 -- What a tool reads before it starts.
-use Rattle.std.specs.Prelude.{ℕ, ◌+◌, ◌^◌, ◌<◌, Bool, true, false, not, List, Option, None, Some, IsSome, All, length, slice_get}
+use Rattle.std.specs.Prelude.{ℕ, ◌+◌, ◌^◌, ◌<◌, ◌∷◌, Bool, true, false, not, List, Option, None, Some, IsSome, All, length, slice_get}
 use Rattle.std.specs.List.{list_any}
 use Rattle.std.specs.Borrow.{Bor}
 use Rattle.tool_run.specs.declared.load.Load.{Load}
 
--- bytes that a tool reads: those of a file, or of standard input where there is no name, and at most so many
+-- bytes that a tool reads: those of a file, or of standard input if there is no name, and at most so many
 pub record Need : Type 0 where
   pub name : Option (List ℕ)
   pub limit : ℕ
 
--- the bytes of a text, where there is one
+-- the bytes of a text, if there is one
 abbrev pub text_of : Option (Bor (List ℕ)) → Option (List ℕ)
 text_of None = None
 text_of (Some text) = Some text.now
 
 abbrev pub need_of : Load → Need
 need_of load = record { name = text_of load.name; limit = load.limit }
+
+-- the most bytes of a layout file
+abbrev pub layout_limit : ℕ
+layout_limit = 65536
+
+-- a layout file, as a need
+abbrev pub layout_need : List ℕ → Need
+layout_need file = record { name = Some file; limit = layout_limit }
+
+-- a layout file, if one is named, is read before all else
+abbrev pub with_layout : Option (List ℕ) → List Need → List Need
+with_layout None needs = needs
+with_layout (Some file) needs = layout_need file ∷ needs
 
 -- standard input, and no file
 abbrev pub is_stream : Option (List ℕ) → Bool

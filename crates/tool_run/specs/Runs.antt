@@ -67,11 +67,11 @@ module _ {F I O E : Type 0} where
   abbrev pub Foresees : Outside F I O E → Task → Scene F I O E → (Outcome → Type 0) → Type 0
   Foresees by task old P = Foretells task (by.contents old.files) (by.left old.input) P
 
-  -- the task makes this answer of texts that its needs may have: one for each, within its limit, and the told ones where they are told
+  -- the task makes this answer of texts that its needs may have: one for each, within its limit, and the told ones if they are told
   abbrev pub Makes : Outside F I O E → Task → Scene F I O E → Answer → Type 0
   Makes by task old answer = (texts : List (List ℕ)) × AreTextsOf (by.contents old.files) (by.left old.input) task.needs texts × (task.answer texts ≡ answer)
 
-  -- a need of the task failed to be read, and its line is written. It is standard input only where the outcome reads it
+  -- a need of the task failed to be read, and its line is written. It is standard input only if the outcome reads it
   pub record FailsToRead (by : Outside F I O E) (task : Task) (old new : Scene F I O E) (need : Need) : Type 0 where
     pub fails : FailsToLoad (by.contents old.files) (by.steady old.files) by.left by.input_faults task.needs (by.load_faults old.files) (by.load_faults new.files) old.input new.input need
     pub line : Says by old new (line_of task.tool_name (read_failed need))

@@ -1,8 +1,8 @@
--- What a command line asks for, done on files and on an input that are known, where nothing fails from outside.
-use Rattle.std.specs.Prelude.{ℕ, Bool, false, bytes_eq, codes, List, [], ◌∷◌, length, nat_lt, if◌then◌else◌, Option, None, Some, Result, Ok, Err}
+-- What a command line asks for, done on files and on an input that are known, if nothing fails from outside.
+use Rattle.std.specs.Prelude.{ℕ, Bool, false, bytes_eq, codes, List, [], ◌∷◌, drop, get_or, length, nat_lt, if◌then◌else◌, Option, None, Some, Result, Ok, Err}
 use Rattle.std.specs.FinMap.{get}
 use Rattle.ice_io.specs.Files.{FileMap}
-use Rattle.tool_run.specs.Needs.{Need, reads_files, reads_input}
+use Rattle.tool_run.specs.Needs.{Need, reads_files, reads_input, with_layout}
 use Rattle.tool_run.specs.Lines.{line_of, read_failed, too_long, usage_text}
 
 -- what a tool makes of what it read: the bytes for its target, or why it refuses, or that the command line isn't taken
@@ -18,6 +18,20 @@ pub record Task : Type 0 where
   pub target : Option (List ℕ)
   pub answer : List (List ℕ) → Answer
 
+-- an answer to the texts of all needs, the first of which is a layout file if one is named
+abbrev pub layout_first : Option (List ℕ) → (Option (List ℕ) → List (List ℕ) → Answer) → List (List ℕ) → Answer
+layout_first None answer = answer None
+layout_first (Some file) answer = λ texts. answer (Some (get_or texts 0 [])) (drop 1 texts)
+
+-- a task that reads a layout file before its other needs, if one is named
+abbrev pub layout_task : List ℕ → Option (List ℕ) → List Need → Option (List ℕ) → (Option (List ℕ) → List (List ℕ) → Answer) → Task
+layout_task tool_name layout needs target answer = record {
+  tool_name = tool_name;
+  needs = with_layout layout needs;
+  target = target;
+  answer = layout_first layout answer;
+}
+
 -- a task that reads nothing
 abbrev pub at_once : List ℕ → Option (List ℕ) → Answer → Task
 at_once tool_name target answer = record { tool_name = tool_name; needs = []; target = target; answer = λ texts. answer }
@@ -26,14 +40,14 @@ at_once tool_name target answer = record { tool_name = tool_name; needs = []; ta
 abbrev pub usage_error : List ℕ → List ℕ → Task
 usage_error tool_name usage = at_once tool_name None (UsageError (usage_text usage))
 
--- whether a tool is asked for its help: by the word `--help` alone behind its name
+-- whether a tool is asked for its help: by the word `--help` alone after its name
 abbrev pub asks_for_help : List (List ℕ) → Bool
 asks_for_help [] = false
 asks_for_help (tool ∷ []) = false
 asks_for_help (tool ∷ word ∷ []) = bytes_eq word (codes "--help")
 asks_for_help (tool ∷ word ∷ next ∷ args) = false
 
--- the help of a tool where it is asked for, and else a task
+-- the help of a tool if it is asked for, and else a task
 abbrev pub helped : List ℕ → List ℕ → List (List ℕ) → Task → Task
 helped tool_name help args task = if asks_for_help args then at_once tool_name None (Done help) else task
 
@@ -60,12 +74,12 @@ bytes_by files input need (Some name) = found need (get files name)
 abbrev pub bytes_of : FileMap → List ℕ → Need → Result (List ℕ) LoadFault
 bytes_of files input need = bytes_by files input need need.name
 
--- bytes before others, where each of them could be read
+-- bytes before others, if each of them could be read
 abbrev pub with_first : List ℕ → Result (List (List ℕ)) LoadFault → Result (List (List ℕ)) LoadFault
 with_first first (Ok others) = Ok (first ∷ others)
 with_first first (Err fault) = Err fault
 
--- the first of several, and the others where it could be read
+-- the first of several, and the others if it could be read
 abbrev pub loaded_after : Result (List ℕ) LoadFault → Result (List (List ℕ)) LoadFault → Result (List (List ℕ)) LoadFault
 loaded_after (Ok first) others = with_first first others
 loaded_after (Err fault) others = Err fault
@@ -75,7 +89,7 @@ abbrev pub loaded : FileMap → List ℕ → List Need → Result (List (List �
 loaded files input [] = Ok []
 loaded files input (need ∷ needs) = loaded_after (bytes_of files input need) (loaded files input needs)
 
--- the others, where the first could be read
+-- the others, if the first could be read
 abbrev pub reached_after : Result (List ℕ) LoadFault → List Need → List Need
 reached_after (Ok first) others = others
 reached_after (Err fault) others = []

@@ -1,9 +1,11 @@
 // What a tool makes of its needs, loaded whole or taken in pieces.
-ghost use Rattle.std.specs.Prelude.{map};
-ghost use Rattle.tool_run.specs.Answering.{Answers};
-ghost use Rattle.tool_run.specs.Needs.{IsSound, need_of};
+ghost use Rattle.std.specs.Prelude.{[], ℕ, List, Option, map};
+ghost use Rattle.tool_run.specs.Answering.{Answers, Gives};
+ghost use Rattle.tool_run.specs.Intakes.{TakesOrStops};
+ghost use Rattle.tool_run.specs.Needs.{IsSound, need_of, text_of, with_layout};
+ghost use Rattle.tool_run.specs.Tasks.{layout_first};
 
-use crate::load::{Load, LoadStop, load_all};
+use crate::load::{Load, LoadStop, layout_load, load_all, load_one};
 use crate::piece_tool::PieceTool;
 use crate::tool::{Stop, Tool};
 use crate::tool_taker::ToolTaker;
@@ -29,24 +31,62 @@ pub(crate) fn answer_whole<'a, T: Tool, F: Files, I: Source>(
     }
 }
 
-/// Takes each need in pieces, and makes the tool's answer.
-pub(crate) fn answer_in_pieces<'a, T: PieceTool, F: Files, I: Source>(
+// What the tool makes of the texts that were taken, or why it has taken none.
+fn finished<'a, T: PieceTool>(
     alloc: Global,
     tool: &'a T,
+    intake: Result<T::Intake, Stop<'static>>,
+) -> Result<T::Made, Stop<'a>>
+    ensures { (layout : Option (List ℕ)) (texts : List (List ℕ)) → TakesOrStops (T.takes tool.now layout texts) (T.answer_of tool.now layout) intake.entry []
+        → Gives T.Made.bytes (T.answer_of tool.now layout texts) result }
+{
+    match intake {
+        Ok(intake) => tool.finish(alloc, intake),
+        Err(stop) => Err(stop),
+    }
+}
+
+/// Takes each need in pieces, under the bytes of a layout file, and makes the tool's answer.
+fn answer_taken<'a, T: PieceTool, F: Files, I: Source>(
+    alloc: Global,
+    tool: &'a T,
+    layout: Option<&[u8]>,
     loads: &[Load<'a>],
     files: &mut F,
     input: &mut I,
 ) -> Result<Result<T::Made, Stop<'a>>, LoadStop<'a>>
     requires { IsSound (map need_of loads.now) }
-    ensures { Answers F.contents F.steady F.load_faults F.store_faults I.left I.faults (map need_of loads.now) (T.answer_of tool.now) T.Made.bytes result
-        files.old files.new input.old input.new }
+    ensures { Answers F.contents F.steady F.load_faults F.store_faults I.left I.faults (map need_of loads.now) (T.answer_of tool.now (text_of layout.entry)) T.Made.bytes
+        result files.old files.new input.old input.new }
 {
-    let intake = tool.begin(alloc);
+    let intake = tool.begin(alloc, layout);
     let mut taker = ToolTaker { tool, intake };
     let taken = load_all(alloc, loads, files, input, &mut taker);
     let ToolTaker { tool: _, intake } = taker;
     match taken {
-        Ok(()) => Ok(tool.finish(alloc, intake)),
+        Ok(()) => Ok(finished(alloc, tool, intake)),
         Err(stop) => Err(stop),
+    }
+}
+
+/// Loads the layout file whole, if one is named, takes each need in pieces, and makes the tool's answer.
+pub(crate) fn answer_in_pieces<'a, T: PieceTool, F: Files, I: Source>(
+    alloc: Global,
+    tool: &'a T,
+    layout: Option<&'a str>,
+    loads: &[Load<'a>],
+    files: &mut F,
+    input: &mut I,
+) -> Result<Result<T::Made, Stop<'a>>, LoadStop<'a>>
+    requires { IsSound (map need_of loads.now) }
+    ensures { Answers F.contents F.steady F.load_faults F.store_faults I.left I.faults (with_layout (text_of layout.entry) (map need_of loads.now))
+        (layout_first (text_of layout.entry) (T.answer_of tool.now)) T.Made.bytes result files.old files.new input.old input.new }
+{
+    match layout {
+        None => answer_taken(alloc, tool, None, loads, files, input),
+        Some(name) => match load_one(alloc, layout_load(name), files, input) {
+            Ok(bytes) => answer_taken(alloc, tool, Some(&bytes), loads, files, input),
+            Err(stop) => Err(stop),
+        },
     }
 }

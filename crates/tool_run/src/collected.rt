@@ -6,7 +6,7 @@ use std::alloc::{AllocError, Global};
 /// A text that comes piece by piece, and is collected whole. That there was no memory for it is kept too, and told at the end.
 #[derive(Drop)]
 pub struct Collected {
-    // None where there was no memory.
+    // None if there was no memory.
     bytes: Option<Vec<u8>>,
 }
 
@@ -22,7 +22,7 @@ impl Collected {
         }
     }
 
-    /// Puts a piece behind those before.
+    /// Puts the next piece after those before.
     pub fn push(&mut self, piece: &[u8])
         ensures { (text : List ℕ) → Collects text self.old → Collects (text ++ piece.now) self.new }
     {
@@ -35,7 +35,10 @@ impl Collected {
         }
     }
 
-    /// The text, where there was memory for it.
+    /// The text.
+    ///
+    /// # Errors
+    /// `AllocError` if there was no memory for it.
     pub fn text(&self) -> Result<&[u8], AllocError>
         ensures { IfOk result (λ bytes. (text : List ℕ) → Collects text self.now → bytes.now ≡ text) }
     {

@@ -15,7 +15,7 @@ pub(crate) enum Undelivered {
     Memory,
 }
 
-/// Stores the bytes in the file, or writes them to standard output where there is none.
+/// Stores the bytes in the file, or writes them to standard output if none is named.
 pub(crate) fn deliver<C: Content, F: Files, O: Sink>(
     alloc: Global,
     target: Option<&str>,

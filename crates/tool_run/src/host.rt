@@ -1,8 +1,8 @@
 // What is outside a run.
 ghost use Rattle.std.specs.Prelude.{◌≡◌, None, map};
 ghost use Rattle.tool_run.specs.AtOnce.{at_once_answer};
-ghost use Rattle.tool_run.specs.Jobs.{task_of};
-ghost use Rattle.tool_run.specs.Needs.{IsSound, need_of};
+ghost use Rattle.tool_run.specs.Jobs.{task_of, task_under};
+ghost use Rattle.tool_run.specs.Needs.{IsSound, need_of, text_of};
 ghost use Rattle.tool_run.specs.Runs.{Does, Outside, Scene};
 ghost use Rattle.tool_run.specs.Tasks.{Task, at_once};
 
@@ -35,19 +35,25 @@ pub trait Host {
     ghost scene: { Self → Scene FilesSeen InputSeen OutputSeen ErrorsSeen };
 
     /// Loads what the job needs, in order, makes the tool's answer of it, and delivers that to the target. The tool refuses, if it
-    /// does, before the first byte goes out. The status is 0 where all was done, 1 where the tool refuses what it was given,
-    /// 2 where it doesn't take the command line, 3 where a read failed, 4 where a write failed, 5 where memory ran out, and 6
-    /// where an input has more bytes than its limit.
+    /// does, before the first byte goes out. The status is 0 if all was done, 1 if the tool refuses what it was given, 2 if it
+    /// doesn't take the command line, 3 if a read failed, 4 if a write failed, 5 if memory ran out, and 6 if an input has more bytes
+    /// than its limit.
     fn perform<T: Tool>(&mut self, alloc: Global, tool: &T, job: &Job<'_>) -> u8
         requires { IsSound (map need_of job.now.loads.now) }
         ensures { Does outside (task_of job.now (T.answer_of tool.now)) result (scene self.old) (scene self.new) };
 
     /// Performs the job as `perform` does, but the tool takes its loads in pieces, as they are read, and its answer is made while it
-    /// is written. The tool refuses, if it does, after its last load was read to the end and before the first byte goes out, so the
-    /// statuses are the same.
-    fn perform_in_pieces<T: PieceTool>(&mut self, alloc: Global, tool: &T, job: &Job<'_>) -> u8
+    /// is written. A layout file, if one is named, is loaded whole before the first of them. The tool refuses, if it does, after its
+    /// last load was read to the end and before the first byte goes out, so the statuses are the same.
+    fn perform_in_pieces<T: PieceTool>(
+        &mut self,
+        alloc: Global,
+        tool: &T,
+        layout: Option<&str>,
+        job: &Job<'_>,
+    ) -> u8
         requires { IsSound (map need_of job.now.loads.now) }
-        ensures { Does outside (task_of job.now (T.answer_of tool.now)) result (scene self.old) (scene self.new) };
+        ensures { Does outside (task_under (text_of layout.entry) job.now (T.answer_of tool.now)) result (scene self.old) (scene self.new) };
 
     /// Delivers an answer that is known from the command line alone.
     fn answer_at_once(&mut self, alloc: Global, tool_name: &'static str, answer: AtOnce) -> u8
@@ -94,10 +100,17 @@ impl<F: Files, I: Source, O: Sink, E: Sink> Host for FilesAndStreams<F, I, O, E>
         )
     }
 
-    fn perform_in_pieces<T: PieceTool>(&mut self, alloc: Global, tool: &T, job: &Job<'_>) -> u8 {
+    fn perform_in_pieces<T: PieceTool>(
+        &mut self,
+        alloc: Global,
+        tool: &T,
+        layout: Option<&str>,
+        job: &Job<'_>,
+    ) -> u8 {
         perform_in_pieces(
             alloc,
             tool,
+            layout,
             job,
             &mut self.files,
             &mut self.input,

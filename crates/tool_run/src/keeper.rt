@@ -20,7 +20,7 @@ pub(crate) trait Keeper {
     /// A keeper may keep a text.
     ghost is_ready: { Self → Type 0 };
 
-    /// Keeps the text of a need behind those before.
+    /// Keeps the text of the next need.
     fn keep_text<'a, F: Files, I: Source>(
         &mut self,
         alloc: Global,

@@ -1,10 +1,10 @@
 //! What every tool does in the same way: it loads what it needs, in order and within limits, makes its answer, delivers
 //! that to a file or to standard output, and tells a failure in one line on standard error.
 //!
-//! A `Tool` makes its answer of all that it loaded. A `PieceTool` takes its needs in pieces. Either may make the bytes of its answer
-//! while they are written; it refuses before the first of them goes out.
+//! A `Tool` makes its answer of all that it loaded. A `PieceTool` takes its needs in pieces, under a layout file if one is named. Either
+//! may make the bytes of its answer while they are written; it refuses before the first of them goes out.
 //!
-//! `Task` (in `specs/Tasks.antt`) says what a command line asks for, and `outcome_of` what comes of it where nothing fails
+//! `Task` (in `specs/Tasks.antt`) says what a command line asks for, and `outcome_of` what comes of it if nothing fails
 //! from outside. `Does` (in `specs/Runs.antt`) says what a run of a task does to files and streams, by its status, whether or not
 //! these tell what they hold. Each function here that answers a status has it as its one clause.
 #![tactic(auto)]

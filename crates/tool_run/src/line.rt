@@ -22,14 +22,14 @@ pub enum Number {
     Binary(u8),
 }
 
-/// A text of a line, and the number behind it.
+/// A text of a line, and the number after it.
 #[derive(Clone, Copy, Debug, PartialEq, Eq)]
 pub struct Phrase<'a> {
     pub text: &'a str,
     pub number: Number,
 }
 
-/// Why a tool refuses what it was given: the phrases of the line behind the tool's name.
+/// Why a tool refuses what it was given: the phrases of the line after the tool's name.
 #[derive(Clone, Copy, Debug, PartialEq, Eq)]
 pub struct Refusal<'a> {
     pub first: Phrase<'a>,
@@ -159,7 +159,7 @@ pub(crate) fn write_refusal<'a, E: Sink>(errors: &mut E, tool_name: &'a str, ref
     write_parts(errors, &parts);
 }
 
-/// Writes the line of a tool_name: a text, a name, and a phrase behind it.
+/// Writes the line of a tool_name: a text, a name, and a phrase after it.
 pub(crate) fn write_named<'a, E: Sink>(
     errors: &mut E,
     tool_name: &'a str,

@@ -3,7 +3,7 @@ ghost use Rattle.std.specs.Prelude.{◌≡◌, ◌∷◌, [], ◌+◌, ◌++◌,
 ghost use Rattle.std.specs.declared.alloc.AllocError.{AllocError};
 ghost use Rattle.std.specs.Io.KnownBytes.{IsAtEnd};
 ghost use Rattle.ice_io.specs.Takers.{TakesMore};
-ghost use Rattle.tool_run.specs.Needs.{IsSound, is_stream, need_of, reads_files, reads_input};
+ghost use Rattle.tool_run.specs.Needs.{IsSound, is_stream, layout_need, need_of, reads_files, reads_input};
 ghost use Rattle.tool_run.specs.Keeping.{KeepsTexts};
 ghost use Rattle.tool_run.specs.Loads.{AreTextsOf, IsReached, IsTextOf, StopsLoading};
 
@@ -11,12 +11,25 @@ use crate::keeper::Keeper;
 use ice_io::{Files, Source, TakeFault, Taker, feed_all, load_into, read_all};
 use std::alloc::{AllocError, AllocFailed, Global};
 
-/// Bytes that a tool needs: those of a file, or of standard input where there is no name.
+/// Bytes that a tool needs: those of a file, or of standard input if there is no name.
 #[derive(Clone, Copy, Debug, PartialEq, Eq)]
 pub struct Load<'a> {
     pub name: Option<&'a str>,
     /// More bytes than these are refused.
     pub limit: usize,
+}
+
+/// The most bytes of a layout file.
+const LAYOUT_LIMIT: usize = 65_536;
+
+/// A layout file, as what is loaded.
+pub(crate) fn layout_load(name: &str) -> Load<'_>
+    ensures { need_of result ≡ layout_need name.now }
+{
+    Load {
+        name: Some(name),
+        limit: LAYOUT_LIMIT,
+    }
 }
 
 /// Why bytes could not be loaded.

@@ -5,7 +5,7 @@ ghost use Rattle.tool_run.specs.Lines.{line_of, out_of_memory, source_name, targ
 ghost use Rattle.tool_run.specs.Tasks.{Task};
 ghost use Rattle.tool_run.specs.Effects.{Writes};
 ghost use Rattle.tool_run.specs.Concluding.{Concludes, TellsStop};
-ghost use Rattle.tool_run.specs.Jobs.{task_of};
+ghost use Rattle.tool_run.specs.Jobs.{task_of, task_under};
 ghost use Rattle.tool_run.specs.Runs.{Does, outside, scene};
 
 use crate::answering::{answer_in_pieces, answer_whole};
@@ -24,7 +24,7 @@ pub struct Job<'a> {
     pub tool_name: &'static str,
     /// What is loaded, in order.
     pub loads: &'a [Load<'a>],
-    /// The file that is stored, or none where the bytes go to standard output.
+    /// The file that is stored, or none if the bytes go to standard output.
     pub target: Option<&'a str>,
 }
 
@@ -118,9 +118,9 @@ fn tell_stop<E: Sink>(errors: &mut E, tool_name: &str, stop: LoadStop<'_>) -> u8
 }
 
 /// Loads what the job needs, in order, makes the tool's answer of it, and delivers that to the target. The tool refuses, if it
-/// does, before the first byte goes out. The status is 0 where all was done, 1 where the tool refuses what it was given,
-/// 2 where it doesn't take the command line, 3 where a read failed, 4 where a write failed, 5 where memory ran out, and 6
-/// where an input has more bytes than its limit.
+/// does, before the first byte goes out. The status is 0 if all was done, 1 if the tool refuses what it was given, 2 if it doesn't
+/// take the command line, 3 if a read failed, 4 if a write failed, 5 if memory ran out, and 6 if an input has more bytes than its
+/// limit.
 pub(crate) fn perform<T: Tool, F: Files, I: Source, O: Sink, E: Sink>(
     alloc: Global,
     tool: &T,
@@ -142,11 +142,12 @@ pub(crate) fn perform<T: Tool, F: Files, I: Source, O: Sink, E: Sink>(
 }
 
 /// Performs the job as `perform` does, but the tool takes its loads in pieces, as they are read, and its answer is made while it
-/// is written. The tool refuses, if it does, after its last load was read to the end and before the first byte goes out, so the
-/// statuses are the same.
+/// is written. A layout file, if one is named, is loaded whole before the first of them. The tool refuses, if it does, after its last
+/// load was read to the end and before the first byte goes out, so the statuses are the same.
 pub(crate) fn perform_in_pieces<T: PieceTool, F: Files, I: Source, O: Sink, E: Sink>(
     alloc: Global,
     tool: &T,
+    layout: Option<&str>,
     job: &Job<'_>,
     files: &mut F,
     input: &mut I,
@@ -155,10 +156,10 @@ pub(crate) fn perform_in_pieces<T: PieceTool, F: Files, I: Source, O: Sink, E: S
 ) -> u8
     requires { IsSound (map need_of job.now.loads.now) }
     ensures { Does (outside F.contents F.steady F.load_faults F.store_faults I.left I.faults O.held O.faults E.held E.faults)
-        (task_of job.now (T.answer_of tool.now)) result
+        (task_under (text_of layout.entry) job.now (T.answer_of tool.now)) result
         (scene files.old input.old output.old errors.old) (scene files.new input.new output.new errors.new) }
 {
-    match answer_in_pieces(alloc, tool, job.loads, files, input) {
+    match answer_in_pieces(alloc, tool, layout, job.loads, files, input) {
         Ok(made) => conclude(alloc, job, made, files, output, errors),
         Err(stop) => tell_stop(errors, job.tool_name, stop),
     }

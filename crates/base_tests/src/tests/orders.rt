@@ -98,21 +98,21 @@ impl PieceTool for Stamp {
 
     type Made = Vec<u8>;
 
-    ghost answer_of = { λ tool texts. if tool.refuses then Refused (codes "no") else Done (33 ∷ []) };
+    ghost answer_of = { λ tool layout texts. if tool.refuses then Refused (codes "no") else Done (33 ∷ []) };
 
-    ghost takes = { λ tool texts intake bytes. Unit {0} };
+    ghost takes = { λ tool layout texts intake bytes. Unit {0} };
 
     ghost fed = { λ intake. 0 };
 
-    fn begin(&self, _alloc: Global) -> bool {
-        false
+    fn begin(&self, _alloc: Global, _layout: Option<&[u8]>) -> Result<bool, Stop<'static>> {
+        Ok(false)
     }
 
     fn feed(&self, intake: &mut bool, piece: &[u8]) {
         *intake |= !piece.is_empty();
     }
 
-    fn close(&self, _alloc: Global, _intake: &mut bool) {}
+    fn close(&self, _intake: &mut bool) {}
 
     fn finish(&self, alloc: Global, _intake: bool) -> Result<Vec<u8>, Stop> {
         stamp_answer(alloc, self.refuses)
@@ -182,7 +182,7 @@ fn calls_are(
         refuses: run.refuses,
     };
     let done = if in_pieces {
-        host.perform_in_pieces(alloc, &tool, &job)
+        host.perform_in_pieces(alloc, &tool, None, &job)
     } else {
         host.perform(alloc, &tool, &job)
     };

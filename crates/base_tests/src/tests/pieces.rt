@@ -42,18 +42,18 @@ impl PieceTool for Counting {
 
     type Made = Vec<u8>;
 
-    ghost answer_of = { λ tool texts. if list_any (λ byte. nat_eq byte 0) (concat texts) then Refused (codes "zero") else Done (length (concat texts) % 256 ∷ []) };
+    ghost answer_of = { λ tool layout texts. if list_any (λ byte. nat_eq byte 0) (concat texts) then Refused (codes "zero") else Done (length (concat texts) % 256 ∷ []) };
 
-    ghost takes = { λ tool texts count bytes. (count.bytes ≡ length (concat texts ++ bytes) % 256)
+    ghost takes = { λ tool layout texts count bytes. (count.bytes ≡ length (concat texts ++ bytes) % 256)
         × (count.has_zero ≡ list_any (λ byte. nat_eq byte 0) (concat texts ++ bytes)) };
 
     ghost fed = { λ count. 0 };
 
-    fn begin(&self, _alloc: Global) -> Count {
-        Count {
+    fn begin(&self, _alloc: Global, _layout: Option<&[u8]>) -> Result<Count, Stop<'static>> {
+        Ok(Count {
             bytes: 0,
             has_zero: false,
-        }
+        })
     }
 
     fn feed(&self, count: &mut Count, piece: &[u8]) {
@@ -61,7 +61,7 @@ impl PieceTool for Counting {
         count.has_zero |= piece.contains(&0);
     }
 
-    fn close(&self, _alloc: Global, _count: &mut Count) {}
+    fn close(&self, _count: &mut Count) {}
 
     fn finish(&self, alloc: Global, count: Count) -> Result<Vec<u8>, Stop> {
         answer_to(alloc, count.bytes, count.has_zero)
@@ -116,7 +116,7 @@ fn is_counted(
         loads: &loads,
         target: way.to,
     };
-    let done = host.perform_in_pieces(alloc, &Counting, &job);
+    let done = host.perform_in_pieces(alloc, &Counting, None, &job);
     let is_written = match way.to {
         None => host.output.bytes() == want.written,
         Some(name) => host.files.bytes_of(name).unwrap_or(&[]) == want.written,

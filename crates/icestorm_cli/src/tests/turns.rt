@@ -344,6 +344,11 @@ fn is_storing(job: &Job) -> bool {
     job.0.contains(&"out")
 }
 
+/// How a file of a job is taken: a layout file is loaded whole before the others, whatever the tool does with those.
+fn way_of(job: &Job, name: &str) -> Way {
+    if name == "layout" { Way::Whole } else { job.1 }
+}
+
 /// The first call of files that comes after the reads of these files, or `None` if a call before it doesn't fail with the name of its file.
 fn call_behind(
     alloc: Global,
@@ -353,7 +358,7 @@ fn call_behind(
 ) -> Result<Option<u64>, AllocError> {
     let mut failing_call = 1u64;
     for name in job.2 {
-        for _ in 0..calls_for(bytes_of(files, name), job.1, job.4) {
+        for _ in 0..calls_for(bytes_of(files, name), way_of(job, name), job.4) {
             let setup = Setup {
                 failing_call,
                 ..setup

@@ -1,28 +1,11 @@
-use Rattle.std.proofs.Common.{◌∙◌, [], ◌∷◌, Bool, List, arith, ap₂, subst, sym}
-use Rattle.std.specs.Prelude.{None, Some}
-use Rattle.tool_run.specs.Needs.{IsSound, Need, text_of}
-use Rattle.tool_run.specs.Tasks.{Task}
-use Rattle.tool_run.proofs.Same.{Does-same}
-use Rattle.tool_run.specs.declared.load.Load.{Load}
-use Rattle.tool_inputs.specs.Images.{image_limit}
-use Rattle.tool_inputs.proofs.UnderLayouts.{file-sound, named-is, needs-are, needs-sound, one-sound}
+use Rattle.std.proofs.Common.{arith}
+use Rattle.tool_inputs.proofs.UnderLayouts.{file-sound, one-sound}
 use Rattle.tool_inputs.specs.Databases.{database_limit}
-use Rattle.design_tools.specs.Vlog.{named_answer, pins_limit, vlog_name}
+use Rattle.design_tools.specs.Vlog.{pins_limit}
 use Rattle.design_tools.proofs.naming.write_named.Goals as goal
 
 pub perform_in_pieces-requires : goal.perform_in_pieces-requires
-perform_in_pieces-requires g c =
-    let request = c.args.request in
-    let loads : List Load = record { name = Some c.args.pins.file; limit = pins_limit } ∷ record { name = Some request.db; limit = database_limit } ∷ record { name = request.image; limit = image_limit } ∷ [] in
-    let needed = needs-are request.layout loads c.with_layout.result.now c.with_layout.ensures in
-    subst (λ (needs : List Need). IsSound needs) (sym needed)
-    (needs-sound (text_of request.layout) _ (file-sound _ pins_limit _ (omega arith) (file-sound _ database_limit _ (omega arith) (one-sound _ (omega arith)))))
+perform_in_pieces-requires g c = file-sound _ pins_limit _ (omega arith) (file-sound _ database_limit _ (omega arith) (one-sound _ (omega arith)))
 
 pub returns : goal.returns
-returns g c =
-    let request = c.args.request in
-    let loads : List Load = record { name = Some c.args.pins.file; limit = pins_limit } ∷ record { name = Some request.db; limit = database_limit } ∷ record { name = request.image; limit = image_limit } ∷ [] in
-    let needed = needs-are request.layout loads c.with_layout.result.now c.with_layout.ensures in
-    let task : List Need → Bool → Task =
-    λ needs named. record { tool_name = vlog_name; needs = needs; target = None; answer = named_answer request.inputs named request.name.text.now c.args.pins.package_name.now } in
-    Does-same _ _ _ _ _ _ (ap₂ task needed (c.is_some.ensures ∙ named-is request.layout)) c.perform_in_pieces.ensures
+returns g c = c.perform_in_pieces.ensures

@@ -1,25 +1,35 @@
-use Rattle.std.proofs.Common.{[], refl}
-use Rattle.tool_run.proofs.Outcomes.{gives_taken}
+use Rattle.std.proofs.Common.{[], ◌∷◌, ℕ, List, ap, subst, sym}
+use Rattle.std.specs.Prelude.{map}
+use Rattle.tool_run.specs.Loads.{IsTextOf, StopsLoading}
+use Rattle.tool_run.specs.Needs.{Need, is_stream, layout_need, need_of}
+use Rattle.tool_run.proofs.AfterLayout.{answers_after, answers_stopped}
 use Rattle.tool_run.proofs.answering.answer_in_pieces.Goals as goal
+
+pub returns-in-None : goal.returns-in-None
+returns-in-None g c = rw c.in-None.is c.answer_taken.ensures
 
 pub returns-in-Ok : goal.returns-in-Ok
 returns-in-Ok g c =
-    let T = g.T.PieceTool in
-    let tool = c.args.tool.now in
-    let l = c.in-Ok.ensures in
-    let taker = c.load_all-taken.new.keeper in
-    let kept = l.texts.2 tool [] (refl, c.begin-intake.ensures.taken) in
-    record {
-      made = (
-        l.texts.0,
-        l.texts.1,
-        gives_taken g.T.Made.Content.bytes c.finish.result (T.answer_of tool) (λ texts. T.takes tool texts taker.intake []) l.texts.0 c.finish.ensures.bytes c.finish.ensures.stops kept.1,
-      );
-      stops = tt;
-      end = λ reads. l.end reads;
-      same_contents = l.same_contents;
-      same_store_faults = l.same_store_faults;
-      unread = l.unread;
-      unreached = l.unreached;
-      unasked = l.unasked;
-    }
+    let F = g.F.Files in
+    let I = g.I.Source in
+    let e = c.in-Ok.ensures in
+    let need_is = c.layout_load.ensures in
+    let text = subst (λ (need : Need). IsTextOf (F.contents c.args.files.now) (I.left c.args.input.now) need c.in-Ok.bytes.items) need_is e.text in
+    let known = subst (λ (bytes : List ℕ). IsTextOf (F.contents c.args.files.now) (I.left c.args.input.now) (layout_need c.in-Some.name.now) bytes) (sym c.deref.ensures.value) text in
+    rw c.in-Some.is
+    (answers_after F.contents F.steady F.load_faults F.store_faults I.left I.faults c.in-Some.name.now (map need_of c.args.loads.now) (g.T.PieceTool.answer_of c.args.tool.now) g.T.Made.Content.bytes
+    c.args.files.now c.load_one.new.files c.args.input.now c.load_one.new.input c.deref.result.now known e.same_contents (e.unread (ap (λ (need : Need). is_stream need.name) need_is))
+    _ _ _ e.same_steady e.load_faults e.same_store_faults c.answer_taken-in-Ok.ensures)
+
+pub returns-in-Err : goal.returns-in-Err
+returns-in-Err g c =
+    let F = g.F.Files in
+    let I = g.I.Source in
+    let e = c.in-Err.ensures in
+    let need_is = c.layout_load.ensures in
+    let new = c.load_one.new in
+    let stops = subst (λ (need : Need). StopsLoading (F.contents c.args.files.now) (F.steady c.args.files.now) I.left I.faults (need ∷ []) (F.load_faults c.args.files.now) (F.load_faults new.files) c.args.input.now new.input c.in-Err.stop)
+    need_is e.stops in
+    rw c.in-Some.is
+    (answers_stopped F.contents F.steady F.load_faults F.store_faults I.left I.faults c.in-Some.name.now (map need_of c.args.loads.now) (g.T.PieceTool.answer_of c.args.tool.now) g.T.Made.Content.bytes
+    c.args.files.now new.files c.args.input.now new.input c.in-Err.stop stops e.same_contents e.same_store_faults (e.unread (ap (λ (need : Need). is_stream need.name) need_is)))

@@ -1,22 +1,19 @@
-use Rattle.std.proofs.Common.{inl, inr, refl}
-use Rattle.design_tools.specs.Pins.{texts_without_pins}
-use Rattle.design_tools.proofs.NamedIntakes.{fed-database, fed-layout, fed-other, fed-pins}
+use Rattle.std.proofs.Common.{[]}
+use Rattle.design_tools.proofs.NamedIntakes.{fed-database, fed-other, fed-pins}
 use Rattle.design_tools.proofs.named_intake.NamedIntake.feed.Goals as goal
 
 pub returns-in-PinFile-clause-taken : goal.returns-in-PinFile-clause-taken
-returns-in-PinFile-clause-taken c package_name named texts bytes taken =
-    fed-pins package_name named texts bytes c.args.piece.now _ c.args.self.now _ c.in-PinFile.is taken refl refl (c.push.ensures bytes)
-
-pub returns-in-Layout-clause-taken : goal.returns-in-Layout-clause-taken
-returns-in-Layout-clause-taken c package_name named texts bytes taken =
-    elim c.in-Layout.is [
-      | inl is ↦
-          fed-layout package_name named texts bytes c.args.piece.now _ c.args.self.now _ (c.feed-in-Layout.ensures.taken named (texts_without_pins named texts) bytes) refl is taken refl
-      | inr is ↦
-          fed-other package_name named texts bytes c.args.piece.now _ c.args.self.now _ (c.feed-in-Layout.ensures.taken named (texts_without_pins named texts) bytes) refl is taken refl
-    ]
+returns-in-PinFile-clause-taken c package_name layout texts bytes taken =
+    let old = c.args.self.now in
+    fed-pins package_name layout texts bytes c.args.piece.now old.file _ old.input old.pins old.next c.in-PinFile.is (c.push.ensures bytes) taken
 
 pub returns-in-Database-clause-taken : goal.returns-in-Database-clause-taken
-returns-in-Database-clause-taken c package_name named texts bytes taken =
-    fed-database package_name named texts bytes c.args.piece.now _ c.args.self.now _ (c.feed.ensures.taken named (texts_without_pins named texts) bytes) refl c.in-Database.is taken
-    (c.feed_pins.ensures package_name bytes)
+returns-in-Database-clause-taken c package_name layout texts bytes taken =
+    let old = c.args.self.now in
+    fed-database package_name layout texts bytes c.args.piece.now old.file old.input c.feed.new.self old.pins _ old.next c.in-Database.is (c.feed.ensures.taken layout [] bytes)
+    (c.feed_pins.ensures package_name bytes) taken
+
+pub returns-in-Other-clause-taken : goal.returns-in-Other-clause-taken
+returns-in-Other-clause-taken c package_name layout texts bytes taken =
+    let old = c.args.self.now in
+    fed-other package_name layout texts bytes c.args.piece.now old.file old.input c.feed-in-Other.new.self old.pins old.next c.in-Other.is (λ all. c.feed-in-Other.ensures.taken layout all bytes) taken

@@ -1,4 +1,4 @@
 use Rattle.design_tools.proofs.naming.NamingPieceTool.close.Goals as goal
 
 pub returns-clause-closed : goal.returns-clause-closed
-returns-clause-closed c = λ texts bytes taken. c.close.ensures.closed c.args.self.now.package_name.now c.args.self.now.named texts bytes taken
+returns-clause-closed c = λ layout texts bytes taken. c.close.ensures.closed c.args.self.now.package_name.now layout texts bytes taken

@@ -1,4 +1,4 @@
 use Rattle.design_tools.proofs.naming.NamingPieceTool.feed.Goals as goal
 
 pub returns-clause-taken : goal.returns-clause-taken
-returns-clause-taken c = λ texts bytes taken. c.feed.ensures.taken c.args.self.now.package_name.now c.args.self.now.named texts bytes taken
+returns-clause-taken c = λ layout texts bytes taken. c.feed.ensures.taken c.args.self.now.package_name.now layout texts bytes taken

@@ -1,14 +1,24 @@
-use Rattle.std.proofs.Common.{subst}
-use Rattle.std.proofs.lemmas.Result.{IfErr-weaker}
+use Rattle.std.proofs.Common.{◌≡◌, subst}
+use Rattle.std.proofs.lemmas.Result.{IfErr-weaker, IfOk-weaker}
 use Rattle.tool_run.specs.Stops.{StopsWith}
+use Rattle.tool_run.specs.Tasks.{Done}
 use Rattle.design_tools.specs.Vlog.{named_answer}
 use Rattle.design_tools.proofs.naming.NamingPieceTool.finish.Goals as goal
+
+pub returns-clause-bytes : goal.returns-clause-bytes
+returns-clause-bytes c =
+    IfOk-weaker c.named_after.result _ _
+    (λ bytes is layout texts taken.
+    let tool = c.args.self.now in
+    subst (λ name. named_answer tool.inputs layout name tool.package_name.now texts ≡ Done bytes.items) c.as_bytes.ensures.value
+    (is tool.package_name.now layout texts taken))
+    c.named_after.ensures.bytes
 
 pub returns-clause-stops : goal.returns-clause-stops
 returns-clause-stops c =
     IfErr-weaker c.named_after.result _ _
-    (λ stop stops texts taken.
+    (λ stop stops layout texts taken.
     let tool = c.args.self.now in
-    subst (λ name. StopsWith (named_answer tool.inputs tool.named name tool.package_name.now texts) stop) c.as_bytes.ensures.value
-    (stops tool.package_name.now tool.named texts taken))
+    subst (λ name. StopsWith (named_answer tool.inputs layout name tool.package_name.now texts) stop) c.as_bytes.ensures.value
+    (stops tool.package_name.now layout texts taken))
     c.named_after.ensures.stops

@@ -1,4 +1,4 @@
 use Rattle.design_tools.proofs.writing.WritingPieceTool.close.Goals as goal
 
 pub returns-clause-closed : goal.returns-clause-closed
-returns-clause-closed c = λ texts bytes taking. c.close.ensures.closed c.args.self.now.named texts bytes taking
+returns-clause-closed c = c.close.ensures.closed

@@ -1,4 +1,4 @@
 use Rattle.design_tools.proofs.writing.WritingPieceTool.feed.Goals as goal
 
 pub returns-clause-taken : goal.returns-clause-taken
-returns-clause-taken c = λ texts bytes taking. c.feed.ensures.taken c.args.self.now.named texts bytes taking
+returns-clause-taken c = c.feed.ensures.taken

@@ -1,22 +1,41 @@
-use Rattle.std.proofs.Common.{◌∙◌, subst, sym}
-use Rattle.std.proofs.lemmas.Result.{IfOk-weaker, IfErr-weaker}
+use Rattle.std.proofs.Common.{[], ◌∙◌, subst, sym}
+use Rattle.std.specs.Prelude.{get_or}
+use Rattle.std.proofs.lemmas.Result.{err_from_is_err_and}
 use Rattle.tool_run.specs.Stops.{StopsWith}
 use Rattle.tool_run.specs.Tasks.{Answer}
-use Rattle.tool_inputs.specs.Taking.{texts_behind}
-use Rattle.tool_inputs.proofs.DesignInputs.{input_behind}
+use Rattle.tool_inputs.specs.Databases.{database_read}
+use Rattle.tool_inputs.specs.Images.{image_read}
+use Rattle.tool_inputs.proofs.DesignInputs.{both-read, database-taken, image-taken, input_under, stops-database, stops-image}
 use Rattle.tool_inputs.proofs.design_input.DesignInput.read.Goals as goal
 
-pub returns-in-Ok-clause-read : goal.returns-in-Ok-clause-read
-returns-in-Ok-clause-read c =
-    IfOk-weaker c.read_both.result _ _ (λ both is named texts answer taking.
-    let taken = c.in-Ok.ensures.taken named texts taking in
-    input_behind answer named texts taken.0 taken.1 ∙ is taken.0 (texts_behind named texts) answer taken.2) c.read_both.ensures.read
+pub returns-in_err-db-clause-stops : goal.returns-in_err-db-clause-stops
+returns-in_err-db-clause-stops c =
+    let p = err_from_is_err_and c.from_residual.result c.from_residual.ensures.1 in
+    rw (p.1, p.2) (λ layout texts answer takes.
+    let db = get_or texts 0 [] in
+    let layouts = c.args.self.layouts in
+    subst (λ (told : Answer). StopsWith told c.in_err-db.field-0.0) (sym (input_under answer layout texts layouts takes.0))
+    (stops-database answer (database_read db) (image_read layouts (get_or texts 1 [])) c.in_err-db.field-0.0
+    (c.in_err-db.ensures.stops db (database-taken texts _ _ _ takes.1))))
 
-pub returns-in-Ok-clause-stops : goal.returns-in-Ok-clause-stops
-returns-in-Ok-clause-stops c =
-    IfErr-weaker c.read_both.result _ _ (λ stop stops named texts answer taking.
-    let taken = c.in-Ok.ensures.taken named texts taking in
-    subst (λ (told : Answer). StopsWith told stop) (sym (input_behind answer named texts taken.0 taken.1)) (stops taken.0 (texts_behind named texts) answer taken.2)) c.read_both.ensures.stops
+pub returns-in_err-image-clause-stops : goal.returns-in_err-image-clause-stops
+returns-in_err-image-clause-stops c =
+    let p = err_from_is_err_and c.from_residual-in_err-image.result c.from_residual-in_err-image.ensures.1 in
+    rw (p.1, p.2) (λ layout texts answer takes.
+    let db = get_or texts 0 [] in
+    let image = get_or texts 1 [] in
+    let layouts = c.args.self.layouts in
+    subst (λ (told : Answer). StopsWith told c.in_err-image.field-0.0) (sym (input_under answer layout texts layouts takes.0))
+    (stops-image answer (database_read db) _ (image_read layouts image) c.in_err-image.field-0.0
+    (c.in_ok-db.ensures.database db (database-taken texts _ _ _ takes.1))
+    (c.in_err-image.ensures.stops image (image-taken texts _ _ _ takes.1))))
 
-pub returns-in-Err-clause-stops : goal.returns-in-Err-clause-stops
-returns-in-Err-clause-stops c = λ named texts answer taking. c.in-Err.ensures.stops named texts _ taking
+pub returns-clause-read : goal.returns-clause-read
+returns-clause-read c = λ layout texts answer takes.
+    let db = get_or texts 0 [] in
+    let image = get_or texts 1 [] in
+    let layouts = c.args.self.layouts in
+    input_under answer layout texts layouts takes.0
+    ∙ both-read answer (database_read db) (image_read layouts image) _ _
+    (c.in_ok-db.ensures.database db (database-taken texts _ _ _ takes.1))
+    (c.in_ok-image.ensures.image image (image-taken texts _ _ _ takes.1))

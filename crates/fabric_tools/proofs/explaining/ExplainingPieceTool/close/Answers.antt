@@ -1,4 +1,0 @@
-use Rattle.fabric_tools.proofs.explaining.ExplainingPieceTool.close.Goals as goal
-
-pub returns-clause-closed : goal.returns-clause-closed
-returns-clause-closed c = λ texts bytes taking. c.close.ensures.closed c.args.self.now.named texts bytes taking

@@ -261,7 +261,7 @@ take_while-few test (byte ∷ bytes) =
     ])
 
 -- a word and the text after it are no longer than the line
-pub word-room : (line word behind : List ℕ) → word ≡ first_word Whitespace line → behind ≡ behind_word Whitespace line → length word + length behind ≤ length line
-word-room line word behind is rest =
+pub word-room : (line word after : List ℕ) → word ≡ first_word Whitespace line → after ≡ behind_word Whitespace line → length word + length after ≤ length line
+word-room line word after is rest =
     let start = from_word Whitespace line in
     omega (arith, ap length is, ap length rest, length-drop (length (first_word Whitespace line)) start, take_while-few (λ byte. not (is_separator Whitespace byte)) start, length-from_word Whitespace line)

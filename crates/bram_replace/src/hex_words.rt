@@ -65,9 +65,9 @@ impl Words {
         ensures room { OnOk result (length self.new.bits.items ≤ length self.old.bits.items + 4 * length line.now) }
     {
         let mut rest = line;
-        while let Some((word, behind)) = split_word(Separators::Whitespace, rest) {
+        while let Some((word, after)) = split_word(Separators::Whitespace, rest) {
             self.take_word(number, word)?;
-            rest = behind;
+            rest = after;
         }
         Ok(())
     }
@@ -125,11 +125,11 @@ fn are_words(line: &[u8]) -> bool
     ensures { result ≡ list_all is_word (words_of Separators.Whitespace line.now) }
 {
     let mut rest = line;
-    while let Some((word, behind)) = split_word(Separators::Whitespace, rest) {
+    while let Some((word, after)) = split_word(Separators::Whitespace, rest) {
         if !is_word(word) {
             return false;
         }
-        rest = behind;
+        rest = after;
     }
     true
 }

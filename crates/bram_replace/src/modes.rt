@@ -27,7 +27,7 @@ pub enum ReadModes {
 }
 
 /// The mode in which the RAM of a statement is taken, in a text that gives this image.
-pub(crate) fn mode_of(modes: ReadModes, image: &AnyImage, statement: &[u8]) -> usize
+pub(crate) fn mode_of(modes: ReadModes, image: &AnyImage, statement: &[u8]) -> u8
     requires ram { is_ram_data (statement_in statement.now) ≡ true }
     requires there { (ram : TileXy) → tile_named (statement_in statement.now) ≡ Some ram → kind_of (device_of image.now) ram.x ram.y ≡ Some RamB }
     ensures is { (text : List ℕ) → HasBits text (configuration_of image.now)
@@ -49,7 +49,7 @@ fn ram_named(statement: &[u8]) -> TileXy
     ensures { tile_named (statement_in statement.now) ≡ Some result }
 {
     match split_word(Separators::Spaces, trimmed(statement)) {
-        Some((_, behind)) => ram_at(behind),
+        Some((_, numbers)) => ram_at(numbers),
         None => unreachable!(),
     }
 }
@@ -66,7 +66,7 @@ fn ram_at(numbers: &[u8]) -> TileXy
 }
 
 /// The read mode of a RAM: RamConfig.CBIT_2, and twice RamConfig.CBIT_3.
-fn read_mode(image: &AnyImage, x: u8, y: u8) -> usize
+fn read_mode(image: &AnyImage, x: u8, y: u8) -> u8
     requires { kind_of (device_of image.now) x y ≡ Some RamB }
     ensures is { (text : List ℕ) → HasBits text (configuration_of image.now) → result ≡ read_mode (lines_of text) x y }
     ensures few { result < 4 }
@@ -75,7 +75,7 @@ fn read_mode(image: &AnyImage, x: u8, y: u8) -> usize
 }
 
 /// A bit of the tile above a RAM, in column 7.
-fn mode_bit(image: &AnyImage, x: u8, y: u8, row: u8) -> usize
+fn mode_bit(image: &AnyImage, x: u8, y: u8, row: u8) -> u8
     requires kind { kind_of (device_of image.now) x y ≡ Some RamB }
     requires row { row < 16 }
     ensures is { (text : List ℕ) → HasBits text (configuration_of image.now) → result ≡ mode_bit (lines_of text) x y row }
@@ -87,5 +87,5 @@ fn mode_bit(image: &AnyImage, x: u8, y: u8, row: u8) -> usize
         row,
         col: 7,
     };
-    usize::from(image.tile_bit(at))
+    u8::from(image.tile_bit(at))
 }

@@ -4,6 +4,7 @@ ghost use Rattle.bram_replace.specs.ReadModes.{address_of, by_columns, column_in
 ghost use Rattle.bram_replace.specs.Rams.{AreAlike, kept_at, listed};
 
 use crate::ram::{RamBits, SIXTEEN};
+use narrow_words::share;
 
 /// How many bits a RAM has.
 const RAM_BITS: usize = 4096;
@@ -12,7 +13,7 @@ const RAM_BITS: usize = 4096;
 const BLOCK_WORDS: usize = 256;
 
 /// The bits of the columns of a RAM in this mode: place by place, one bit of each column.
-pub(crate) fn by_columns(bits: &RamBits, mode: usize) -> RamBits
+pub(crate) fn by_columns(bits: &RamBits, mode: u8) -> RamBits
     requires { mode < 4 }
     ensures { AreAlike 256 (listed result) (by_columns mode (listed bits.now)) }
 {
@@ -24,7 +25,7 @@ pub(crate) fn by_columns(bits: &RamBits, mode: usize) -> RamBits
 }
 
 /// The bits of a RAM in this mode from the bits of its columns.
-pub(crate) fn from_columns(columns: &RamBits, mode: usize) -> RamBits
+pub(crate) fn from_columns(columns: &RamBits, mode: u8) -> RamBits
     requires { mode < 4 }
     ensures { AreAlike 256 (listed result) (from_columns mode (listed columns.now)) }
 {
@@ -36,14 +37,14 @@ pub(crate) fn from_columns(columns: &RamBits, mode: usize) -> RamBits
 }
 
 /// The index in a RAM in this mode at which the bit of a column at a place is.
-fn kept_at(mode: usize, place: usize, column: usize) -> usize
+fn kept_at(mode: u8, place: usize, column: usize) -> usize
     requires mode { mode < 4 }
     requires place { place < 256 }
     requires column { column < 16 }
     ensures is { result ≡ kept_at mode place column }
     ensures within { result < 4096 }
 {
-    let words = words_each(mode);
+    let words = usize::from(share(mode));
     let width = SIXTEEN / words;
     let address = BLOCK_WORDS * (column / width) + place;
     let bit = words * (column % width) + reversed(mode, address % words);
@@ -51,34 +52,21 @@ fn kept_at(mode: usize, place: usize, column: usize) -> usize
 }
 
 /// The index among the bits of the columns at which a bit of a word of a RAM in this mode is.
-fn stands_at(mode: usize, word: usize, bit: usize) -> usize
+fn stands_at(mode: u8, word: usize, bit: usize) -> usize
     requires mode { mode < 4 }
     requires word { word < 256 }
     requires bit { bit < 16 }
     ensures is { result ≡ 16 * place_in mode word bit + column_in mode word bit }
     ensures within { result < 4096 }
 {
-    let words = words_each(mode);
+    let words = usize::from(share(mode));
     let address = words * word + reversed(mode, bit % words);
     let column = address / BLOCK_WORDS * (SIXTEEN / words) + bit / words;
     SIXTEEN * (address % BLOCK_WORDS) + column
 }
 
-/// How many words of the memory have bits in one word of a RAM in this mode.
-fn words_each(mode: usize) -> usize
-    requires { mode < 4 }
-    ensures { result ≡ 2 ^ mode }
-{
-    match mode {
-        0 => 1,
-        1 => 2,
-        2 => 4,
-        _ => 8,
-    }
-}
-
 /// The low `mode` bits of a number, in reverse order.
-fn reversed(mode: usize, number: usize) -> usize
+fn reversed(mode: u8, number: usize) -> usize
     requires { mode < 4 }
     ensures is { result ≡ reversed mode number }
     ensures small { result < 2 ^ mode }

@@ -100,7 +100,7 @@ fn ram_line_bytes(line: &[u8]) -> [u8; 32]
 /// file, and counts it at that index.
 pub(crate) fn replace_in_mode(
     bits: &mut RamBits,
-    mode: usize,
+    mode: u8,
     columns: &Columns,
     to: &HexFile,
     found: &mut [u32],

@@ -187,7 +187,7 @@ fn has_ram_keyword(line: &[u8]) -> bool
 /// Replaces the RAM in this mode whose lines begin the text, and returns the text after them.
 fn replace_ram<'a>(
     text: &'a [u8],
-    mode: usize,
+    mode: u8,
     columns: &Columns,
     to: &HexFile,
     bytes: &mut Vec<u8>,

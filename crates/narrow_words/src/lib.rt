@@ -9,8 +9,8 @@
 ghost use Rattle.std.specs.Prelude.{◌≡◌, ℕ, ◌+◌, ◌*◌, ◌/◌, ◌^◌, ◌<◌, ◌≤◌, length, get_or};
 ghost use Rattle.narrow_words.specs.Narrow.{share, bit_at, put_bit, got_bit, narrow_bit};
 
-/// How many narrow words a word holds.
-fn share(mode: u8) -> u8
+/// How many narrow words a word holds in a mode: 1, 2, 4 or 8.
+pub fn share(mode: u8) -> u8
     requires mode { mode < 4 }
     ensures is { result ≡ share mode }
     ensures few { result ≤ 8 }

@@ -10,8 +10,8 @@ use Rattle.bram_replace.proofs.modes.ram_named.Goals as goal
 
 pub ram_at-requires : goal.ram_at-requires
 ram_at-requires c =
-    let behind : c.in-Some.behind.now ≡ behind_word Spaces (trimmed c.args.statement.now) = c.in-Some.ensures.places.1 ∙ ap (behind_word Spaces) c.trimmed.ensures in
-    subst (λ b. is_ram_data (ram_data_of_numbers (numbers_of (words_of Spaces b))) ≡ true) (sym behind)
+    let numbers : c.in-Some.numbers.now ≡ behind_word Spaces (trimmed c.args.statement.now) = c.in-Some.ensures.places.1 ∙ ap (behind_word Spaces) c.trimmed.ensures in
+    subst (λ b. is_ram_data (ram_data_of_numbers (numbers_of (words_of Spaces b))) ≡ true) (sym numbers)
     (subst (λ s. is_ram_data s ≡ true) (ram-spelled c.args.statement.now c.requires) c.requires)
 
 pub unreachable-requires : goal.unreachable-requires
@@ -19,6 +19,6 @@ unreachable-requires c = ram-word c.args.statement.now c.requires (ap (first_wor
 
 pub returns : goal.returns
 returns c =
-    let behind : c.in-Some.behind.now ≡ behind_word Spaces (trimmed c.args.statement.now) = c.in-Some.ensures.places.1 ∙ ap (behind_word Spaces) c.trimmed.ensures in
+    let numbers : c.in-Some.numbers.now ≡ behind_word Spaces (trimmed c.args.statement.now) = c.in-Some.ensures.places.1 ∙ ap (behind_word Spaces) c.trimmed.ensures in
     ap tile_named (ram-spelled c.args.statement.now c.requires)
-    ∙ ap (λ b. tile_named (ram_data_of_numbers (numbers_of (words_of Spaces b)))) (sym behind) ∙ c.ram_at.ensures
+    ∙ ap (λ b. tile_named (ram_data_of_numbers (numbers_of (words_of Spaces b)))) (sym numbers) ∙ c.ram_at.ensures

@@ -20,12 +20,12 @@ loop-word-preserved c =
     let i = c.loop-word.invariant in
     let all = words_of Whitespace c.args.line.now in
     let rest = words_of Whitespace c.loop-word.rest.now in
-    let more = words_of Whitespace c.in-Some.behind.now in
+    let more = words_of Whitespace c.in-Some.after.now in
     record {
       went = λ words holds. Went-more words all rest more c.in-Some.word.now c.loop-word.self.digits c.take_word.new.self.digits c.loop-word.self.bits.items c.take_word.new.self.bits.items
           (i.went words holds) c.in-Some.ensures.words (λ before held. c.in_ok-take_word.ensures.taken before held);
       written = rest-written rest more c.in-Some.word.now c.in-Some.ensures.words i.written;
-      room = omega (arith, i.room, c.in_ok-take_word.ensures.room, word-room c.loop-word.rest.now c.in-Some.word.now c.in-Some.behind.now c.in-Some.ensures.places.0 c.in-Some.ensures.places.1);
+      room = omega (arith, i.room, c.in_ok-take_word.ensures.room, word-room c.loop-word.rest.now c.in-Some.word.now c.in-Some.after.now c.in-Some.ensures.places.0 c.in-Some.ensures.places.1);
     }
 
 pub returns-in_err-take_word-clause-refused : goal.returns-in_err-take_word-clause-refused
@@ -33,7 +33,7 @@ returns-in_err-take_word-clause-refused c words holds =
     let i = c.loop-word.invariant in
     let all = words_of Whitespace c.args.line.now in
     let rest = words_of Whitespace c.loop-word.rest.now in
-    let more = words_of Whitespace c.in-Some.behind.now in
+    let more = words_of Whitespace c.in-Some.after.now in
     let p = err_from_is_err_and c.from_residual.result c.from_residual.ensures.1 in
     rw (p.1, p.2) (Went-refused words all rest more c.in-Some.word.now c.loop-word.self.digits c.loop-word.self.bits.items c.args.number c.in_err-take_word.field-0.0
     (i.went words holds) c.in-Some.ensures.words c.requires (λ before held. c.in_err-take_word.ensures.refused before held))

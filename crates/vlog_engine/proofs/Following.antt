@@ -23,7 +23,7 @@ use Rattle.vlog_engine.specs.Groups.{IsGroup}
 use Rattle.vlog_engine.specs.Passing.{IsClocked, IsSettled}
 use Rattle.vlog_engine.proofs.Operands.{Show, outputs-shown, reads-shown, writes-shown}
 use Rattle.vlog_engine.proofs.Passed.{clocked-sources, first-within, settled-shown, size}
-use Rattle.vlog_engine.proofs.Sources.{behind-cells, length-flips}
+use Rattle.vlog_engine.proofs.Sources.{rest-cells, length-flips}
 
 -- the cells and lists show the entry
 pub record ShowsCells (m : Parts) (circuit : Circuit) (entry : Entry) (cells : List Bool) (words : List ℕ) (memories : List (List ℕ)) (outputs : List Bool) : Type 0 where
@@ -105,7 +105,7 @@ started-shown m first circuit begins made outputs before after marks small befor
       below = λ cell inside.
           ap (λ list. get_or list cell false) before_is
           ∙ get_or_append_left bits (tail_of words) false cell (omega (arith, inside, bits_size, first-within m layout circuit begins.laid_out made));
-      behind = λ place inside. ap (λ list. get_or list (length bits + place) false) before_is ∙ behind-cells bits words place;
+      rest = λ place inside. ap (λ list. get_or list (length bits + place) false) before_is ∙ rest-cells bits words place;
     } in
     let last : Show (bit_count m) (word_count m) circuit.roots.items (settled_slots plan (module_wires m) words bits) words after =
     settled-shown m layout circuit begins.laid_out made bits words before after marks bits_size words_size small room sources settled in

@@ -155,9 +155,9 @@ joined-step z held from count total roots gate gates numbered known =
                       subst (λ r. r < count → r ≤ gate.slot) (sym takes) (λ less.
                       elim (cases_lt source count) [
                         | inl name ↦ omega (arith, known.low source less, order.0 name, slot_is)
-                        | inr behind ↦
-                            let itself : root roots source ≡ source = known.own source (omega (arith, behind, numbered.0.1)) order.1 in
-                            absurd (omega (arith, itself, less, behind))
+                        | inr rest ↦
+                            let itself : root roots source ≡ source = known.own source (omega (arith, rest, numbered.0.1)) order.1 in
+                            absurd (omega (arith, itself, less, rest))
                       ])
                 ])
           ];

@@ -26,8 +26,6 @@ pub mod Passed
 pub mod Following
 -- lists that grow by what each item of another gives
 pub mod Filled
--- items that are parted by the inputs that clock them
-pub mod Parted
 -- the bits of a word in sixteen cells
 pub mod Words
 -- the lists of the wires on which cells bear

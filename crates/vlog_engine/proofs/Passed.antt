@@ -25,7 +25,7 @@ use Rattle.vlog_engine.specs.Roots.{first_roots, held_by, root, root_step}
 use Rattle.vlog_engine.proofs.Joining.{AreBelow, AreNumbered, AreRoots, held-targets, numbered-end, roots-known, roots-own}
 use Rattle.vlog_engine.proofs.Modules.{module-numbered, module-settles}
 use Rattle.vlog_engine.proofs.Operands.{Show, operand-shown, shown-at}
-use Rattle.vlog_engine.proofs.Sources.{Agree, agree-set, behind-cells, flips-agree, flips-stay, length-flips, tail-end, tail-part}
+use Rattle.vlog_engine.proofs.Sources.{Agree, agree-set, rest-cells, flips-agree, flips-stay, length-flips, tail-end, tail-part}
 use Rattle.vlog_engine.proofs.Wired.{kept-at, kept-rise, settled-is, shown-cell, wire-shown}
 
 numbered-parts : (from count total : ℕ) (gates : List Gate) (place : ℕ) → AreNumbered from count total gates → place < length gates
@@ -119,21 +119,21 @@ module _ (m : Parts) (layout : SlotLayout) (circuit : Circuit) (laid : IsLaidOut
     all-size : length all ≡ total
     all-size = length-map roots (cell_at wired) ∙ size
 
-    behind-is : (place : ℕ) → place < 16 * length words + 2 → cell_at all (count + place) ≡ get_or (tail_of words) place false
-    behind-is place inside =
+    rest-is : (place : ℕ) → place < 16 * length words + 2 → cell_at all (count + place) ≡ get_or (tail_of words) place false
+    rest-is place inside =
         let source : count + place < count → count + place < first = λ less. absurd (omega (arith, less)) in
         let within : count + place < total = omega (arith, inside, words_are) in
         shown-cell roots wired (count + place) (omega (arith, within, size))
         ∙ ap (cell_at wired) (own (count + place) source within)
         ∙ settled.same (count + place) source
         ∙ ap (λ n. cell_at before (n + place)) (sym bits_are)
-        ∙ sources.behind place inside
+        ∙ sources.rest place inside
 
     tail-is : drop count all ≡ tail_of words
     tail-is =
         let long : length (drop count all) ≡ 16 * length words + 2 = omega (arith, length-drop count all, all-size, words_are) in
         ext_get_or false (drop count all) (tail_of words) (long ∙ sym (length-tail words))
-        (λ place inside. get_or-drop count all place false ∙ behind-is place (omega (arith, inside, long)))
+        (λ place inside. get_or-drop count all place false ∙ rest-is place (omega (arith, inside, long)))
 
     whole : all ≡ cells_of values words
     whole = sym (take-append-drop count all) ∙ ap (λ list. values ++ list) tail-is
@@ -144,7 +144,7 @@ module _ (m : Parts) (layout : SlotLayout) (circuit : Circuit) (laid : IsLaidOut
     zero-is : cell_at all (zero_cell count (word_count m)) ≡ false
     zero-is =
         ap (λ n. cell_at all (count + 16 * n)) (sym words_are)
-        ∙ behind-is (16 * length words) (omega arith)
+        ∙ rest-is (16 * length words) (omega arith)
         ∙ tail-end words (16 * length words) (omega arith)
         ∙ (let none : 16 * length words - 16 * length words ≡ 0 = omega arith in ap (λ n. get_or (false ∷ true ∷ []) n false) none)
 
@@ -261,7 +261,7 @@ module _ (m : Parts) (layout : SlotLayout) (circuit : Circuit) (laid : IsLaidOut
       length-set flipped event.pin event.bit ∙ length-flips event first count (word_count m) roots bits words before show bits flips ∙ show.bits_count in
       record {
         below = λ cell inside. ap (λ list. cell_at list cell) (clocked.are ∙ ap (λ list. set list event.pin event.bit) runs) ∙ agreed.same cell inside;
-        behind = λ place inside.
+        rest = λ place inside.
             let cell : ℕ = count + place in
             let source : cell < count → cell < first = λ less. absurd (omega (arith, less)) in
             let here : cell_at after cell ≡ cell_at stored cell =
@@ -270,7 +270,7 @@ module _ (m : Parts) (layout : SlotLayout) (circuit : Circuit) (laid : IsLaidOut
             ∙ flips-stay event first count (word_count m) roots bits words before show stored flips cell (omega (arith, first-within)) in
             let was : (p : ℕ) → p < 16 * word_count m + 2 → cell_at before (count + p) ≡ get_or (tail_of words) p false =
             λ p within. at_root (count + p) (λ less. absurd (omega (arith, less))) (omega (arith, within))
-            ∙ ap (λ n. cell_at (cells_of bits words) (n + p)) (sym show.bits_count) ∙ behind-cells bits words p in
+            ∙ ap (λ n. cell_at (cells_of bits words) (n + p)) (sym show.bits_count) ∙ rest-cells bits words p in
             ap (λ n. get_or after (n + place) false) size_now ∙ here
             ∙ (elim (cases_lt place (16 * length next_words)) [
               | inl part ↦

@@ -133,5 +133,5 @@ tail-end words place past =
     get_or-append_right (parts_below words (16 * length words)) (false ∷ true ∷ []) (16 * length words) place false (length-parts words (16 * length words)) past
 
 -- cells that show bits and words have those of inputs and registers, and those of words
-pub behind-cells : (bits : List Bool) (words : List ℕ) (place : ℕ) → cell_at (cells_of bits words) (length bits + place) ≡ get_or (tail_of words) place false
-behind-cells bits words place = get_or-append-add bits (tail_of words) place false
+pub rest-cells : (bits : List Bool) (words : List ℕ) (place : ℕ) → cell_at (cells_of bits words) (length bits + place) ≡ get_or (tail_of words) place false
+rest-cells bits words place = get_or-append-add bits (tail_of words) place false

@@ -54,7 +54,7 @@ before-roots roots count total slot [] low own before below = before
 before-roots roots count total slot (cell ∷ ins) low own before below = (
   (λ less. elim (cases_lt cell count) [
     | inl name ↦ omega (arith, low cell less, before.0 name)
-    | inr behind ↦ absurd (omega (arith, less, behind, own cell behind below.0))
+    | inr rest ↦ absurd (omega (arith, less, rest, own cell rest below.0))
   ]),
   before-roots roots count total slot ins low own before.1 below.1,
 )
@@ -149,10 +149,10 @@ same-cells count from some other words size_some size_other same bound cell sour
       | inl name ↦
           get_or_append_left some (tail_of words) false cell (omega (arith, name, size_some)) ∙ same cell (source name)
           ∙ sym (get_or_append_left other (tail_of words) false cell (omega (arith, name, size_other)))
-      | inr behind ↦
+      | inr rest ↦
           let k : ℕ = cell - count in
-          let at_some : cell ≡ length some + k = omega (arith, behind, size_some) in
-          let at_other : cell ≡ length other + k = omega (arith, behind, size_other) in
+          let at_some : cell ≡ length some + k = omega (arith, rest, size_some) in
+          let at_other : cell ≡ length other + k = omega (arith, rest, size_other) in
           ap (cell_at (cells_of some words)) at_some ∙ get_or-append-add some (tail_of words) k false
           ∙ sym (ap (cell_at (cells_of other words)) at_other ∙ get_or-append-add other (tail_of words) k false)
     ]

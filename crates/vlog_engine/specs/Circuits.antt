@@ -38,4 +38,4 @@ pub record IsCircuit (first bits words : ℕ) (plan : Plan) (circuit : Circuit) 
 -- the cells that no wire has: these have these bits, the bits of these words, 0 and 1
 pub record AreSources (first : ℕ) (bits : List Bool) (words : List ℕ) (cells : List Bool) : Type 0 where
   pub below : (cell : ℕ) → cell < first → cell_at cells cell ≡ cell_at bits cell
-  pub behind : (place : ℕ) → place < 16 * length words + 2 → get_or cells (length bits + place) false ≡ get_or (tail_of words) place false
+  pub rest : (place : ℕ) → place < 16 * length words + 2 → get_or cells (length bits + place) false ≡ get_or (tail_of words) place false

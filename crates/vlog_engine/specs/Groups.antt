@@ -1,5 +1,5 @@
 -- What an event runs: the clocked items that are sensitive to its edge, over cells.
-use Rattle.std.specs.Prelude.{◌≡◌, ℕ, ◌<◌, Bool, ◌&&◌, List, [], ◌∷◌, ◌++◌, flat_map, get_or, length, map, nat_lt, slice_set, if◌then◌else◌}
+use Rattle.std.specs.Prelude.{◌≡◌, ℕ, ◌<◌, Bool, ◌&&◌, List, [], ◌∷◌, ◌++◌, flat_map, get_or, length, nat_lt, if◌then◌else◌}
 use Rattle.vlog_semantics.specs.declared.event.Event.{Event}
 use Rattle.vlog_semantics.specs.declared.plan.FlipFlop.{FlipFlop}
 use Rattle.vlog_semantics.specs.declared.plan.Read.{Read}
@@ -27,24 +27,22 @@ pub record IsGroup (event : Event) (first bits words : ℕ) (roots : List ℕ) (
 
 -- ---- the groups of all inputs, one after another
 
-abbrev pub flips_in : List Group → List (List FlipFlop)
-flips_in groups = map (λ group. group.flips.items) groups
-
-abbrev pub reads_in : List Group → List (List Read)
-reads_in groups = map (λ group. group.reads.items) groups
-
-abbrev pub writes_in : List Group → List (List Write)
-writes_in groups = map (λ group. group.writes.items) groups
-
--- items are added to the list of an input
-abbrev pub with_items : {A : Type 0} → List (List A) → ℕ → List A → List (List A)
-with_items lists pin items = slice_set lists pin (get_or lists pin [] ++ items)
-
 -- the event that this input gets this bit
 abbrev pub event_of : ℕ → Bool → Event
 event_of pin bit = record { pin = pin; bit = bit }
 
--- there is a list for each of `count` inputs, and it has what each item gives at that input
-pub record AreParted {A B : Type 0} (given : ℕ → A → List B) (count : ℕ) (items : List A) (lists : List (List B)) : Type 0 where
-  pub count_is : length lists ≡ count
-  pub lists_are : (pin : ℕ) → pin < count → get_or lists pin [] ≡ flat_map (given pin) items
+pub record IsEmpty (group : Group) : Type 0 where
+  pub flips : group.flips.items ≡ []
+  pub reads : group.reads.items ≡ []
+  pub writes : group.writes.items ≡ []
+
+-- a group gets items more
+pub record Gets (old : Group) (more_flips : List FlipFlop) (more_reads : List Read) (more_writes : List Write) (new : Group) : Type 0 where
+  pub flips : new.flips.items ≡ old.flips.items ++ more_flips
+  pub reads : new.reads.items ≡ old.reads.items ++ more_reads
+  pub writes : new.writes.items ≡ old.writes.items ++ more_writes
+
+-- the group of each input gets what is given at that input
+pub record EachGets {A : Type 0} (Gets : Group → List A → Group → Type 0) (given : ℕ → List A) (old new : List Group) : Type 0 where
+  pub count_is : length new ≡ length old
+  pub each : (pin : ℕ) (none : Group) → pin < length old → Gets (get_or old pin none) (given pin) (get_or new pin none)

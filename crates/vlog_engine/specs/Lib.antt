@@ -1,6 +1,7 @@
 pub mod Boards
 pub mod Changes
 pub mod Circuits
+pub mod Clocked
 pub mod Groups
 pub mod Lanes
 pub mod Marks

@@ -1,8 +1,9 @@
 // What each edge of an input runs: its sensitivity lists.
-ghost use Rattle.std.specs.Prelude.{◌≡◌, ◌<◌, ◌+◌, ◌*◌, ◌++◌, ◌^◌, [], ℕ, IfOk, OnOk, get_or, length, replicate};
-ghost use Rattle.vlog_engine.specs.Groups.{AreParted, IsGroup, event_of, flip_at, flips_in, read_at, reads_in, with_items, write_at, writes_in};
+ghost use Rattle.std.specs.Prelude.{◌≡◌, ◌≢◌, ◌<◌, ◌+◌, ◌*◌, ◌++◌, ◌^◌, [], ℕ, List, IfOk, OnOk, flat_map, get_or, length};
+ghost use Rattle.std.specs.List.{All};
+ghost use Rattle.vlog_engine.specs.Groups.{EachGets, IsEmpty, IsGroup, event_of};
 ghost use Rattle.vlog_engine.specs.declared.groups.Group.{Group as group_of};
-ghost use Rattle.vlog_semantics.specs.Steps.{is_edge_of};
+ghost use Rattle.vlog_semantics.specs.declared.event.Event.{Event as any_event};
 
 use crate::resolved::{resolved_flip, resolved_read, resolved_write};
 use std::alloc::{AllocError, Global};
@@ -28,11 +29,197 @@ impl Group {
     }
 }
 
+/// A clocked item of a plan.
+trait Clocked {
+    /// The input that clocks it.
+    ghost pin_of: { Self → ℕ };
+
+    /// What it gives the group of an event: itself, over cells, if it is sensitive to the event, else nothing.
+    ghost given: { any_event → ℕ → ℕ → ℕ → List ℕ → Self → List Self };
+
+    /// A group gets more of these items, and of no others.
+    ghost Grows: { group_of → List Self → group_of → Type 0 };
+
+    /// The input that clocks it.
+    fn pin(&self) -> usize
+        ensures { result ≡ pin_of self.now };
+
+    /// Adds itself, over cells, to the group of an event, if it is sensitive to that.
+    fn add_to(
+        &self,
+        group: &mut Group,
+        event: Event,
+        first: usize,
+        bits: usize,
+        words: usize,
+        roots: &[usize],
+    ) -> Result<(), AllocError>
+        requires { bits + 16 * words + 2 < 2 ^ 64 }
+        ensures { OnOk result (Grows group.old (given event first bits words roots.now self.now) group.new) };
+
+    /// A group that stays as it is gets nothing.
+    ghost none: { (group : group_of) → Grows group [] group };
+
+    /// What a group gets in two steps it gets in one.
+    ghost more: { (old middle new : group_of) (items others : List Self) → Grows old items middle → Grows middle others new → Grows old (items ++ others) new };
+
+    /// It gives nothing to the groups of other inputs.
+    ghost apart: { (event : any_event) (first bits words : ℕ) (roots : List ℕ) (item : Self) → event.pin ≢ pin_of item → given event first bits words roots item ≡ [] };
+}
+
+/// A flip-flop whose register doesn't come before the first wire is left out.
+impl Clocked for FlipFlop {
+    ghost use Rattle.vlog_engine.specs.Clocked.{Gets-more, Gets-none, flip-apart};
+    ghost use Rattle.vlog_engine.specs.Groups.{Gets, flip_at};
+
+    ghost pin_of = { λ flip. flip.edge.pin };
+
+    ghost given = { flip_at };
+
+    ghost Grows = { λ old flips new. Gets old flips [] [] new };
+
+    fn pin(&self) -> usize {
+        self.edge.pin
+    }
+
+    fn add_to(
+        &self,
+        group: &mut Group,
+        event: Event,
+        first: usize,
+        bits: usize,
+        words: usize,
+        roots: &[usize],
+    ) -> Result<(), AllocError> {
+        if is_edge_of(event, self.edge) && self.target < first {
+            group.flips.push(resolved_flip(bits, words, roots, self))?;
+        }
+        Ok(())
+    }
+
+    ghost none = { Gets-none };
+
+    ghost more = { λ old middle new flips others. Gets-more old middle new flips others [] [] [] [] };
+
+    ghost apart = { flip-apart };
+}
+
+impl Clocked for Read {
+    ghost use Rattle.vlog_engine.specs.Clocked.{Gets-more, Gets-none, read-apart};
+    ghost use Rattle.vlog_engine.specs.Groups.{Gets, read_at};
+
+    ghost pin_of = { λ read. read.port.edge.pin };
+
+    ghost given = { λ event first. read_at event };
+
+    ghost Grows = { λ old reads new. Gets old [] reads [] new };
+
+    fn pin(&self) -> usize {
+        self.port.edge.pin
+    }
+
+    fn add_to(
+        &self,
+        group: &mut Group,
+        event: Event,
+        _first: usize,
+        bits: usize,
+        words: usize,
+        roots: &[usize],
+    ) -> Result<(), AllocError> {
+        if is_edge_of(event, self.port.edge) {
+            group.reads.push(resolved_read(bits, words, roots, self))?;
+        }
+        Ok(())
+    }
+
+    ghost none = { Gets-none };
+
+    ghost more = { λ old middle new reads others. Gets-more old middle new [] [] reads others [] [] };
+
+    ghost apart = { λ event first. read-apart event };
+}
+
+impl Clocked for Write {
+    ghost use Rattle.vlog_engine.specs.Clocked.{Gets-more, Gets-none, write-apart};
+    ghost use Rattle.vlog_engine.specs.Groups.{Gets, write_at};
+
+    ghost pin_of = { λ write. write.port.edge.pin };
+
+    ghost given = { λ event first. write_at event };
+
+    ghost Grows = { λ old writes new. Gets old [] [] writes new };
+
+    fn pin(&self) -> usize {
+        self.port.edge.pin
+    }
+
+    fn add_to(
+        &self,
+        group: &mut Group,
+        event: Event,
+        _first: usize,
+        bits: usize,
+        words: usize,
+        roots: &[usize],
+    ) -> Result<(), AllocError> {
+        if is_edge_of(event, self.port.edge) {
+            group.writes.push(resolved_write(bits, words, roots, self))?;
+        }
+        Ok(())
+    }
+
+    ghost none = { Gets-none };
+
+    ghost more = { λ old middle new writes others. Gets-more old middle new [] [] [] [] writes others };
+
+    ghost apart = { λ event first. write-apart event };
+}
+
+/// Adds an item to the group of the input that clocks it, if it is sensitive to that input's change to this bit.
+fn add<T: Clocked>(
+    groups: &mut Vec<Group>,
+    bit: bool,
+    first: usize,
+    bits: usize,
+    words: usize,
+    roots: &[usize],
+    item: &T,
+) -> Result<(), AllocError>
+    requires { bits + 16 * words + 2 < 2 ^ 64 }
+    ensures { OnOk result (EachGets T.Grows (λ pin. T.given (event_of pin bit) first bits words roots.now item.now) groups.old.items groups.new.items) }
+{
+    let pin = item.pin();
+    if pin < groups.len() {
+        let event = Event { pin, bit };
+        item.add_to(&mut groups[pin], event, first, bits, words, roots)?;
+    }
+    Ok(())
+}
+
+/// Adds each item to the group of the input that clocks it, if it is sensitive to that input's change to this bit.
+fn add_all<T: Clocked>(
+    groups: &mut Vec<Group>,
+    bit: bool,
+    first: usize,
+    bits: usize,
+    words: usize,
+    roots: &[usize],
+    items: &[T],
+) -> Result<(), AllocError>
+    requires { bits + 16 * words + 2 < 2 ^ 64 }
+    ensures { OnOk result (EachGets T.Grows (λ pin. flat_map (T.given (event_of pin bit) first bits words roots.now) items.now) groups.old.items groups.new.items) }
+{
+    for item in items {
+        add(groups, bit, first, bits, words, roots, item)?;
+    }
+    Ok(())
+}
+
 /// An empty group for each of this many inputs. It takes no memory for items yet.
 fn empty_groups(alloc: Global, pins: usize) -> Result<Vec<Group>, AllocError>
-    ensures flips { IfOk result (λ groups. flips_in groups.items ≡ replicate pins []) }
-    ensures reads { IfOk result (λ groups. reads_in groups.items ≡ replicate pins []) }
-    ensures writes { IfOk result (λ groups. writes_in groups.items ≡ replicate pins []) }
+    ensures count { IfOk result (λ groups. length groups.items ≡ pins) }
+    ensures empty { IfOk result (λ groups. All IsEmpty groups.items) }
 {
     let mut groups = Vec::with_capacity(alloc, pins)?;
     for _ in 0..pins {
@@ -43,203 +230,6 @@ fn empty_groups(alloc: Global, pins: usize) -> Result<Vec<Group>, AllocError>
         })?;
     }
     Ok(groups)
-}
-
-/// Adds a flip-flop, if it is sensitive to the event. A flip-flop whose register doesn't come before the first wire is left out.
-fn push_flip(
-    flips: &mut Vec<FlipFlop>,
-    event: Event,
-    first: usize,
-    bits: usize,
-    words: usize,
-    roots: &[usize],
-    flip: &FlipFlop,
-) -> Result<(), AllocError>
-    requires { bits + 16 * words + 2 < 2 ^ 64 }
-    ensures { OnOk result (flips.new.items ≡ flips.old.items ++ flip_at event first bits words roots.now flip.now) }
-{
-    if is_edge_of(event, flip.edge) && flip.target < first {
-        flips.push(resolved_flip(bits, words, roots, flip))?;
-    }
-    Ok(())
-}
-
-/// Adds a flip-flop to the group of the input that clocks it, if it is sensitive to that input's change to this bit.
-fn add_flip(
-    groups: &mut Vec<Group>,
-    bit: bool,
-    first: usize,
-    bits: usize,
-    words: usize,
-    roots: &[usize],
-    flip: &FlipFlop,
-) -> Result<(), AllocError>
-    requires { bits + 16 * words + 2 < 2 ^ 64 }
-    ensures flips { OnOk result (flips_in groups.new.items ≡ with_items (flips_in groups.old.items) flip.now.edge.pin
-        (flip_at (event_of flip.now.edge.pin bit) first bits words roots.now flip.now)) }
-    ensures reads { OnOk result (reads_in groups.new.items ≡ reads_in groups.old.items) }
-    ensures writes { OnOk result (writes_in groups.new.items ≡ writes_in groups.old.items) }
-{
-    let pin = flip.edge.pin;
-    if pin < groups.len() {
-        let event = Event { pin, bit };
-        push_flip(
-            &mut groups[pin].flips,
-            event,
-            first,
-            bits,
-            words,
-            roots,
-            flip,
-        )?;
-    }
-    Ok(())
-}
-
-/// Adds each flip-flop to the group of the input that clocks it, if it is sensitive to that input's change to this bit.
-fn add_flips(
-    groups: &mut Vec<Group>,
-    bit: bool,
-    first: usize,
-    bits: usize,
-    words: usize,
-    roots: &[usize],
-    flips: &[FlipFlop],
-) -> Result<(), AllocError>
-    requires { bits + 16 * words + 2 < 2 ^ 64 }
-    ensures flips { OnOk result ((count : ℕ) → flips_in groups.old.items ≡ replicate count []
-        → AreParted (λ pin. flip_at (event_of pin bit) first bits words roots.now) count flips.now (flips_in groups.new.items)) }
-    ensures reads { OnOk result (reads_in groups.new.items ≡ reads_in groups.old.items) }
-    ensures writes { OnOk result (writes_in groups.new.items ≡ writes_in groups.old.items) }
-{
-    for flip in flips {
-        add_flip(groups, bit, first, bits, words, roots, flip)?;
-    }
-    Ok(())
-}
-
-/// Adds a read, if it is sensitive to the event.
-fn push_read(
-    reads: &mut Vec<Read>,
-    event: Event,
-    bits: usize,
-    words: usize,
-    roots: &[usize],
-    read: &Read,
-) -> Result<(), AllocError>
-    requires { bits + 16 * words + 2 < 2 ^ 64 }
-    ensures { OnOk result (reads.new.items ≡ reads.old.items ++ read_at event bits words roots.now read.now) }
-{
-    if is_edge_of(event, read.port.edge) {
-        reads.push(resolved_read(bits, words, roots, read))?;
-    }
-    Ok(())
-}
-
-/// Adds a read to the group of the input that clocks it, if it is sensitive to that input's change to this bit.
-fn add_read(
-    groups: &mut Vec<Group>,
-    bit: bool,
-    bits: usize,
-    words: usize,
-    roots: &[usize],
-    read: &Read,
-) -> Result<(), AllocError>
-    requires { bits + 16 * words + 2 < 2 ^ 64 }
-    ensures reads { OnOk result (reads_in groups.new.items ≡ with_items (reads_in groups.old.items) read.now.port.edge.pin
-        (read_at (event_of read.now.port.edge.pin bit) bits words roots.now read.now)) }
-    ensures flips { OnOk result (flips_in groups.new.items ≡ flips_in groups.old.items) }
-    ensures writes { OnOk result (writes_in groups.new.items ≡ writes_in groups.old.items) }
-{
-    let pin = read.port.edge.pin;
-    if pin < groups.len() {
-        let event = Event { pin, bit };
-        push_read(&mut groups[pin].reads, event, bits, words, roots, read)?;
-    }
-    Ok(())
-}
-
-/// Adds each read to the group of the input that clocks it, if it is sensitive to that input's change to this bit.
-fn add_reads(
-    groups: &mut Vec<Group>,
-    bit: bool,
-    bits: usize,
-    words: usize,
-    roots: &[usize],
-    reads: &[Read],
-) -> Result<(), AllocError>
-    requires { bits + 16 * words + 2 < 2 ^ 64 }
-    ensures reads { OnOk result ((count : ℕ) → reads_in groups.old.items ≡ replicate count []
-        → AreParted (λ pin. read_at (event_of pin bit) bits words roots.now) count reads.now (reads_in groups.new.items)) }
-    ensures flips { OnOk result (flips_in groups.new.items ≡ flips_in groups.old.items) }
-    ensures writes { OnOk result (writes_in groups.new.items ≡ writes_in groups.old.items) }
-{
-    for read in reads {
-        add_read(groups, bit, bits, words, roots, read)?;
-    }
-    Ok(())
-}
-
-/// Adds a write, if it is sensitive to the event.
-fn push_write(
-    writes: &mut Vec<Write>,
-    event: Event,
-    bits: usize,
-    words: usize,
-    roots: &[usize],
-    write: &Write,
-) -> Result<(), AllocError>
-    requires { bits + 16 * words + 2 < 2 ^ 64 }
-    ensures { OnOk result (writes.new.items ≡ writes.old.items ++ write_at event bits words roots.now write.now) }
-{
-    if is_edge_of(event, write.port.edge) {
-        writes.push(resolved_write(bits, words, roots, write))?;
-    }
-    Ok(())
-}
-
-/// Adds a write to the group of the input that clocks it, if it is sensitive to that input's change to this bit.
-fn add_write(
-    groups: &mut Vec<Group>,
-    bit: bool,
-    bits: usize,
-    words: usize,
-    roots: &[usize],
-    write: &Write,
-) -> Result<(), AllocError>
-    requires { bits + 16 * words + 2 < 2 ^ 64 }
-    ensures writes { OnOk result (writes_in groups.new.items ≡ with_items (writes_in groups.old.items) write.now.port.edge.pin
-        (write_at (event_of write.now.port.edge.pin bit) bits words roots.now write.now)) }
-    ensures flips { OnOk result (flips_in groups.new.items ≡ flips_in groups.old.items) }
-    ensures reads { OnOk result (reads_in groups.new.items ≡ reads_in groups.old.items) }
-{
-    let pin = write.port.edge.pin;
-    if pin < groups.len() {
-        let event = Event { pin, bit };
-        push_write(&mut groups[pin].writes, event, bits, words, roots, write)?;
-    }
-    Ok(())
-}
-
-/// Adds each write to the group of the input that clocks it, if it is sensitive to that input's change to this bit.
-fn add_writes(
-    groups: &mut Vec<Group>,
-    bit: bool,
-    bits: usize,
-    words: usize,
-    roots: &[usize],
-    writes: &[Write],
-) -> Result<(), AllocError>
-    requires { bits + 16 * words + 2 < 2 ^ 64 }
-    ensures writes { OnOk result ((count : ℕ) → writes_in groups.old.items ≡ replicate count []
-        → AreParted (λ pin. write_at (event_of pin bit) bits words roots.now) count writes.now (writes_in groups.new.items)) }
-    ensures flips { OnOk result (flips_in groups.new.items ≡ flips_in groups.old.items) }
-    ensures reads { OnOk result (reads_in groups.new.items ≡ reads_in groups.old.items) }
-{
-    for write in writes {
-        add_write(groups, bit, bits, words, roots, write)?;
-    }
-    Ok(())
 }
 
 /// For each of this many inputs, what its change to this bit runs.
@@ -259,8 +249,8 @@ pub(crate) fn groups_of(
         → IsGroup (record { pin = pin; bit = bit }) first bits words roots.now plan.now (get_or groups.items pin none)) }
 {
     let mut groups = empty_groups(alloc, pins)?;
-    add_flips(&mut groups, bit, first, bits, words, roots, &plan.flips)?;
-    add_reads(&mut groups, bit, bits, words, roots, &plan.reads)?;
-    add_writes(&mut groups, bit, bits, words, roots, &plan.writes)?;
+    add_all(&mut groups, bit, first, bits, words, roots, &plan.flips)?;
+    add_all(&mut groups, bit, first, bits, words, roots, &plan.reads)?;
+    add_all(&mut groups, bit, first, bits, words, roots, &plan.writes)?;
     Ok(groups)
 }

@@ -10,14 +10,14 @@ use Rattle.tool_run.specs.Tasks.{Answer, layout_first}
 use Rattle.tool_run.specs.declared.load.LoadStop.{LoadStop}
 use Rattle.tool_run.specs.declared.load.LoadStop.TheVariants.{Failed, TooLong, Memory}
 use Rattle.tool_run.specs.declared.tool.Stop.{Stop}
-use Rattle.tool_run.proofs.Loading.{SourceRose-earlier, stops_behind, stops_now}
+use Rattle.tool_run.proofs.Loading.{SourceRose-earlier, stops_after_others, stops_now}
 
 -- a need that is reached is reached after a first one too
 reaches_after : (contents : Option FileMap) (left : Option (List ℕ)) (first need : Need) (needs : List Need) (text : List ℕ) → IsTextOf contents left first text
     → Reaches contents left needs need → Reaches contents left (first ∷ needs) need
 reaches_after contents left first need needs text is r = record {
   before = first ∷ r.before;
-  behind = r.behind;
+  after = r.after;
   texts = text ∷ r.texts;
   order = ap (λ (all : List Need). first ∷ all) r.order;
   read = (is, r.read);
@@ -99,7 +99,7 @@ module _ {F I M : Type 0} (contents : F → Option FileMap) (steady : F → Bool
       → Answers contents steady load_faults store_faults left input_faults (layout_need file ∷ needs) (layout_first (Some file) answer) bytes (Err stop) files new_files input new_input
   answers_stopped files new_files input new_input stop stops same_contents same_store_faults same_input = record {
     made = tt;
-    stops = stops_behind (contents files) (steady files) left input_faults [] needs (layout_need file) [] (load_faults files) (load_faults files) (load_faults new_files) input new_input stop tt (omega arith) stops;
+    stops = stops_after_others (contents files) (steady files) left input_faults [] needs (layout_need file) [] (load_faults files) (load_faults files) (load_faults new_files) input new_input stop tt (omega arith) stops;
     end = tt;
     same_contents = same_contents;
     same_store_faults = same_store_faults;

@@ -48,15 +48,15 @@ file_longer (Some known) name limit more = of (get known name) more
 
 -- one need alone is reached
 alone : (contents : Option FileMap) (left : Option (List ℕ)) (need : Need) → Reaches contents left (need ∷ []) need
-alone contents left need = record { before = []; behind = []; texts = []; order = refl; read = tt }
+alone contents left need = record { before = []; after = []; texts = []; order = refl; read = tt }
 
 -- and no other
 alone-is : (contents : Option FileMap) (left : Option (List ℕ)) (need other : Need) → Reaches contents left (need ∷ []) other → other ≡ need
-alone-is contents left need other r = at r.before r.behind r.order
+alone-is contents left need other r = at r.before r.after r.order
   where
-    at : (before behind : List Need) → need ∷ [] ≡ before ++ other ∷ behind → other ≡ need
-    at [] behind order = sym (ap (λ (all : List Need). get_or all 0 need) order)
-    at (first ∷ before) behind order = absurd (omega (arith, ap length order, length-append before (other ∷ behind)))
+    at : (before after : List Need) → need ∷ [] ≡ before ++ other ∷ after → other ≡ need
+    at [] after order = sym (ap (λ (all : List Need). get_or all 0 need) order)
+    at (first ∷ before) after order = absurd (omega (arith, ap length order, length-append before (other ∷ after)))
 
 -- why a load of a file stopped
 pub file_stops : {I : Type 0} (contents : Option FileMap) (steady : Bool) (left : I → Option (List ℕ)) (input_faults : I → ℕ) (load : Load) (name : List ℕ) (loads new_loads : ℕ) (input : I) (fault : TakeFault) (stop : LoadStop) → text_of load.name ≡ Some name
@@ -82,7 +82,7 @@ input_stops contents steady left input_faults load loads new_loads input new_inp
 
 -- ---- one need among others
 
--- texts of needs, and of others behind them
+-- texts of needs, and of others after them
 pub texts-append : (contents : Option FileMap) (left : Option (List ℕ)) (needs others : List Need) (texts more : List (List ℕ)) → AreTextsOf contents left needs texts → AreTextsOf contents left others more → AreTextsOf contents left (needs ++ others) (texts ++ more)
 texts-append contents left [] others [] more are rest = rest
 texts-append contents left [] others (bytes ∷ texts) more are rest = absurd are
@@ -97,28 +97,28 @@ SourceRose-earlier need loads earlier_loads new_loads inputs new_inputs le rose 
     by_name None rose = rose
     by_name (Some name) rose = omega arith
 
--- it stopped at one behind others that have texts
-pub stops_behind : {I : Type 0} (contents : Option FileMap) (steady : Bool) (left : I → Option (List ℕ)) (input_faults : I → ℕ) (before behind : List Need) (need : Need) (texts : List (List ℕ)) (loads loads_now new_loads : ℕ) (input new_input : I) (stop : LoadStop)
+-- it stopped at one after others that have texts
+pub stops_after_others : {I : Type 0} (contents : Option FileMap) (steady : Bool) (left : I → Option (List ℕ)) (input_faults : I → ℕ) (before after : List Need) (need : Need) (texts : List (List ℕ)) (loads loads_now new_loads : ℕ) (input new_input : I) (stop : LoadStop)
     → AreTextsOf contents (left input) before texts → loads ≤ loads_now
-    → StopsLoading contents steady left input_faults (need ∷ []) loads_now new_loads input new_input stop → StopsLoading contents steady left input_faults (before ++ need ∷ behind) loads new_loads input new_input stop
-stops_behind contents steady left input_faults before behind need texts loads loads_now new_loads input new_input (Failed load) are le fails = record {
-  reached = record { before = before; behind = behind; texts = texts; order = ap (λ (n : Need). before ++ n ∷ behind) (sym (alone-is contents (left input) need (need_of load) fails.reached)); read = are };
+    → StopsLoading contents steady left input_faults (need ∷ []) loads_now new_loads input new_input stop → StopsLoading contents steady left input_faults (before ++ need ∷ after) loads new_loads input new_input stop
+stops_after_others contents steady left input_faults before after need texts loads loads_now new_loads input new_input (Failed load) are le fails = record {
+  reached = record { before = before; after = after; texts = texts; order = ap (λ (n : Need). before ++ n ∷ after) (sym (alone-is contents (left input) need (need_of load) fails.reached)); read = are };
   rose = SourceRose-earlier (need_of load) loads_now loads new_loads (input_faults input) (input_faults new_input) le fails.rose;
   lacks = fails.lacks;
   untried = fails.untried;
 }
-stops_behind contents steady left input_faults before behind need texts loads loads_now new_loads input new_input (TooLong load) are le passes = record {
-  reached = record { before = before; behind = behind; texts = texts; order = ap (λ (n : Need). before ++ n ∷ behind) (sym (alone-is contents (left input) need (need_of load) passes.reached)); read = are };
+stops_after_others contents steady left input_faults before after need texts loads loads_now new_loads input new_input (TooLong load) are le passes = record {
+  reached = record { before = before; after = after; texts = texts; order = ap (λ (n : Need). before ++ n ∷ after) (sym (alone-is contents (left input) need (need_of load) passes.reached)); read = are };
   longer = passes.longer;
   untried = passes.untried;
 }
-stops_behind contents steady left input_faults before behind need texts loads loads_now new_loads input new_input Memory are le memory = tt
+stops_after_others contents steady left input_faults before after need texts loads loads_now new_loads input new_input Memory are le memory = tt
 
--- a need behind others that have texts was tried
-pub one-reached : {I : Type 0} (contents : Option FileMap) (left : I → Option (List ℕ)) (before behind : List Need) (need : Need) (texts : List (List ℕ)) (input new_input : I) → AreTextsOf contents (left input) before texts
-    → (is_stream need.name ≡ false → new_input ≡ input) → IsReached contents left (before ++ need ∷ behind) input new_input
-one-reached contents left before behind need texts input new_input are unread = elim (cases_Bool (is_stream need.name)) [
-  | inl stream ↦ inr (need, stream, record { before = before; behind = behind; texts = texts; order = refl; read = are })
+-- a need after others that have texts was tried
+pub one-reached : {I : Type 0} (contents : Option FileMap) (left : I → Option (List ℕ)) (before after : List Need) (need : Need) (texts : List (List ℕ)) (input new_input : I) → AreTextsOf contents (left input) before texts
+    → (is_stream need.name ≡ false → new_input ≡ input) → IsReached contents left (before ++ need ∷ after) input new_input
+one-reached contents left before after need texts input new_input are unread = elim (cases_Bool (is_stream need.name)) [
+  | inl stream ↦ inr (need, stream, record { before = before; after = after; texts = texts; order = refl; read = are })
   | inr file ↦ inl (unread file)
 ]
 

@@ -76,19 +76,19 @@ module _ (contents : Option FileMap) (left : Option (List ℕ)) (known : FileMap
   joined-first bytes texts (Ok others) = refl
   joined-first bytes texts (Err fault) = refl
 
-  -- behind needs with texts, others are told, loaded and reached
-  record Behind (before others : List Need) (texts : List (List ℕ)) : Type 0 where
+  -- after needs with texts, others are told, loaded and reached
+  record After (before others : List Need) (texts : List (List ℕ)) : Type 0 where
     told : AreTold contents left known text others
     loads : loaded known text (before ++ others) ≡ joined texts (loaded known text others)
     reaches : reached known text (before ++ others) ≡ before ++ reached known text others
 
-  behind : (before others : List Need) (texts : List (List ℕ)) → AreTextsOf contents left before texts → AreTold contents left known text (before ++ others) → Behind before others texts
-  behind [] others [] are told = record { told = told; loads = joined-none (loaded known text others); reaches = refl }
-  behind [] others (bytes ∷ texts) are told = absurd are
-  behind (need ∷ before) others [] are told = absurd are
-  behind (need ∷ before) others (bytes ∷ texts) are told =
+  after : (before others : List Need) (texts : List (List ℕ)) → AreTextsOf contents left before texts → AreTold contents left known text (before ++ others) → After before others texts
+  after [] others [] are told = record { told = told; loads = joined-none (loaded known text others); reaches = refl }
+  after [] others (bytes ∷ texts) are told = absurd are
+  after (need ∷ before) others [] are told = absurd are
+  after (need ∷ before) others (bytes ∷ texts) are told =
       let gives = one_loaded need bytes told.0 are.0 in
-      let more = behind before others texts are.1 (told.1 bytes gives) in
+      let more = after before others texts are.1 (told.1 bytes gives) in
       record {
         told = more.told;
         loads = ap (λ (one : Result (List ℕ) LoadFault). loaded_after one (loaded known text (before ++ others))) gives
@@ -100,19 +100,19 @@ module _ (contents : Option FileMap) (left : Option (List ℕ)) (known : FileMap
   -- all needs have texts
   pub texts-loaded : (needs : List Need) (texts : List (List ℕ)) → AreTextsOf contents left needs texts → AreTold contents left known text needs → loaded known text needs ≡ Ok texts
   texts-loaded needs texts are told =
-      let here = behind needs [] texts are (subst (λ (all : List Need). AreTold contents left known text all) (sym (append-nil needs)) told) in
+      let here = after needs [] texts are (subst (λ (all : List Need). AreTold contents left known text all) (sym (append-nil needs)) told) in
       ap (loaded known text) (sym (append-nil needs)) ∙ here.loads ∙ ap (λ (all : List (List ℕ)). Ok all) (append-nil texts)
 
   -- a need is reached
-  reaches : (needs : List Need) (need : Need) (r : Reaches contents left needs need) → AreTold contents left known text needs → Behind r.before (need ∷ r.behind) r.texts
-  reaches needs need r told = behind r.before (need ∷ r.behind) r.texts r.read (subst (λ (all : List Need). AreTold contents left known text all) r.order told)
+  reaches : (needs : List Need) (need : Need) (r : Reaches contents left needs need) → AreTold contents left known text needs → After r.before (need ∷ r.after) r.texts
+  reaches needs need r told = after r.before (need ∷ r.after) r.texts r.read (subst (λ (all : List Need). AreTold contents left known text all) r.order told)
 
   stops-at : (needs : List Need) (need : Need) (fault : LoadFault) → Reaches contents left needs need → (NameIsTold contents left known text need.name → bytes_of known text need ≡ Err fault)
       → AreTold contents left known text needs → loaded known text needs ≡ Err fault
   stops-at needs need fault r fails told =
       let here = reaches needs need r told in
       ap (loaded known text) r.order ∙ here.loads
-      ∙ ap (λ (one : Result (List ℕ) LoadFault). joined r.texts (loaded_after one (loaded known text r.behind))) (fails here.told.0)
+      ∙ ap (λ (one : Result (List ℕ) LoadFault). joined r.texts (loaded_after one (loaded known text r.after))) (fails here.told.0)
 
 -- ---- where loading stops
 
@@ -130,8 +130,8 @@ missing-loaded contents left needs need r file lacks = λ known text told.
 pub input-reached : (contents : Option FileMap) (left : Option (List ℕ)) (needs : List Need) (need : Need) → Reaches contents left needs need → is_stream need.name ≡ true
     → WhereTold contents left needs (λ known text. reads_input (reached known text needs) ≡ true)
 input-reached contents left needs need r stream = λ known text told.
-    let rest = reached known text (need ∷ r.behind) in
-    let others = reached_after (bytes_of known text need) (reached known text r.behind) in
+    let rest = reached known text (need ∷ r.after) in
+    let others = reached_after (bytes_of known text need) (reached known text r.after) in
     ap (λ (all : List Need). reads_input (reached known text all)) r.order
     ∙ ap reads_input (reaches contents left known text needs need r told).reaches
     ∙ list_any-append (λ (n : Need). is_stream n.name) r.before rest

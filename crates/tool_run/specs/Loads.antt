@@ -28,9 +28,9 @@ AreTextsOf contents left needs texts = AllZip (IsTextOf contents left) needs tex
 -- a need comes after others that have texts
 pub record Reaches (contents : Option FileMap) (left : Option (List ℕ)) (needs : List Need) (need : Need) : Type 0 where
   pub before : List Need
-  pub behind : List Need
+  pub after : List Need
   pub texts : List (List ℕ)
-  pub order : needs ≡ before ++ need ∷ behind
+  pub order : needs ≡ before ++ need ∷ after
   pub read : AreTextsOf contents left before texts
 
 -- a need failed to be read: it was reached, the count of its side rose, and over steady files there is no such file. If it is

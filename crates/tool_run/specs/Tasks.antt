@@ -18,10 +18,11 @@ pub record Task : Type 0 where
   pub target : Option (List ℕ)
   pub answer : List (List ℕ) → Answer
 
--- an answer to the texts of all needs, the first of which is a layout file if one is named
-abbrev pub layout_first : Option (List ℕ) → (Option (List ℕ) → List (List ℕ) → Answer) → List (List ℕ) → Answer
-layout_first None answer = answer None
-layout_first (Some file) answer = λ texts. answer (Some (get_or texts 0 [])) (drop 1 texts)
+-- what is said of a layout file, if one is named, and of other texts, said of the texts of all needs: the first of them is the layout
+-- file if one is named
+abbrev pub layout_first {ℓ} : {A : Type ℓ} → Option (List ℕ) → (Option (List ℕ) → List (List ℕ) → A) → List (List ℕ) → A
+layout_first None said = said None
+layout_first (Some file) said = λ texts. said (Some (get_or texts 0 [])) (drop 1 texts)
 
 -- a task that reads a layout file before its other needs, if one is named
 abbrev pub layout_task : List ℕ → Option (List ℕ) → List Need → Option (List ℕ) → (Option (List ℕ) → List (List ℕ) → Answer) → Task

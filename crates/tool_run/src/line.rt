@@ -165,17 +165,17 @@ pub(crate) fn write_named<'a, E: Sink>(
     tool_name: &'a str,
     what: &'a str,
     name: &'a str,
-    behind: Phrase<'a>,
+    after: Phrase<'a>,
 )
-    ensures { Writes (line_of tool_name.now (what.now ++ name.now ++ phrase_text behind.entry)) (E.held errors.old) (E.held errors.new) (E.faults errors.old) (E.faults errors.new) }
+    ensures { Writes (line_of tool_name.now (what.now ++ name.now ++ phrase_text after.entry)) (E.held errors.old) (E.held errors.new) (E.faults errors.old) (E.faults errors.new) }
 {
     let parts = [
         Part::Text(tool_name),
         Part::Text(": "),
         Part::Text(what),
         Part::Text(name),
-        Part::Text(behind.text),
-        Part::Number(behind.number),
+        Part::Text(after.text),
+        Part::Number(after.number),
         Part::Text("\n"),
     ];
     write_parts(errors, &parts);

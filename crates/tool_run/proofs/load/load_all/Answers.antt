@@ -8,7 +8,7 @@ use Rattle.tool_run.specs.Loads.{AreTextsOf, IsReached, IsTextOf, StopsLoading}
 use Rattle.std.proofs.Math.Bool.{or-false}
 use Rattle.std.proofs.lemmas.Bool.{or_parts}
 use Rattle.tool_run.proofs.Keeping.{KeepsTexts-trans}
-use Rattle.tool_run.proofs.Loading.{end-here, file-at, file-before, limit-at, one-reached, split-need, stops_behind, stops_now, stream-at, take-need, take-needs, texts-append}
+use Rattle.tool_run.proofs.Loading.{end-here, file-at, file-before, limit-at, one-reached, split-need, stops_after_others, stops_now, stream-at, take-need, take-needs, texts-append}
 use Rattle.tool_run.proofs.load.load_all.Goals as goal
 
 -- where there is no load
@@ -55,7 +55,7 @@ returns-in-Err-clause-stops g c =
     let i = c.loop-load.invariant in
     let stops : List Need → Type 0 = λ all. StopsLoading (F.contents c.args.files.now) (F.steady c.args.files.now) I.left I.faults all (F.load_faults c.args.files.now) (F.load_faults new.files) c.args.input.now new.input c.in-Err.stop in
     subst stops (sym (split-need c.args.loads.now k none c.loop-load-test.true))
-    (stops_behind (F.contents c.args.files.now) (F.steady c.args.files.now) I.left I.faults (take k needs) (drop (k + 1) needs) need i.texts.0 (F.load_faults c.args.files.now) (F.load_faults old.files) (F.load_faults new.files) c.args.input.now new.input c.in-Err.stop i.texts.1 i.load_faults
+    (stops_after_others (F.contents c.args.files.now) (F.steady c.args.files.now) I.left I.faults (take k needs) (drop (k + 1) needs) need i.texts.0 (F.load_faults c.args.files.now) (F.load_faults old.files) (F.load_faults new.files) c.args.input.now new.input c.in-Err.stop i.texts.1 i.load_faults
     (stops_now (F.contents c.args.files.now) (F.contents old.files) (F.steady c.args.files.now) (F.steady old.files) I.left I.faults (need ∷ []) (F.load_faults old.files) (F.load_faults new.files) c.args.input.now old.input new.input c.in-Err.stop
     i.same_contents i.same_steady (i.untried c.loop-load-test.true) c.in-Err.ensures.stops))
 

@@ -1,5 +1,5 @@
 -- The images of a boot file, as files that are loaded.
-use Rattle.std.proofs.Common.{◌+◌, ◌<◌, ◌^◌, [], ◌∷◌, zero, suc, arith, length, ℕ, List, refl}
+use Rattle.std.proofs.Common.{◌<◌, ◌^◌, [], ◌∷◌, zero, suc, arith, length, ℕ, List, refl}
 use Rattle.std.specs.Prelude.{map, slice_get, slice_index_or}
 use Rattle.clap.specs.Words.{Text}
 use Rattle.tool_run.specs.Needs.{IsFile, IsSound, Need}

@@ -1,7 +1,5 @@
 -- What the records of packing and unpacking say of the answers.
 use Rattle.std.proofs.Common.{◌≡◌, ◌∙◌, Bool, List, ℕ, sym, ap, ap₂}
-use Rattle.std.specs.Prelude.{Option, None, Some}
-use Rattle.ice_image.specs.Configuration.{Configuration}
 use Rattle.layout_file.specs.declared.layouts.Layouts.{Layouts}
 use Rattle.ice_pack.specs.Packed.{IsPacked, IsUnpacked}
 use Rattle.tool_run.specs.Tasks.{Done}

@@ -2,7 +2,7 @@
 use Rattle.std.proofs.Common.{◌≡◌, ℕ, zero, suc, ◌+◌, ◌*◌, ◌/◌, ◌%◌, ◌^◌, ◌<◌, Bool, false, List, get_or, set, length, sym, ap₂, ◌∙◌, subst, inl, inr, arith}
 use Rattle.std.proofs.lemmas.Bool.{cases_eq}
 use Rattle.std.proofs.lemmas.List.{length-set, get_or-set_same, get_or-set_other}
-use Rattle.bram_replace.specs.ReadModes.{ColumnsAreWords, RamBits, by_columns, column_in, from_columns, mode_width, place_in, reversed}
+use Rattle.bram_replace.specs.ReadModes.{ColumnsAreWords, RamBits, by_columns, column_in, mode_width, place_in, reversed}
 use Rattle.bram_replace.specs.Rams.{AreAlike, kept_at, listed}
 
 -- ---- where the bits of columns are

@@ -28,7 +28,7 @@ use Rattle.tool_inputs.proofs.CommandLines.{helped-no}
 use Rattle.module_tools.specs.declared.request.TheConstants.{VLOGRUN_HELP}
 use Rattle.module_tools.specs.declared.told.Told.{Told}
 use Rattle.module_tools.specs.declared.told.Told.TheVariants.{Lines}
-use Rattle.module_tools.specs.Vlogrun.{run_of, run_over, told_by, vlogrun, vlogrun_answer, vlogrun_command, vlogrun_name, vlogrun_outcome, vlogrun_task_by, vlogrun_task_of, vlogrun_usage}
+use Rattle.module_tools.specs.Vlogrun.{run_of, run_over, told_by, vlogrun, vlogrun_command, vlogrun_name, vlogrun_outcome, vlogrun_task_by, vlogrun_task_of, vlogrun_usage}
 use Rattle.design_answers.specs.Lines.{fabric_events, fabric_text}
 use Rattle.design_answers.proofs.Lines.{run-shown}
 use Rattle.icestorm_cli.specs.Runs.{IsModuleOf, PromisesRun, RunsFabric, ports_with, shows_registers, tells_waves}

@@ -2,7 +2,6 @@
 use Rattle.std.proofs.Common.{◌≡◌, Bool, true, false, List, refl}
 use Rattle.std.specs.Prelude.{if◌then◌else◌}
 use Rattle.clap.specs.Words.{Row, Text, matches_of}
-use Rattle.tool_run.specs.Tasks.{Task}
 use Rattle.tool_inputs.specs.Commands.{is_taken}
 use Rattle.tool_inputs.specs.Outcomes.{Manual, asked, untaken}
 

@@ -1,5 +1,5 @@
 -- Tools that may read a layout file, and what they need.
-use Rattle.std.proofs.Common.{◌≡◌, ◌+◌, ◌<◌, ◌^◌, [], ◌∷◌, zero, suc, arith, length, ℕ, List, refl, ap}
+use Rattle.std.proofs.Common.{◌+◌, ◌<◌, ◌^◌, [], ◌∷◌, zero, suc, arith, length, ℕ, List, refl, ap}
 use Rattle.std.specs.Prelude.{Some, Result, slice_get, slice_index_or}
 use Rattle.clap.specs.Words.{Text}
 use Rattle.layout_file.specs.declared.layouts.Layouts.{Layouts}

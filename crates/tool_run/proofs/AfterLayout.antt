@@ -1,11 +1,10 @@
 -- A layout file that is read before other needs.
-use Rattle.std.proofs.Common.{◌≡◌, ◌∙◌, ◌⊎◌, ◌≤◌, ℕ, Bool, true, false, List, [], ◌∷◌, refl, ap, subst, inl, inr, arith}
-use Rattle.std.specs.Prelude.{Option, Some, Result, Ok, Err, IfOk, IfErr, OnOk}
-use Rattle.std.specs.Io.KnownBytes.{IsAtEnd}
+use Rattle.std.proofs.Common.{◌≡◌, ◌∙◌, ◌≤◌, ℕ, Bool, true, false, List, [], ◌∷◌, ap, subst, inl, inr, arith}
+use Rattle.std.specs.Prelude.{Option, Some, Result, Ok, Err, IfOk, IfErr}
 use Rattle.ice_io.specs.Files.{FileMap}
 use Rattle.tool_run.specs.Answering.{Answers, Gives}
 use Rattle.tool_run.specs.Loads.{AreTextsOf, IsReached, IsTextOf, Reaches, StopsLoading}
-use Rattle.tool_run.specs.Needs.{Need, is_stream, layout_need, need_of, reads_files, reads_input}
+use Rattle.tool_run.specs.Needs.{Need, layout_need, need_of}
 use Rattle.tool_run.specs.Tasks.{Answer, layout_first}
 use Rattle.tool_run.specs.declared.load.LoadStop.{LoadStop}
 use Rattle.tool_run.specs.declared.load.LoadStop.TheVariants.{Failed, TooLong, Memory}

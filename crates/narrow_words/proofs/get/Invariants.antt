@@ -1,4 +1,4 @@
-use Rattle.narrow_words.specs.Narrow.{bit_at, put_bit, got_bit}
+use Rattle.narrow_words.specs.Narrow.{bit_at, got_bit}
 use Rattle.narrow_words.proofs.Bits.{HasBits}
 use Rattle.narrow_words.proofs.get.Given as goal
 

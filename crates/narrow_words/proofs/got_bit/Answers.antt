@@ -1,4 +1,4 @@
-use Rattle.std.proofs.Common.{◌≡◌, ◌%◌, ap, ◌∙◌, sym, subst}
+use Rattle.std.proofs.Common.{◌≡◌, ◌%◌, subst}
 use Rattle.narrow_words.proofs.Bits.{high-inside}
 use Rattle.narrow_words.proofs.got_bit.Goals as goal
 

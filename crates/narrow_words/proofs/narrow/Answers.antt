@@ -1,6 +1,5 @@
-use Rattle.std.proofs.Common.{rules, ◌≡◌, ◌+◌, ◌*◌, refl, arith}
-use Rattle.narrow_words.specs.Narrow.{bit_at}
-use Rattle.narrow_words.proofs.Bits.{more_bits, all_bits}
+use Rattle.std.proofs.Common.{rules, arith}
+use Rattle.narrow_words.proofs.Bits.{more_bits}
 use Rattle.narrow_words.proofs.narrow.Goals as goal
 
 pub loop-k-preserved : goal.loop-k-preserved

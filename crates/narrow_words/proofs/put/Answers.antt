@@ -1,4 +1,4 @@
-use Rattle.std.proofs.Common.{rules, ◌≡◌, refl, arith}
+use Rattle.std.proofs.Common.{rules, arith}
 use Rattle.narrow_words.specs.Narrow.{bit_at, put_bit}
 use Rattle.narrow_words.proofs.Bits.{more_bits, all_bits}
 use Rattle.narrow_words.proofs.put.Goals as goal

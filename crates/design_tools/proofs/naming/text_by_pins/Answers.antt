@@ -1,4 +1,4 @@
-use Rattle.std.proofs.Common.{◌≡◌, ◌∙◌, subst, sym}
+use Rattle.std.proofs.Common.{◌≡◌, ◌∙◌, subst}
 use Rattle.std.specs.Prelude.{None}
 use Rattle.pin_file.specs.Faults.{Tells, pin_fault_of}
 use Rattle.pin_file.specs.Feeding.{kept_in}

@@ -1,6 +1,5 @@
-use Rattle.std.proofs.Common.{◌≡◌, List, refl, sym, ap, ◌∙◌, subst}
+use Rattle.std.proofs.Common.{◌≡◌, refl, sym, ap, ◌∙◌, subst}
 use Rattle.std.specs.Prelude.{None, filter, not}
-use Rattle.plane_map.specs.declared.device.DeviceName.{DeviceName}
 use Rattle.ice_image.specs.Configuration.{Configuration}
 use Rattle.ice_image.specs.Either.{configuration_of, device_of}
 use Rattle.chipdb_reader.specs.Database.{Database}

@@ -1,4 +1,4 @@
-use Rattle.std.proofs.Common.{[], subst}
+use Rattle.std.proofs.Common.{subst}
 use Rattle.tool_inputs.specs.DesignInput.{HasTexts}
 use Rattle.tool_inputs.proofs.DesignInputs.{closed-database, closed-image, closed-other}
 use Rattle.tool_inputs.proofs.design_input.DesignInput.close.Goals as goal

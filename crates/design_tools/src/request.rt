@@ -81,11 +81,13 @@ fault. A design is refused for these causes, looked for in this order:
   Cascade       block RAMs that are chained: take single ones
   TwoDrivers    two outputs drive one net: the image wasn't made by a router, or
                 the database is for another device
-  Loop          a net depends on itself without a register between. A router may
-                make such a loop at an input that a logic cell doesn't use: then
-                --used-inputs takes the design
-  Clock         a flip-flop or a RAM whose clock is made by logic, and comes
-                from no pin: clock it by the pin, and use an enable
+  Loop          a net depends on itself, and no clock edge lies between: through
+                LUTs, or through the reset of a flip-flop that resets itself at
+                once. A router may make such a loop at an input that a logic
+                cell doesn't use: then --used-inputs takes the design
+  Clock         a flip-flop or a RAM whose clock is made by logic, by more than a
+                LUT that passes one net on or inverts it: clock it by a pin, and
+                use an enable
 
 Exit status: 0 done; 1 a file or the design is refused; 2 the command line isn't
 taken; 3 reading failed; 4 writing failed; 5 out of memory; 6 an input is longer

@@ -19,7 +19,7 @@ use Rattle.graph_order.proofs.Cycles.{IsBounded, is_on_cycle-whole}
 use Rattle.graph_order.specs.Rows.{ReadsByDriven, wiring_of as rows_wiring}
 use Rattle.fabric_model.specs.Joins.{class_of}
 use Rattle.fabric_model.specs.Clocks.{ClockEnd, LeadsTo, User, users_of, clock_end}
-use Rattle.fabric_model.specs.Clocks.ClockEnd.{at_pin, undriven, logic}
+use Rattle.fabric_model.specs.Clocks.ClockEnd.{at_pin, still, logic}
 use Rattle.fabric_model.specs.Faults.{Fault, drivers_fault, driver_faults, loop_faults, end_fault, user_fault, clock_faults, fabric_fault}
 use Rattle.fabric_wiring.specs.declared.fault.DriverFault.{DriverFault}
 use Rattle.fabric_wiring.specs.declared.fault.DriverFault.TheVariants as drivers
@@ -95,8 +95,8 @@ user-ends device fabric leads one None has there x y user net is = absurd cc
 user-ends device fabric leads one (Some source) has there x y user net is = by-end (clock_end fabric source) refl is
   where
     by-end : (end : ClockEnd) → clock_end fabric source ≡ end → first_of (end_fault one source end) ≡ Some (Fault.clock x y user net) → IsUnclocked device fabric x y user net
-    by-end (at_pin place) ends told = absurd cc
-    by-end undriven ends told = absurd cc
+    by-end (at_pin place turned) ends told = absurd cc
+    by-end (still bit) ends told = absurd cc
     by-end logic ends told =
         let same : user_of one source ≡ user_of (record { x = x; y = y; user = user; net = Some net }) net = cc in
         let is_one : one ≡ user_of one source = ap (λ n. record { x = one.x; y = one.y; user = one.user; net = n }) has in

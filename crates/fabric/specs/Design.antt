@@ -7,7 +7,7 @@ use Rattle.chipdb_reader.specs.declared.items.PinXy.{PinXy}
 use Rattle.fabric_model.specs.declared.pin.Pin.{Pin}
 use Rattle.fabric_model.specs.Fabric.{fabric_with}
 use Rattle.fabric_model.specs.Clocks.{ClockEnd}
-use Rattle.fabric_model.specs.Clocks.ClockEnd.{at_pin, undriven, logic}
+use Rattle.fabric_model.specs.Clocks.ClockEnd.{at_pin, still, logic}
 use Rattle.fabric_model.specs.Faults.{design_fault}
 use Rattle.fabric_wiring.specs.declared.parts.Buffer.{Buffer}
 use Rattle.fabric.specs.declared.design_type.LinkEnds.{LinkEnds}
@@ -27,8 +27,8 @@ IsDesign design = (db : Database) × (image : Configuration) × IsDesignOf db im
 
 -- the pin at which a clock chain ends, if it ends at one
 abbrev pub end_pin : List Pin → ClockEnd → Option PinXy
-end_pin inputs (at_pin place) = option_map (λ pin. record { x = pin.x; y = pin.y; n = pin.n }) (slice_get inputs place)
-end_pin inputs undriven = None
+end_pin inputs (at_pin place turned) = option_map (λ pin. record { x = pin.x; y = pin.y; n = pin.n }) (slice_get inputs place)
+end_pin inputs (still bit) = None
 end_pin inputs logic = None
 
 -- the two nets of a buffer

@@ -40,7 +40,7 @@ pub record IsCycleFrom (fabric : Fabric) (class : ℕ) (cycle : List ℕ) : Type
   pub begins : first_of cycle ≡ Some class
   pub least : (lesser : ℕ) (rest : List ℕ) → lesser < class → IsCycle (wiring_of fabric) (lesser ∷ rest) → ⊥
 
--- a user of a clock whose clock chain leads to another driver than a pin
+-- a user of a clock whose clock chain ends at logic
 pub record IsUnclocked (device : DeviceName) (fabric : Fabric) (x y : ℕ) (user : ClockUser) (net : ℕ) : Type 0 where
   pub there : Contains (users_of device fabric) (record { x = x; y = y; user = user; net = Some net })
   pub ends : clock_end fabric net ≡ logic

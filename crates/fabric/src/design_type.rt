@@ -4,6 +4,7 @@ ghost use Rattle.std.specs.Option.{option_map};
 ghost use Rattle.std.specs.List.{list_any};
 ghost use Rattle.ice_image.specs.Configuration.{Configuration};
 ghost use Rattle.chipdb_reader.specs.Database.{Database};
+ghost use Rattle.fabric_model.specs.Clocks.{is_turned};
 ghost use Rattle.fabric_model.specs.Links.{class_in};
 ghost use Rattle.fabric_wiring.specs.DriverLists.{driver_in};
 ghost use Rattle.fabric_wiring.specs.Ends.{end_in, end_of};
@@ -209,7 +210,7 @@ impl Design {
         self.ends
             .get(class as usize)
             .copied()
-            .unwrap_or(ClockEnd::Undriven)
+            .unwrap_or(ClockEnd::Still(false))
     }
 
     /// The pin at which the clock chain from a net of the database ends, or `None` if it ends elsewhere. No tool of this project needs it:
@@ -219,12 +220,24 @@ impl Design {
         ensures { result ≡ end_pin self.now.inputs (end_in self.now.ends (class_in self.now.parts.links net)) }
     {
         match self.clock_end(net) {
-            ClockEnd::Pin(place) => self.inputs.get(place as usize).map(|pin| PinXy {
+            ClockEnd::Pin { place, .. } => self.inputs.get(place as usize).map(|pin| PinXy {
                 x: pin.x,
                 y: pin.y,
                 n: pin.n,
             }),
-            ClockEnd::Undriven | ClockEnd::Logic => None,
+            ClockEnd::Still(_) | ClockEnd::Logic => None,
+        }
+    }
+
+    /// Whether the clock chain from a net of the database ends at a pin and inverts its clock on the way, so that the net has the inverse of
+    /// the pin's value.
+    pub fn turned(&self, net: u32) -> bool
+        requires { net < length self.now.drivers.places }
+        ensures { result ≡ is_turned (end_in self.now.ends (class_in self.now.parts.links net)) }
+    {
+        match self.clock_end(net) {
+            ClockEnd::Pin { turned, .. } => turned,
+            ClockEnd::Still(_) | ClockEnd::Logic => false,
         }
     }
 

@@ -42,7 +42,7 @@ pub enum FabricFault {
         net: u32,
         cycle: Cycle,
     },
-    /// The clock of a user at the tile at (x, y), on the net `net`, comes from another driver than a pin.
+    /// The clock of a user at the tile at (x, y), on the net `net`, comes from logic.
     Clock {
         x: u8,
         y: u8,

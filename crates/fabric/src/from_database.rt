@@ -1,5 +1,5 @@
 // The design of a database and an image.
-ghost use Rattle.std.specs.Prelude.{◌≡◌, ℕ, All, Bool, List, IfOk, IfErr, OnOk, None};
+ghost use Rattle.std.specs.Prelude.{◌≡◌, ℕ, Bool, List, IfOk, IfErr, OnOk, None};
 ghost use Rattle.ice_image.specs.Either.{configuration_of};
 ghost use Rattle.chipdb_reader.specs.Kept.{database_in};
 ghost use Rattle.fabric_model.specs.declared.lut_inputs.LutInputs.TheVariants as read;
@@ -7,7 +7,7 @@ ghost use Rattle.fabric_model.specs.Fabric.{fabric_with, fabric_of};
 ghost use Rattle.fabric_model.specs.Values.{State, IsConsistent};
 ghost use Rattle.fabric_model.specs.Joins.{class_of};
 ghost use Rattle.fabric_model.specs.Clocks.{LeadsTo, clock_end};
-ghost use Rattle.fabric_model.specs.Steps.{Event, Entry, IsRun};
+ghost use Rattle.fabric_model.specs.Steps.{Event, IsRun};
 ghost use Rattle.fabric_model.specs.Unique.{ExactlyOne};
 ghost use Rattle.fabric_model.specs.Faults.{design_fault};
 ghost use Rattle.fabric.specs.Clocks.{HasClocks};
@@ -26,8 +26,8 @@ use std::alloc::Global;
 /// Finds the design of a database and an image. The LUTs read all of their inputs.
 ///
 /// For each state and all values of the input pins there is exactly one list of net values that is consistent with them, and for each
-/// list of events exactly one run. In each entry of that run the clock of a register or RAM port has the value of its pin, or is 0 if it
-/// has no driver.
+/// list of events exactly one run. With all consistent values, and so in each entry of a run, the clock of a register or RAM port has the
+/// value of its pin, or the inverse of it, or a bit that is always the same.
 ///
 /// # Errors
 /// The first cause why the two aren't taken, in the order of [`FabricFault`], with the first tile, pin, class of joined nets or clock user
@@ -50,7 +50,7 @@ pub fn design(alloc: Global, db: &ChipDb, image: &AnyImage) -> Result<Design, Fa
     ensures refused { IfErr result (IsCause (configuration_of image.now).layout.device (fabric_of (database_in db.now) (configuration_of image.now)) (design_fault read.All (database_in db.now) (configuration_of image.now))) }
     ensures one_value { OnOk result ((state : State) (pins : List Bool) → ExactlyOne (IsConsistent (fabric_of (database_in db.now) (configuration_of image.now)) state pins)) }
     ensures chains { OnOk result ((net : ℕ) → LeadsTo (fabric_of (database_in db.now) (configuration_of image.now)) (class_of (fabric_of (database_in db.now) (configuration_of image.now)).joins net) (clock_end (fabric_of (database_in db.now) (configuration_of image.now)) net)) }
-    ensures clocks { OnOk result ((events : List Event) (entries : List Entry) → IsRun (fabric_of (database_in db.now) (configuration_of image.now)) events entries → All (HasClocks (fabric_of (database_in db.now) (configuration_of image.now))) entries) }
+    ensures clocks { OnOk result ((state : State) (pins v : List Bool) → IsConsistent (fabric_of (database_in db.now) (configuration_of image.now)) state pins v → HasClocks (fabric_of (database_in db.now) (configuration_of image.now)) pins v) }
     ensures one_run { OnOk result ((events : List Event) → ExactlyOne (IsRun (fabric_of (database_in db.now) (configuration_of image.now)) events)) }
 {
     design_with(alloc, db, image, LutInputs::All)
@@ -84,7 +84,8 @@ pub fn design_with(
     ensures refused { IfErr result (IsCause (configuration_of image.now).layout.device (fabric_with lut_inputs (database_in db.now) (configuration_of image.now)) (design_fault lut_inputs (database_in db.now) (configuration_of image.now))) }
     ensures one_value { OnOk result ((state : State) (pins : List Bool) → ExactlyOne (IsConsistent (fabric_of (database_in db.now) (configuration_of image.now)) state pins)) }
     ensures chains { OnOk result ((net : ℕ) → LeadsTo (fabric_of (database_in db.now) (configuration_of image.now)) (class_of (fabric_of (database_in db.now) (configuration_of image.now)).joins net) (clock_end (fabric_of (database_in db.now) (configuration_of image.now)) net)) }
-    ensures clocks { OnOk result ((events : List Event) (entries : List Entry) → IsRun (fabric_of (database_in db.now) (configuration_of image.now)) events entries → All (HasClocks (fabric_of (database_in db.now) (configuration_of image.now))) entries) }
+    ensures origins { OnOk result ((net : ℕ) → clock_end (fabric_with lut_inputs (database_in db.now) (configuration_of image.now)) net ≡ clock_end (fabric_of (database_in db.now) (configuration_of image.now)) net) }
+    ensures clocks { OnOk result ((state : State) (pins v : List Bool) → IsConsistent (fabric_of (database_in db.now) (configuration_of image.now)) state pins v → HasClocks (fabric_of (database_in db.now) (configuration_of image.now)) pins v) }
     ensures one_run { OnOk result ((events : List Event) → ExactlyOne (IsRun (fabric_of (database_in db.now) (configuration_of image.now)) events)) }
 {
     let parts = parts(alloc, db, image, lut_inputs)?;

@@ -41,7 +41,7 @@ pub(crate) struct Wired {
     pub(crate) words: Vec<u16>,
 }
 
-/// Checks that no clock comes from another driver than a pin. If one does, the error tells the first user of such a clock.
+/// Checks that each clock comes from a pin or is always the same bit. If one doesn't, the error tells the first user of such a clock.
 fn clocked(device: DeviceName, parts: &Parts, ends: &[ClockEnd]) -> Result<(), FabricFault>
     ghost fabric: { Fabric }
     requires parts { ArePartsOf fabric parts.now }

@@ -26,11 +26,12 @@ use Rattle.fabric_model.specs.Drivers.{Rule, Drive, drives_if, drives_by, pin_dr
 use Rattle.fabric_model.specs.Drivers.Rule.{input, table_entry, register_bit, constant}
 use Rattle.fabric_model.specs.Values.{State, lut_value, settled_bit, value_of, bit_in, is_connected, IsConsistent}
 use Rattle.fabric_model.specs.Steps.{next_bit, bit_after, words_after, read_after, has_edge, state_after, settled_state, start_state, output_values, Event, Entry, IsEntry, Follows, FollowEach, IsFirst, IsRun}
-use Rattle.fabric_model.specs.Clocks.{ClockEnd, Turn, turn_by, turn_of, turn_at, LeadsTo, end_by, end_within, clock_end}
+use Rattle.fabric_model.specs.Clocks.{ClockEnd, Turn, turn_through, turn_by, turn_of, turn_at, LeadsTo, end_by, end_within, clock_end}
 use Rattle.fabric_model.specs.Clocks.LeadsTo.{ends_here, goes_on}
 use Rattle.fabric_model.specs.Faults.{design_fault}
 use Rattle.fabric_model.proofs.Paired.{pairs-same, pairs-append, pairs-made, pairs-flat_map, pairs-each, pairs-numbered, pairs-give, pairs-length, pairs-any, pairs-filter, pairs-find, pairs-first, pairs-flip}
 use Rattle.fabric_model.proofs.UsedInputs.{read-value}
+use Rattle.fabric_model.proofs.ClockLuts.{read-pass}
 use Rattle.fabric_model.proofs.Within.{fabric-within}
 use Rattle.fabric_model.proofs.Taken.{design-taken, taken-value}
 use Rattle.fabric_model.proofs.Runs.{taken-run, fabric-placed}
@@ -45,7 +46,7 @@ pub record RegistersAlike (one two : Register) : Type 0 where
 -- two rules have the same value, and a clock chain does the same at them
 pub record RulesAlike (one two : Rule) : Type 0 where
   pub value : (connected : ℕ → Bool) (state : State) (pins : List Bool) (bit : ℕ → Bool) → value_of connected state pins bit one ≡ value_of connected state pins bit two
-  pub turn : turn_by one ≡ turn_by two
+  pub turn : (connected : ℕ → Bool) → turn_by connected one ≡ turn_by connected two
 
 pub record DrivesAlike (one two : Drive) : Type 0 where
   pub net : one.net ≡ two.net
@@ -57,7 +58,7 @@ pub record OutputsAlike (one two : Output) : Type 0 where
   pub rule : RulesAlike one.rule two.rule
 
 rule-itself : (rule : Rule) → RulesAlike rule rule
-rule-itself rule = record { value = λ connected state pins bit. refl; turn = refl }
+rule-itself rule = record { value = λ connected state pins bit. refl; turn = λ connected. refl }
 
 drive-itself : (drive : Drive) → DrivesAlike drive drive
 drive-itself drive = record { net = refl; rule = rule-itself drive.rule }
@@ -87,7 +88,7 @@ register_bit-alike one two alike = record {
   value = λ connected state pins bit.
       settled_bit-alike one.1 two.1 alike.1 connected bit (get_or state.bits one.0 false)
       ∙ ap (λ place. settled_bit connected bit two.1 (get_or state.bits place false)) alike.0;
-  turn = refl;
+  turn = λ connected. refl;
 }
 
 -- ---- drivers
@@ -131,7 +132,7 @@ table-alike : (one two : LutInputs) (lc : LogicCell) → RulesAlike (table_entry
 unfolding value_of
 table-alike one two lc = record {
   value = λ connected state pins bit. read-value connected pins bit one lc ∙ sym (read-value connected pins bit two lc);
-  turn = refl;
+  turn = λ connected. ap turn_through (read-pass connected lc one ∙ sym (read-pass connected lc two));
 }
 
 -- ---- a fabric whose LUTs read other inputs
@@ -284,17 +285,18 @@ module _ (fabric : Fabric) (inputs : LutInputs) (registers : List Register) (ali
 
   -- ---- clocks
 
-  turn-first : (one two : List Drive) → AllZip DrivesAlike one two → turn_of one ≡ turn_of two
-  turn-first [] [] same = refl
-  turn-first [] (b ∷ two) same = absurd same
-  turn-first (a ∷ one) [] same = absurd same
-  turn-first (a ∷ one) (b ∷ two) same = same.0.rule.turn
+  turn-first : (connected : ℕ → Bool) (one two : List Drive) → AllZip DrivesAlike one two → turn_of connected one ≡ turn_of connected two
+  turn-first connected [] [] same = refl
+  turn-first connected [] (b ∷ two) same = absurd same
+  turn-first connected (a ∷ one) [] same = absurd same
+  turn-first connected (a ∷ one) (b ∷ two) same = same.0.rule.turn connected
 
   turn-alike : (class : ℕ) → turn_at fabric class ≡ turn_at other class
   unfolding turn_at drivers_of
   turn-alike class =
-      turn-first (drivers_of fabric class) (drivers_of other class)
+      turn-first (is_connected fabric) (drivers_of fabric class) (drivers_of other class)
       (pairs-filter DrivesAlike (is_driver_of fabric class) (is_driver_of other class) (is_driver-alike class) (drives_of fabric) (drives_of other) drives-alike)
+      ∙ ap (λ connected. turn_of connected (drivers_of other class)) connected-alike
 
   end_within-alike : (count class : ℕ) → end_within fabric count class ≡ end_within other count class
   unfolding end_within
@@ -308,7 +310,7 @@ module _ (fabric : Fabric) (inputs : LutInputs) (registers : List Register) (ali
 
   leads-alike : {class : ℕ} {end : ClockEnd} → LeadsTo fabric class end → LeadsTo other class end
   leads-alike {class} {end} (ends_here turns) = ends_here (sym (turn-alike class) ∙ turns)
-  leads-alike {class} {end} (goes_on net turns rest) = goes_on net (sym (turn-alike class) ∙ turns) (leads-alike rest)
+  leads-alike {class} {end} (goes_on turned net later turns is rest) = goes_on turned net later (sym (turn-alike class) ∙ turns) is (leads-alike rest)
 
 -- ---- runs
 
@@ -401,7 +403,7 @@ module _ (inputs : LutInputs) (db : Database) (image : Configuration) where
   to-all : Agree (fabric_with inputs db image) (fabric_of db image)
   to-all = in-all (λ all. Agree (fabric_with inputs db image) all) (agree-other (fabric_with inputs db image) read.All (fabric_of db image).registers registers-alike)
 
-  from-all : Agree (fabric_of db image) (fabric_with inputs db image)
+  pub from-all : Agree (fabric_of db image) (fabric_with inputs db image)
   from-all = in-all (λ all. Agree all (fabric_with inputs db image)) (agree-back (fabric_with inputs db image) read.All (fabric_of db image).registers registers-alike)
 
   -- the runs are the same

@@ -17,3 +17,7 @@ entry_past word n past = get_or_past (word_bits 16 word) n false (omega (arith, 
 -- whether bit k of a number is 0
 pub clear_bit : (n k : ℕ) → (bit_and (n / 2 ^ k) 1 == 0) ≡ (n / 2 ^ k % 2 == 0)
 clear_bit n k = ap (λ m. m == 0) (shr_and_one n k)
+
+-- whether bit k of a number is 1
+pub set_bit : (n k : ℕ) → (bit_and (n / 2 ^ k) 1 == 1) ≡ (n / 2 ^ k % 2 == 1)
+set_bit n k = ap (λ m. m == 1) (shr_and_one n k)

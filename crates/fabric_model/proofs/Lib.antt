@@ -11,6 +11,10 @@ pub mod Facts
 pub mod OneValue
 -- what a fabric is that has no fault
 pub mod Taken
+-- what a LUT does to a clock: its value, the net that it reads, and that it is the same whichever inputs the LUT reads
+pub mod ClockLuts
+-- the flags of inputs that can be 1 say which entries can occur
+pub mod ClockPasses
 -- clock chains: the search finds the end of a chain, and a net has the value of the end of its chain
 pub mod Chains
 -- the fabric of a database whose lines name nets of the device has no net past their number

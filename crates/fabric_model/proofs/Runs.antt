@@ -29,8 +29,9 @@ use Rattle.fabric_model.specs.Fabric.{Fabric, numbered, inputs_of, fabric_with}
 use Rattle.fabric_model.specs.Registers.{register_of, registers_of, pin_register, pin_registers_of}
 use Rattle.fabric_model.specs.Values.{State, bit_in, is_connected, IsConsistent}
 use Rattle.fabric_model.specs.Steps.{has_edge, bit_after, words_after, read_after, state_after, settled_state, Event, Entry, output_values, IsEntry, Follows, start_state, IsFirst, FollowEach, IsRun}
+use Rattle.fabric_model.specs.ClockLuts.{turned_bit}
 use Rattle.fabric_model.specs.Clocks.{ClockEnd, User, register_user, ram_users, users_at, users_of, clock_end}
-use Rattle.fabric_model.specs.Clocks.ClockEnd.{at_pin, undriven, logic}
+use Rattle.fabric_model.specs.Clocks.ClockEnd.{at_pin, still, logic}
 use Rattle.fabric_model.specs.Faults.{end_fault, user_fault, clock_faults, fabric_fault}
 use Rattle.fabric_model.proofs.OneValue.{IsWithin, filter-has}
 use Rattle.fabric_model.proofs.Taken.{taken-order, taken-value, taken-clocks}
@@ -210,8 +211,8 @@ module _ (before one two : ℕ → Bool) where
 
 -- the bit of the end of a chain
 abbrev pub end_bit : List Bool → ClockEnd → Bool
-end_bit pins (at_pin place) = get_or pins place false
-end_bit pins undriven = false
+end_bit pins (at_pin place turned) = turned_bit turned (get_or pins place false)
+end_bit pins (still bit) = bit
 end_bit pins logic = false
 
 -- the bit that the pins give a clock net
@@ -224,18 +225,18 @@ clock_bit-is fabric pins net = refl
 
 -- an end that a clock of a user may have
 abbrev pub IsClockEnd : ClockEnd → Type 0
-IsClockEnd (at_pin place) = Unit {0}
-IsClockEnd undriven = Unit {0}
+IsClockEnd (at_pin place turned) = Unit {0}
+IsClockEnd (still bit) = Unit {0}
 IsClockEnd logic = ⊥
 
 end-value : (pins : List Bool) (end : ClockEnd) (bit : Bool) → IsClockEnd end → HasEndValue pins end bit → bit ≡ end_bit pins end
-end-value pins (at_pin place) bit good has = has
-end-value pins undriven bit good has = has
+end-value pins (at_pin place turned) bit good has = has
+end-value pins (still it) bit good has = has
 end-value pins logic bit good has = absurd good
 
 end-good : (user : User) (net : ℕ) (end : ClockEnd) → end_fault user net end ≡ [] → IsClockEnd end
-end-good user net (at_pin place) none = tt
-end-good user net undriven none = tt
+end-good user net (at_pin place turned) none = tt
+end-good user net (still bit) none = tt
 end-good user net logic none = absurd cc
 
 -- a clock net that may be missing has such an end

@@ -15,7 +15,7 @@ use Rattle.fabric_model.specs.Values.{input_or_0, source_value, table_input, lut
 
 -- ---- entries
 
-same-bits : (clear one two : Bool) → clear ≡ true → (clear && not (beq one two)) ≡ false → one ≡ two
+pub same-bits : (clear one two : Bool) → clear ≡ true → (clear && not (beq one two)) ≡ false → one ≡ two
 same-bits true true true is none = refl
 same-bits true false false is none = refl
 same-bits true true false is none = absurd cc
@@ -29,16 +29,16 @@ same-entries word k n unused few clear =
     same-bits (n / 2 ^ k % 2 == 0) (entry_of word n) (entry_of word (n + 2 ^ k)) (eq-eqb (n / 2 ^ k % 2) 0 clear)
     (any_below-clear 16 n (entry_differs word k) unused few)
 
-value-small : (bit : Bool) → bit_value bit ≤ 1
+pub value-small : (bit : Bool) → bit_value bit ≤ 1
 value-small true = omega arith
 value-small false = omega arith
 
 -- the number of an entry by the bits of the four inputs
-abbrev number_of : Bool → Bool → Bool → Bool → ℕ
+abbrev pub number_of : Bool → Bool → Bool → Bool → ℕ
 number_of a b c d = bit_value a + 2 * bit_value b + 4 * bit_value c + 8 * bit_value d
 
 -- an input, or 0 if it isn't used
-abbrev read_bit : ℕ → ℕ → Bool → Bool
+abbrev pub read_bit : ℕ → ℕ → Bool → Bool
 read_bit word k bit = if uses_input word k then bit else false
 
 -- what holds of an input that isn't used holds of what is read in its place
@@ -50,7 +50,7 @@ read-same word k give unused bit =
     ]
 
 module _ (word : ℕ) where
-  clear-0 : (b c d : Bool) → uses_input word 0 ≡ false → entry_of word (number_of true b c d) ≡ entry_of word (number_of false b c d)
+  pub clear-0 : (b c d : Bool) → uses_input word 0 ≡ false → entry_of word (number_of true b c d) ≡ entry_of word (number_of false b c d)
   clear-0 b c d unused =
       let of_b = value-small b in
       let of_c = value-small c in
@@ -59,7 +59,7 @@ module _ (word : ℕ) where
       let set : number_of true b c d ≡ n + 2 ^ 0 = omega arith in
       ap (entry_of word) set ∙ sym (same-entries word 0 n unused (omega arith) (omega arith))
 
-  clear-1 : (a c d : Bool) → uses_input word 1 ≡ false → entry_of word (number_of a true c d) ≡ entry_of word (number_of a false c d)
+  pub clear-1 : (a c d : Bool) → uses_input word 1 ≡ false → entry_of word (number_of a true c d) ≡ entry_of word (number_of a false c d)
   clear-1 a c d unused =
       let of_a = value-small a in
       let of_c = value-small c in
@@ -68,7 +68,7 @@ module _ (word : ℕ) where
       let set : number_of a true c d ≡ n + 2 ^ 1 = omega arith in
       ap (entry_of word) set ∙ sym (same-entries word 1 n unused (omega arith) (omega arith))
 
-  clear-2 : (a b d : Bool) → uses_input word 2 ≡ false → entry_of word (number_of a b true d) ≡ entry_of word (number_of a b false d)
+  pub clear-2 : (a b d : Bool) → uses_input word 2 ≡ false → entry_of word (number_of a b true d) ≡ entry_of word (number_of a b false d)
   clear-2 a b d unused =
       let of_a = value-small a in
       let of_b = value-small b in
@@ -77,7 +77,7 @@ module _ (word : ℕ) where
       let set : number_of a b true d ≡ n + 2 ^ 2 = omega arith in
       ap (entry_of word) set ∙ sym (same-entries word 2 n unused (omega arith) (omega arith))
 
-  clear-3 : (a b c : Bool) → uses_input word 3 ≡ false → entry_of word (number_of a b c true) ≡ entry_of word (number_of a b c false)
+  pub clear-3 : (a b c : Bool) → uses_input word 3 ≡ false → entry_of word (number_of a b c true) ≡ entry_of word (number_of a b c false)
   clear-3 a b c unused =
       let of_a = value-small a in
       let of_b = value-small b in
@@ -87,7 +87,7 @@ module _ (word : ℕ) where
       ap (entry_of word) set ∙ sym (same-entries word 3 n unused (omega arith) (omega arith))
 
   -- the entry is the same if each input that isn't used reads 0
-  entry-read : (a b c d : Bool)
+  pub entry-read : (a b c d : Bool)
       → entry_of word (number_of a b c d) ≡ entry_of word (number_of (read_bit word 0 a) (read_bit word 1 b) (read_bit word 2 c) (read_bit word 3 d))
   entry-read a b c d =
       let a' = read_bit word 0 a in
@@ -100,16 +100,17 @@ module _ (word : ℕ) where
 
 -- ---- tables
 
+-- an input of a cell's table
+pub net-input : (ins : List (Option ℕ)) (k : ℕ) → get_or (map Net ins) k (Net None) ≡ Net (get_or ins k None)
+net-input [] k = refl
+net-input (net ∷ ins) zero = refl
+net-input (net ∷ ins) (suc k) = net-input ins k
+
 module _ (connected : ℕ → Bool) (pins : List Bool) (bit : ℕ → Bool) where
   -- an input that isn't used reads 0
   input-read : (used : Bool) (net : Option ℕ) → input_or_0 connected bit (if used then net else None) ≡ (if used then input_or_0 connected bit net else false)
   input-read true net = refl
   input-read false net = refl
-
-  net-input : (ins : List (Option ℕ)) (k : ℕ) → get_or (map Net ins) k (Net None) ≡ Net (get_or ins k None)
-  net-input [] k = refl
-  net-input (net ∷ ins) zero = refl
-  net-input (net ∷ ins) (suc k) = net-input ins k
 
   -- the bit at an input of the cell
   abbrev came : LogicCell → ℕ → Bool

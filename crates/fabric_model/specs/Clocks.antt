@@ -1,5 +1,5 @@
 -- Where clocks come from, and what uses them. A clock chain leads from a clock net, driver by driver, to the clock's source.
-use Rattle.std.specs.Prelude.{◌≡◌, ℕ, zero, suc, ◌&&◌, List, [], ◌∷◌, ◌++◌, map, flat_map, filter, ◌==◌, Option}
+use Rattle.std.specs.Prelude.{◌≡◌, ℕ, zero, suc, Bool, false, ◌&&◌, List, [], ◌∷◌, ◌++◌, map, flat_map, filter, ◌==◌, Option}
 use Rattle.plane_map.specs.declared.device.DeviceName.{DeviceName}
 use Rattle.fabric_model.specs.declared.register.Register.{Register}
 use Rattle.fabric_model.specs.declared.ram.RamCell.{RamCell}
@@ -9,48 +9,73 @@ use Rattle.fabric_model.specs.Tiles.{over_grid}
 use Rattle.fabric_model.specs.Joins.{class_of}
 use Rattle.fabric_model.specs.Fabric.{Fabric}
 use Rattle.fabric_model.specs.Drivers.{Rule, Drive, drivers_of}
-use Rattle.fabric_model.specs.Drivers.Rule.{pin_bit, copied}
+use Rattle.fabric_model.specs.Drivers.Rule.{pin_bit, table_entry, copied}
+use Rattle.fabric_model.specs.Values.{is_connected}
+use Rattle.fabric_model.specs.ClockLuts.{LutPass, turned_bit, pass_of}
+use Rattle.fabric_model.specs.ClockLuts.LutPass.{holds, follows, mixes}
 
 -- ---- chains
 
--- where a clock chain ends: at the input pin with that index, at a class of joined nets without a driver, or at any other driver
+-- Where a clock chain ends: at the input pin with that index, upright or turned (inverted); at a bit that is always the same; or at logic,
+-- which is any other driver.
 pub data ClockEnd : Type 0 where
-  at_pin : ℕ → ClockEnd
-  undriven : ClockEnd
+  at_pin : (place : ℕ) (turned : Bool) → ClockEnd
+  still : Bool → ClockEnd
   logic : ClockEnd
 
--- what a clock chain does at a class of joined nets: it ends, or goes on to the class of another net
+-- the end of a chain, if the chain is turned before it comes there
+abbrev pub turned_end : Bool → ClockEnd → ClockEnd
+turned_end turned (at_pin place other) = at_pin place (turned_bit turned other)
+turned_end turned (still bit) = still (turned_bit turned bit)
+turned_end turned logic = logic
+
+-- whether a chain ends at a pin and is turned there
+abbrev pub is_turned : ClockEnd → Bool
+is_turned (at_pin place turned) = turned
+is_turned (still bit) = false
+is_turned logic = false
+
+-- what a clock chain does at a class of joined nets: it ends, or goes on to the class of another net, upright or turned
 pub data Turn : Type 0 where
   ends : ClockEnd → Turn
-  goes_to : ℕ → Turn
+  goes_to : (turned : Bool) (net : ℕ) → Turn
 
--- A buffer, and a global network that a net `fabout` drives, lead the chain on to their source. An input pin and a pad end it.
-abbrev pub turn_by : Rule → Turn
-turn_by (pin_bit place) = ends (at_pin place)
-turn_by (copied net) = goes_to net
-turn_by rule = ends logic
+-- what a clock chain does at a LUT
+abbrev pub turn_through : LutPass → Turn
+turn_through (holds bit) = ends (still bit)
+turn_through (follows turned net) = goes_to turned net
+turn_through mixes = ends logic
 
-abbrev pub turn_of : List Drive → Turn
-turn_of [] = ends undriven
-turn_of (drive ∷ drives) = turn_by drive.rule
+-- A buffer, and a global network that a net `fabout` drives, lead the chain on to their source. A LUT that follows a net leads it on to that
+-- net, and one that holds a bit ends it at that bit. An input pin and a pad end it.
+abbrev pub turn_by : (ℕ → Bool) → Rule → Turn
+turn_by connected (pin_bit place) = ends (at_pin place false)
+turn_by connected (copied net) = goes_to false net
+turn_by connected (table_entry table) = turn_through (pass_of connected table)
+turn_by connected rule = ends logic
+
+-- a class of joined nets without a driver is always 0
+abbrev pub turn_of : (ℕ → Bool) → List Drive → Turn
+turn_of connected [] = ends (still false)
+turn_of connected (drive ∷ drives) = turn_by connected drive.rule
 
 -- what a clock chain does at a class of joined nets
 unfoldable pub turn_at : Fabric → ℕ → Turn
-turn_at fabric class = turn_of (drivers_of fabric class)
+turn_at fabric class = turn_of (is_connected fabric) (drivers_of fabric class)
 
 -- the clock chain from a class of joined nets has this end
 pub data LeadsTo (fabric : Fabric) : ℕ → ClockEnd → Type 0 where
   ends_here : {class : ℕ} {end : ClockEnd} → turn_at fabric class ≡ ends end → LeadsTo fabric class end
-  goes_on : {class : ℕ} {end : ClockEnd} (net : ℕ) → turn_at fabric class ≡ goes_to net
-      → LeadsTo fabric (class_of fabric.joins net) end → LeadsTo fabric class end
+  goes_on : {class : ℕ} {end : ClockEnd} (turned : Bool) (net : ℕ) (later : ClockEnd) → turn_at fabric class ≡ goes_to turned net
+      → end ≡ turned_end turned later → LeadsTo fabric (class_of fabric.joins net) later → LeadsTo fabric class end
 
 -- where a clock chain ends, from what it does at a class of joined nets and from where it ends if it goes on to another net
 abbrev pub end_by : (ℕ → ClockEnd) → Turn → ClockEnd
 end_by later (ends end) = end
-end_by later (goes_to net) = later net
+end_by later (goes_to turned net) = turned_end turned (later net)
 
 -- Where the clock chain from a class of joined nets ends if it passes at most this many classes; a longer chain counts as one that ends
--- at another driver than a pin. A chain that passes more classes than there are nets is a cycle, and a fabric with a cycle isn't taken.
+-- at logic. A chain that passes more classes than there are nets is a cycle, and a fabric with a cycle isn't taken.
 unfoldable pub end_within : Fabric → ℕ → ℕ → ClockEnd
 end_within fabric zero class = logic
 end_within fabric (suc more) class = end_by (λ net. end_within fabric more (class_of fabric.joins net)) (turn_at fabric class)

@@ -18,7 +18,7 @@ use Rattle.fabric_model.specs.Drivers.{Drive, drivers_of}
 use Rattle.graph_order.specs.Wiring.{Wiring, is_on_cycle}
 use Rattle.fabric_model.specs.Wiring.{wiring_of}
 use Rattle.fabric_model.specs.Clocks.{ClockEnd, User, users_of, clock_end}
-use Rattle.fabric_model.specs.Clocks.ClockEnd.{at_pin, undriven, logic}
+use Rattle.fabric_model.specs.Clocks.ClockEnd.{at_pin, still, logic}
 
 -- a cause, and what has it
 pub data Fault : Type 0 where
@@ -34,7 +34,7 @@ pub data Fault : Type 0 where
   two_drivers : (net : ℕ) (first second : Driver) → Fault
   -- a class of joined nets that lies on a combinational cycle
   loop : (net : ℕ) → Fault
-  -- a user of a clock whose clock comes from another driver than a pin
+  -- a user of a clock whose clock chain ends at logic
   clock : (x y : ℕ) (user : ClockUser) (net : ℕ) → Fault
 
 -- ---- devices
@@ -77,8 +77,8 @@ loop_faults wiring = gathered_below wiring.count (λ class. item_if (is_on_cycle
 -- ---- clocks
 
 abbrev pub end_fault : User → ℕ → ClockEnd → List Fault
-end_fault user net (at_pin place) = []
-end_fault user net undriven = []
+end_fault user net (at_pin place turned) = []
+end_fault user net (still bit) = []
 end_fault user net logic = clock user.x user.y user.user net ∷ []
 
 -- a user without a net has no clock
@@ -86,7 +86,7 @@ abbrev pub user_fault : Fabric → User → Option ℕ → List Fault
 user_fault fabric user None = []
 user_fault fabric user (Some net) = end_fault user net (clock_end fabric net)
 
--- users whose clock comes from another driver than a pin
+-- users whose clock comes from logic
 unfoldable pub clock_faults : DeviceName → Fabric → List Fault
 clock_faults device fabric = flat_map (λ user. user_fault fabric user user.net) (users_of device fabric)
 

@@ -15,6 +15,8 @@ pub mod Outputs
 pub mod Values
 pub mod Steps
 pub mod Wiring
+pub mod ClockLuts
+pub mod ClockPasses
 pub mod Clocks
 pub mod Faults
 pub mod NarrowMemories

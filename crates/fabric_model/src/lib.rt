@@ -13,6 +13,7 @@
 mod cell;
 mod cell_bits;
 mod classes;
+mod clock_lut;
 mod driver;
 mod fault;
 mod found_links;
@@ -35,6 +36,7 @@ pub use cell_bits::{
     ASYNC_SET_RESET, CARRY_ENABLE, DFF_ENABLE, SET_NO_RESET, cell_name, cell_places, flags,
     is_one_set, lut,
 };
+pub use clock_lut::{LutPass, pass_of};
 pub use driver::{ClockUser, Driver};
 pub use fault::LinkFault;
 pub use found_links::links;

@@ -14,7 +14,7 @@ pub enum LutInputs {
 
 /// Entry `n` of a LUT; 0 past the last entry.
 #[tactic(auto, using(crate::proofs::Entries::entry_within, crate::proofs::Entries::entry_past))]
-fn entry(lut: u16, n: u32) -> bool
+pub(crate) fn entry(lut: u16, n: u32) -> bool
     ensures { result ≡ entry_of lut n }
 {
     n < 16 && (lut >> n) & 1 == 1

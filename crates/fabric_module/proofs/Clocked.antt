@@ -33,7 +33,7 @@ use Rattle.fabric_model.specs.Steps.{has_edge, next_bit, word_address, high_part
 use Rattle.fabric_model.proofs.OneValue.{IsWithin, each_below-length, each_below-at}
 use Rattle.fabric_module.specs.Names.{register_name, read_name, memory_name}
 use Rattle.fabric_module.specs.Rights.{input_atom, right_of, atom_or_0, atom_or_1, port_atoms, lut_of, setting_wire, pattern_of, shift_atom, shift_atoms, data_atoms}
-use Rattle.fabric_module.specs.Written.{clocked, clock_name, items_by, read_item, write_item}
+use Rattle.fabric_module.specs.Written.{clocked, clock_name, is_falling, items_by, read_item, write_item}
 use Rattle.fabric_module.proofs.Lists.{map-map}
 use Rattle.fabric_module.proofs.Bits.{number_of-word_of, masked-same}
 use Rattle.fabric_module.proofs.Narrow.{moved_down-is, put-is, high_bit, high-number, high-small}
@@ -141,8 +141,8 @@ module _ (m : Parts) (fabric : Fabric) (before : ModuleEntry) (event : ModuleEve
   -- when a register is assigned and what, by the wire that sets it at once and its clock
   abbrev flips_at : Register → Option (List ℕ) → Option (List ℕ) → Bool
   flips_at register (Some wire) clock =
-      clock_test m.ports event register.neg clock && (atom_value (readable before) (Whole wire) || atom_value (readable before) (atom_or_1 fabric register.cen))
-  flips_at register None clock = clock_test m.ports event register.neg clock && atom_value (readable before) (atom_or_1 fabric register.cen)
+      clock_test m.ports event (is_falling fabric register.neg register.clk) clock && (atom_value (readable before) (Whole wire) || atom_value (readable before) (atom_or_1 fabric register.cen))
+  flips_at register None clock = clock_test m.ports event (is_falling fabric register.neg register.clk) clock && atom_value (readable before) (atom_or_1 fabric register.cen)
 
   abbrev flips_to : Register → Option (List ℕ) → Bool
   flips_to register (Some wire) = if atom_value (readable before) (Whole wire) then register.«set» else lut_value (readable before) (lut_of fabric register.table)
@@ -177,7 +177,7 @@ module _ (m : Parts) (fabric : Fabric) (before : ModuleEntry) (event : ModuleEve
   read_by ram = taken_from before (read_name ram) (memory_name ram) (port_atoms fabric (take 8 ram.raddr)) (taken_by ram)
 
   read-given : (ram : RamCell) (clock : List ℕ) → next_word m before event (read_item fabric ram clock)
-      ≡ (if is_enabled m before event ram.rneg clock (atom_or_1 fabric ram.rclke) (atom_or_0 fabric ram.re) then read_by ram else None)
+      ≡ (if is_enabled m before event (is_falling fabric ram.rneg ram.rclk) clock (atom_or_1 fabric ram.rclke) (atom_or_0 fabric ram.re) then read_by ram else None)
   read-given ram clock = elim (cases_Bool (ram.read == 0)) [ inl here ↦ rw here refl | inr away ↦ rw away refl ]
 
   pub own-read : (ram : RamCell) (clock : Option (List ℕ)) → IsOwn given_name (read_name ram) (assigned_in (next_word m before event) (clocked clock (read_item fabric ram)))
@@ -200,7 +200,7 @@ module _ (m : Parts) (fabric : Fabric) (before : ModuleEntry) (event : ModuleEve
   write_by ram = put_at before (memory_name ram) (port_atoms fabric (take 8 ram.waddr)) (mask_by ram) (bits_by ram)
 
   write-given : (ram : RamCell) (clock : List ℕ) → next_put m before event (write_item fabric ram clock)
-      ≡ (if is_enabled m before event ram.wneg clock (atom_or_1 fabric ram.wclke) (atom_or_0 fabric ram.we) then Some (write_by ram) else None)
+      ≡ (if is_enabled m before event (is_falling fabric ram.wneg ram.wclk) clock (atom_or_1 fabric ram.wclke) (atom_or_0 fabric ram.we) then Some (write_by ram) else None)
   write-given ram clock = elim (cases_Bool (ram.write == 0)) [ inl here ↦ rw here refl | inr away ↦ rw away refl ]
 
   pub own-write : (ram : RamCell) (clock : Option (List ℕ)) → IsOwn put_memory (memory_name ram) (assigned_in (next_put m before event) (clocked clock (write_item fabric ram)))
@@ -252,7 +252,7 @@ module _ (m : Parts) (fabric : Fabric) (within : IsWithin fabric) (state : State
 
   -- a register
   pub register-same : (bits : List Bool) (place : ℕ × Register) → IsPlaceIn fabric (table_entry place.1.table)
-      → clock_test m.ports event place.1.neg (clock_name fabric place.1.clk) ≡ has_edge place.1.neg place.1.clk (bit_in v) after
+      → clock_test m.ports event (is_falling fabric place.1.neg place.1.clk) (clock_name fabric place.1.clk) ≡ has_edge place.1.neg place.1.clk (bit_in v) after
       → done given_value (assigned_in (next_of_flip m before event) (items_by fabric place.1 (setting_wire fabric place.1) (clock_name fabric place.1.clk))) (get_or bits place.0 false)
       ≡ bit_after (is_connected fabric) pins (bit_in v) after bits place
   unfolding next_bit
@@ -342,7 +342,7 @@ module _ (m : Parts) (fabric : Fabric) (within : IsWithin fabric) (state : State
       ∙ (ap taken (word-pick words address) ∙ taken-shown ram (word_at words address) ported))
 
   read-value : (from : State) (place : ℕ × RamCell) (clock : Option (List ℕ)) → IsPorted place.1
-      → clock_test m.ports event place.1.rneg clock ≡ has_edge place.1.rneg place.1.rclk (bit_in v) after
+      → clock_test m.ports event (is_falling fabric place.1.rneg place.1.rclk) clock ≡ has_edge place.1.rneg place.1.rclk (bit_in v) after
       → value_in before.memories (memory_name place.1) ≡ Some (map word_of (get_or from.words place.0 []))
       → done given_value (assigned_in (next_word m before event) (clocked clock (read_item fabric place.1))) (word_of (get_or from.reads place.0 []))
       ≡ word_of (read_after (is_connected fabric) (bit_in v) after from place)
@@ -357,13 +357,13 @@ module _ (m : Parts) (fabric : Fabric) (within : IsWithin fabric) (state : State
       let second = input_or_0 (is_connected fabric) (bit_in v) place.1.re in
       ap (λ found. done given_value found (word_of old))
       (read-given m fabric before event place.1 clock
-      ∙ ap (λ passes. if passes then read_by m fabric before event place.1 else None) (enabled-same place.1.rneg clock place.1.rclke place.1.re edge ticks))
+      ∙ ap (λ passes. if passes then read_by m fabric before event place.1 else None) (enabled-same (is_falling fabric place.1.rneg place.1.rclk) clock place.1.rclke place.1.re edge ticks))
       ∙ after-enabled word_of given_value edge first second (read_by m fabric before event place.1)
       (shown (is_connected fabric) (bit_in v) place.1 (word_at words (word_address (is_connected fabric) (bit_in v) place.1.raddr))) old
       (taken-word place.1 words (word_of old) ported has)
 
   pub read-same : (from : State) (place : ℕ × RamCell) → IsPorted place.1
-      → clock_test m.ports event place.1.rneg (clock_name fabric place.1.rclk) ≡ has_edge place.1.rneg place.1.rclk (bit_in v) after
+      → clock_test m.ports event (is_falling fabric place.1.rneg place.1.rclk) (clock_name fabric place.1.rclk) ≡ has_edge place.1.rneg place.1.rclk (bit_in v) after
       → value_in before.memories (memory_name place.1) ≡ Some (map word_of (get_or from.words place.0 []))
       → done given_value (assigned_in (next_word m before event) (clocked (clock_name fabric place.1.rclk) (read_item fabric place.1))) (word_of (get_or from.reads place.0 []))
       ≡ word_of (read_after (is_connected fabric) (bit_in v) after from place)
@@ -420,7 +420,7 @@ module _ (m : Parts) (fabric : Fabric) (within : IsWithin fabric) (state : State
       ∙ sym (map-set word_of words address (written (is_connected fabric) (bit_in v) ram (word_at words address))))))
 
   write-value : (from : State) (place : ℕ × RamCell) (clock : Option (List ℕ)) → IsPorted place.1
-      → clock_test m.ports event place.1.wneg clock ≡ has_edge place.1.wneg place.1.wclk (bit_in v) after
+      → clock_test m.ports event (is_falling fabric place.1.wneg place.1.wclk) clock ≡ has_edge place.1.wneg place.1.wclk (bit_in v) after
       → value_in before.memories (memory_name place.1) ≡ Some (map word_of (get_or from.words place.0 []))
       → done put_value (assigned_in (next_put m before event) (clocked clock (write_item fabric place.1))) (map word_of (get_or from.words place.0 []))
       ≡ map word_of (words_after (is_connected fabric) (bit_in v) after from place)
@@ -435,12 +435,12 @@ module _ (m : Parts) (fabric : Fabric) (within : IsWithin fabric) (state : State
       let address = word_address (is_connected fabric) (bit_in v) place.1.waddr in
       ap (λ found. done put_value found (map word_of words))
       (write-given m fabric before event place.1 clock
-      ∙ ap (λ passes. if passes then Some (write_by m fabric before event place.1) else None) (enabled-same place.1.wneg clock place.1.wclke place.1.we edge ticks))
+      ∙ ap (λ passes. if passes then Some (write_by m fabric before event place.1) else None) (enabled-same (is_falling fabric place.1.wneg place.1.wclk) clock place.1.wclke place.1.we edge ticks))
       ∙ after-enabled (map word_of) put_value edge first second (Some (write_by m fabric before event place.1))
       (set words address (written (is_connected fabric) (bit_in v) place.1 (word_at words address))) words (put-word place.1 words ported has)
 
   pub write-same : (from : State) (place : ℕ × RamCell) → IsPorted place.1
-      → clock_test m.ports event place.1.wneg (clock_name fabric place.1.wclk) ≡ has_edge place.1.wneg place.1.wclk (bit_in v) after
+      → clock_test m.ports event (is_falling fabric place.1.wneg place.1.wclk) (clock_name fabric place.1.wclk) ≡ has_edge place.1.wneg place.1.wclk (bit_in v) after
       → value_in before.memories (memory_name place.1) ≡ Some (map word_of (get_or from.words place.0 []))
       → done put_value (assigned_in (next_put m before event) (clocked (clock_name fabric place.1.wclk) (write_item fabric place.1))) (map word_of (get_or from.words place.0 []))
       ≡ map word_of (words_after (is_connected fabric) (bit_in v) after from place)

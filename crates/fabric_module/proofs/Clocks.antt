@@ -15,7 +15,7 @@ use Rattle.fabric_model.specs.Outputs.{Output, outputs_of}
 use Rattle.fabric_model.proofs.Apart.{All-every}
 use Rattle.fabric_model.specs.Drivers.{is_driven}
 use Rattle.fabric_model.specs.Clocks.{ClockEnd, LeadsTo, clock_end}
-use Rattle.fabric_model.specs.Clocks.ClockEnd.{at_pin, undriven, logic}
+use Rattle.fabric_model.specs.Clocks.ClockEnd.{at_pin, still, logic}
 use Rattle.graph_order.specs.Wiring.{IsWriteOrder}
 use Rattle.fabric_model.specs.Wiring.{wiring_of}
 use Rattle.fabric_model.proofs.Chains.{clock_end-leads}
@@ -99,11 +99,11 @@ clocked-optional (Some name) item = refl
 module _ (fabric : Fabric) (within : IsWithin fabric) (writable : IsWritable fabric) (order : List ℕ) (ordered : IsWriteOrder (wiring_of fabric) order)
     (scope : Scope) (knows : Knows fabric scope (is_driven fabric)) where
   end-there : (class : ℕ) (end : ClockEnd) (name : List ℕ) → LeadsTo fabric class end → end_name fabric end ≡ Some name → IsThere scope name sort.Input
-  end-there class (at_pin place) name leads is =
+  end-there class (at_pin place turned) name leads is =
       let same : Some (input_name fabric place) ≡ Some name = is in
       let named : input_name fabric place ≡ name = cc in
-      subst (λ n. IsThere scope n sort.Input) named (knows.input place (leads-place fabric writable leads place refl))
-  end-there class undriven name leads is = absurd cc
+      subst (λ n. IsThere scope n sort.Input) named (knows.input place (leads-place fabric writable leads place turned refl))
+  end-there class (still bit) name leads is = absurd cc
   end-there class logic name leads is = absurd cc
 
   pub clock-there : (clock : Option ℕ) (name : List ℕ) → clock_name fabric clock ≡ Some name → IsThere scope name sort.Input

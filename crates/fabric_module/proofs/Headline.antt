@@ -28,7 +28,7 @@ use Rattle.fabric_model.proofs.Within.{All-numbered}
 use Rattle.fabric_model.proofs.Runs.{IsPlaced, IsClocked, clock_bit, register-good, read-good, write-good, entry-one, state-clocked, first-settled, follows-settled}
 use Rattle.fabric_module.specs.Names.{port_name, register_name, read_name, memory_name}
 use Rattle.fabric_module.specs.Rights.{setting_wire}
-use Rattle.fabric_module.specs.Written.{clock_name, register_items, read_item, read_items, write_item, write_items, items_of, module_of}
+use Rattle.fabric_module.specs.Written.{clock_name, is_falling, register_items, read_item, read_items, write_item, write_items, items_of, module_of}
 use Rattle.fabric_module.specs.Matching.{HasValues, Matches, module_event}
 use Rattle.fabric_module.proofs.Lists.{place-there, name-there, map-map, value_in-at}
 use Rattle.fabric_module.proofs.Sections.{flips-section, reads-section, writes-section}
@@ -139,7 +139,7 @@ module _ (device : DeviceName) (fabric : Fabric) (taken : fabric_fault device fa
       m = module_of fabric order name
 
       ticks : (inverted : Bool) (clock : Option ℕ) → IsClocked fabric clock
-          → clock_test (module_of fabric order name).ports (module_event event) inverted (clock_name fabric clock) ≡ has_edge inverted clock (bit_in before.v) (bit_in after.v)
+          → clock_test (module_of fabric order name).ports (module_event event) (is_falling fabric inverted clock) (clock_name fabric clock) ≡ has_edge inverted clock (bit_in before.v) (bit_in after.v)
       unfolding module_of
       ticks inverted clock good = tick device fabric taken placed within writable before event after of_before follows pins-count changes inverted clock good
 

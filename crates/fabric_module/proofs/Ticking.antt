@@ -25,7 +25,7 @@ use Rattle.fabric_model.specs.Drivers.{is_driven}
 use Rattle.fabric_model.specs.Drivers.Rule.{table_entry}
 use Rattle.fabric_module.specs.Names.{register_name, read_name, memory_name}
 use Rattle.fabric_module.specs.Rights.{input_atom, atom_or_0, atom_or_1, port_atoms, lut_of, pattern_of, shift_atom, shift_atoms, data_atoms}
-use Rattle.fabric_module.specs.Written.{flip_item, at_once_item, items_by, read_item, write_item}
+use Rattle.fabric_module.specs.Written.{is_falling, flip_item, at_once_item, items_by, read_item, write_item}
 use Rattle.fabric_module.proofs.Narrow.{pattern-small}
 use Rattle.fabric_module.proofs.Sections.{read-section, write-section}
 use Rattle.fabric_module.proofs.Beginning.{IsPorted}
@@ -191,12 +191,12 @@ module _ (fabric : Fabric) (scope : Scope) (knows : Knows fabric scope (is_drive
         | inl here ↦
             rw here
             (fine-allowed scope
-            (Read ram.rneg clock (atom_or_1 fabric ram.rclke) (atom_or_0 fabric ram.re) (read_name ram) (memory_name ram) address) (eight-ports ram.raddr ported.read_address) low
+            (Read (is_falling fabric ram.rneg ram.rclk) clock (atom_or_1 fabric ram.rclke) (atom_or_0 fabric ram.re) (read_name ram) (memory_name ram) address) (eight-ports ram.raddr ported.read_address) low
             (All-cons (IsFine scope) (Takes sort.Input clock) ((first ++ second) ++ rest) (takes-fine clock of_clock) fine))
         | inr narrow ↦
             rw narrow
             (fine-allowed scope
-            (ReadNarrow ram.rneg clock (atom_or_1 fabric ram.rclke) (atom_or_0 fabric ram.re) (read_name ram) (memory_name ram) address shift (pattern_of ram.read))
+            (ReadNarrow (is_falling fabric ram.rneg ram.rclk) clock (atom_or_1 fabric ram.rclke) (atom_or_0 fabric ram.re) (read_name ram) (memory_name ram) address shift (pattern_of ram.read))
             (eight-ports ram.raddr ported.read_address, refl, pattern-small ram.read) low
             (All-cons (IsFine scope) (Takes sort.Input clock) (((first ++ second) ++ rest) ++ atoms_uses shift) (takes-fine clock of_clock)
             (All-append (IsFine scope) ((first ++ second) ++ rest) (atoms_uses shift) fine (shifts-fine ram.read ram.raddr))))
@@ -223,7 +223,7 @@ module _ (fabric : Fabric) (scope : Scope) (knows : Knows fabric scope (is_drive
         | inl here ↦
             rw here
             (fine-allowed scope
-            (Write ram.wneg clock (atom_or_1 fabric ram.wclke) (atom_or_0 fabric ram.we) (memory_name ram) address mask bits)
+            (Write (is_falling fabric ram.wneg ram.wclk) clock (atom_or_1 fabric ram.wclke) (atom_or_0 fabric ram.we) (memory_name ram) address mask bits)
             (eight-ports ram.waddr ported.write_address, length-map ram.mask (atom_or_0 fabric) ∙ ported.mask, length-map ram.wdata (atom_or_0 fabric) ∙ ported.written) low
             (All-cons (IsFine scope) (Takes sort.Input clock) ((front ++ atoms_uses mask) ++ atoms_uses bits) (takes-fine clock of_clock)
             (All-append (IsFine scope) (front ++ atoms_uses mask) (atoms_uses bits)
@@ -231,7 +231,7 @@ module _ (fabric : Fabric) (scope : Scope) (knows : Knows fabric scope (is_drive
         | inr narrow ↦
             rw narrow
             (fine-allowed scope
-            (WriteNarrow ram.wneg clock (atom_or_1 fabric ram.wclke) (atom_or_0 fabric ram.we) (memory_name ram) address (pattern_of ram.write) shift data_bits)
+            (WriteNarrow (is_falling fabric ram.wneg ram.wclk) clock (atom_or_1 fabric ram.wclke) (atom_or_0 fabric ram.we) (memory_name ram) address (pattern_of ram.write) shift data_bits)
             (eight-ports ram.waddr ported.write_address, pattern-small ram.write, refl, each_below-length 16 (λ j. atom_or_0 fabric (get_or ram.wdata (data_bit ram.write (j / share ram.write)) None))) low
             (All-cons (IsFine scope) (Takes sort.Input clock) ((front ++ atoms_uses shift) ++ atoms_uses data_bits) (takes-fine clock of_clock)
             (All-append (IsFine scope) (front ++ atoms_uses shift) (atoms_uses data_bits)

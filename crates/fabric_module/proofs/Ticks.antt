@@ -14,20 +14,22 @@ use Rattle.fabric_model.specs.declared.pin.Pin.{Pin}
 use Rattle.fabric_model.specs.Fabric.{Fabric, inputs_of}
 use Rattle.fabric_model.specs.Drivers.{Rule, is_driven}
 use Rattle.fabric_model.specs.Drivers.Rule.{pin_bit, constant, input, table_entry, majority_of, register_bit, read_bit, copied}
-use Rattle.fabric_model.specs.Values.{bit_in}
+use Rattle.fabric_model.specs.Values.{bit_in, is_connected}
 use Rattle.fabric_model.specs.Steps.{has_edge, Event, Entry, IsEntry, Follows}
-use Rattle.fabric_model.specs.Clocks.{ClockEnd, LeadsTo, turn_by, clock_end}
-use Rattle.fabric_model.specs.Clocks.ClockEnd.{at_pin, undriven, logic}
+use Rattle.fabric_model.specs.ClockLuts.{turned_bit, pass_of}
+use Rattle.fabric_model.specs.Clocks.{ClockEnd, LeadsTo, turned_end, is_turned, turn_by, clock_end}
+use Rattle.fabric_model.specs.Clocks.ClockEnd.{at_pin, still, logic}
 use Rattle.fabric_model.specs.Clocks.Turn.{ends}
 use Rattle.fabric_model.specs.Clocks.LeadsTo.{ends_here, goes_on}
 use Rattle.fabric_model.specs.Faults.{fabric_fault}
 use Rattle.fabric_model.proofs.OneValue.{IsWithin, first-driver, first-is}
+use Rattle.fabric_model.proofs.ClockLuts.{pass-no_pin}
 use Rattle.fabric_model.proofs.Chains.{turn-still, turn-first, clock_end-leads}
 use Rattle.fabric_model.proofs.Taken.{taken-order}
 use Rattle.fabric_model.proofs.Runs.{IsPlaced, IsClockEnd, IsClocked, end_bit, clock-bit, clock_bit-is}
 use Rattle.fabric_module.specs.Names.{port_name}
 use Rattle.fabric_module.specs.Rights.{input_name}
-use Rattle.fabric_module.specs.Written.{end_name, clock_name, pin_ports}
+use Rattle.fabric_module.specs.Written.{end_name, clock_name, is_falling, pin_ports}
 use Rattle.fabric_module.specs.Matching.{module_event}
 use Rattle.fabric_module.proofs.Lists.{Apart, All-pick, map-map}
 use Rattle.fabric_module.proofs.Rights.{IsPlaceIn}
@@ -58,6 +60,26 @@ changed-edge false true false away = refl
 changed-edge false false true away = refl
 changed-edge false false false away = absurd cc
 
+turned-same : (bit old : Bool) → is_same_bit (not bit) (not old) ≡ is_same_bit bit old
+turned-same true true = refl
+turned-same true false = refl
+turned-same false true = refl
+turned-same false false = refl
+
+-- an edge of a port is one of a turned clock the other way round
+turned-edge : (turned inverted bit : Bool) → is_edge (turned_bit turned inverted) bit ≡ is_edge inverted (turned_bit turned bit)
+turned-edge true true true = refl
+turned-edge true true false = refl
+turned-edge true false true = refl
+turned-edge true false false = refl
+turned-edge false inverted bit = refl
+
+-- a turned bit that an event changes
+turned-changes : (turned inverted bit old : Bool) → is_same_bit bit old ≡ false
+    → (if inverted then turned_bit turned old && not (turned_bit turned bit) else not (turned_bit turned old) && turned_bit turned bit) ≡ is_edge inverted (turned_bit turned bit)
+turned-changes true inverted bit old changes = changed-edge inverted (not bit) (not old) (turned-same bit old ∙ changes)
+turned-changes false inverted bit old changes = changed-edge inverted bit old changes
+
 -- ---- places of ports
 
 pin-from : {X : Type 0} (name : X → List ℕ) (xs : List X) (from place : ℕ) → Apart name xs → place < length xs
@@ -84,27 +106,35 @@ pin-place fabric writable place there =
 
 -- ---- chains end at pins that are there
 
-rule-pin : (rule : Rule) (place : ℕ) → turn_by rule ≡ ends (at_pin place) → rule ≡ pin_bit place
-rule-pin (pin_bit from) place is = cc
-rule-pin (constant bit) place is = absurd cc
-rule-pin (input stated source) place is = absurd cc
-rule-pin (table_entry table) place is = absurd cc
-rule-pin (majority_of a b c) place is = absurd cc
-rule-pin (register_bit from register) place is = absurd cc
-rule-pin (read_bit ram bit) place is = absurd cc
-rule-pin (copied source) place is = absurd cc
+rule-pin : (connected : ℕ → Bool) (rule : Rule) (place : ℕ) (turned : Bool) → turn_by connected rule ≡ ends (at_pin place turned) → rule ≡ pin_bit place
+rule-pin connected (pin_bit from) place turned is = cc
+rule-pin connected (constant bit) place turned is = absurd cc
+rule-pin connected (input stated source) place turned is = absurd cc
+rule-pin connected (table_entry table) place turned is = absurd (pass-no_pin place turned (pass_of connected table) is)
+rule-pin connected (majority_of a b c) place turned is = absurd cc
+rule-pin connected (register_bit from register) place turned is = absurd cc
+rule-pin connected (read_bit ram bit) place turned is = absurd cc
+rule-pin connected (copied source) place turned is = absurd cc
 
-pub leads-place : (fabric : Fabric) → IsWritable fabric → {class : ℕ} {end : ClockEnd} → LeadsTo fabric class end → (place : ℕ) → end ≡ at_pin place → place < length (inputs_of fabric)
-leads-place fabric writable {class} (ends_here turn) place at =
+-- a turned chain ends at a pin if the chain does
+before-turned : (place : ℕ) (turned by : Bool) (later : ClockEnd) → turned_end by later ≡ at_pin place turned → (other : Bool) × (later ≡ at_pin place other)
+before-turned place turned by (at_pin from other) is = let same : from ≡ place = cc in (other, ap (λ p. at_pin p other) same)
+before-turned place turned by (still bit) is = absurd cc
+before-turned place turned by logic is = absurd cc
+
+pub leads-place : (fabric : Fabric) → IsWritable fabric → {class : ℕ} {end : ClockEnd} → LeadsTo fabric class end → (place : ℕ) (turned : Bool) → end ≡ at_pin place turned
+    → place < length (inputs_of fabric)
+leads-place fabric writable {class} (ends_here turn) place turned at =
     elim (cases_Bool (is_driven fabric class)) [
       | inl driven ↦
           let found = first-driver fabric class driven in
-          let turned : turn_by found.0.rule ≡ ends (at_pin place) =
+          let goes : turn_by (is_connected fabric) found.0.rule ≡ ends (at_pin place turned) =
           sym (turn-first fabric class found.0 found.1 (first-is fabric class found.0 found.1 found.2)) ∙ (turn ∙ ap ends at) in
-          subst (IsPlaceIn fabric) (rule-pin found.0.rule place turned) (writable.places found.0 found.2.there)
-      | inr away ↦ let never : ends undriven ≡ ends (at_pin place) = sym (turn-still fabric class away) ∙ (turn ∙ ap ends at) in absurd cc
+          subst (IsPlaceIn fabric) (rule-pin (is_connected fabric) found.0.rule place turned goes) (writable.places found.0 found.2.there)
+      | inr away ↦ let never : ends (still false) ≡ ends (at_pin place turned) = sym (turn-still fabric class away) ∙ (turn ∙ ap ends at) in absurd cc
     ]
-leads-place fabric writable (goes_on net turn rest) place at = leads-place fabric writable rest place at
+leads-place fabric writable (goes_on by net later turn is rest) place turned at =
+    let before = before-turned place turned by later (sym is ∙ at) in leads-place fabric writable rest place before.0 before.1
 
 -- ---- ticks
 
@@ -127,42 +157,43 @@ module _ (device : DeviceName) (fabric : Fabric) (taken : fabric_fault device fa
       ∙ (clock_bit-is fabric after.pins net ∙ ap (end_bit after.pins) is ∙ ap (λ pins. end_bit pins end) follows.pins)
 
   -- a clock at a pin
-  tick-pin : (inverted : Bool) (net place : ℕ) → clock_end fabric net ≡ at_pin place
-      → clock_test (ports_of fabric) (module_event event) inverted (Some (input_name fabric place)) ≡ has_edge inverted (Some net) (bit_in before.v) (bit_in after.v)
-  tick-pin inverted net place is =
+  tick-pin : (inverted : Bool) (net place : ℕ) (turned : Bool) → clock_end fabric net ≡ at_pin place turned
+      → clock_test (ports_of fabric) (module_event event) (turned_bit turned inverted) (Some (input_name fabric place)) ≡ has_edge inverted (Some net) (bit_in before.v) (bit_in after.v)
+  tick-pin inverted net place turned is =
       let order = taken-order device fabric taken within in
-      let there : place < length (inputs_of fabric) = leads-place fabric writable (clock_end-leads fabric within order.it order.is net) place is in
-      let old = bit-before net (at_pin place) is tt in
-      let new = bit-after net (at_pin place) is tt in
+      let there : place < length (inputs_of fabric) = leads-place fabric writable (clock_end-leads fabric within order.it order.is net) place turned is in
+      let old = bit-before net (at_pin place turned) is tt in
+      let new = bit-after net (at_pin place turned) is tt in
       let found = pin-place fabric writable place there in
       elim (cases_Bool (place == event.pin)) [
         | inl here ↦
             let same : place ≡ event.pin = eqb-true place event.pin here in
             let inside : event.pin < length before.pins = omega arith in
-            let was : bit_in before.v net ≡ get_or before.pins event.pin false = old ∙ ap (λ n. get_or before.pins n false) same in
-            let becomes : bit_in after.v net ≡ event.bit =
-            new ∙ (ap (λ n. get_or (set before.pins event.pin event.bit) n false) same ∙ get_or-set_same before.pins event.pin event.bit false inside) in
-            rw (found, here, was, becomes) (sym (changed-edge inverted event.bit (get_or before.pins event.pin false) changes))
+            let was : bit_in before.v net ≡ turned_bit turned (get_or before.pins event.pin false) = old ∙ ap (λ n. turned_bit turned (get_or before.pins n false)) same in
+            let becomes : bit_in after.v net ≡ turned_bit turned event.bit =
+            new ∙ ap (turned_bit turned) (ap (λ n. get_or (set before.pins event.pin event.bit) n false) same ∙ get_or-set_same before.pins event.pin event.bit false inside) in
+            rw (found, here, was, becomes)
+            (turned-edge turned inverted event.bit ∙ sym (turned-changes turned inverted event.bit (get_or before.pins event.pin false) changes))
         | inr away ↦
             let ne : place ≢ event.pin = λ same. let never : true ≡ false = sym (eq-eqb place event.pin same) ∙ away in absurd cc in
             let stays : bit_in before.v net ≡ bit_in after.v net =
-            old ∙ sym (new ∙ get_or-set_other before.pins event.pin place event.bit false ne) in
+            old ∙ sym (new ∙ ap (turned_bit turned) (get_or-set_other before.pins event.pin place event.bit false ne)) in
             let none : has_edge inverted (Some net) (bit_in before.v) (bit_in after.v) ≡ false = rw stays (no-edge inverted (bit_in after.v net)) in
             rw (found, away) (sym none)
       ]
 
   tick-end : (inverted : Bool) (net : ℕ) (end : ClockEnd) → clock_end fabric net ≡ end → IsClockEnd end
-      → clock_test (ports_of fabric) (module_event event) inverted (end_name fabric end) ≡ has_edge inverted (Some net) (bit_in before.v) (bit_in after.v)
-  tick-end inverted net (at_pin place) is good = tick-pin inverted net place is
-  tick-end inverted net undriven is good =
-      let stays : bit_in before.v net ≡ bit_in after.v net = bit-before net undriven is tt ∙ sym (bit-after net undriven is tt) in
+      → clock_test (ports_of fabric) (module_event event) (turned_bit (is_turned end) inverted) (end_name fabric end) ≡ has_edge inverted (Some net) (bit_in before.v) (bit_in after.v)
+  tick-end inverted net (at_pin place turned) is good = tick-pin inverted net place turned is
+  tick-end inverted net (still bit) is good =
+      let stays : bit_in before.v net ≡ bit_in after.v net = bit-before net (still bit) is tt ∙ sym (bit-after net (still bit) is tt) in
       let none : has_edge inverted (Some net) (bit_in before.v) (bit_in after.v) ≡ false = rw stays (no-edge inverted (bit_in after.v net)) in
       sym none
   tick-end inverted net logic is good = absurd good
 
   -- the module's clock has an edge if the fabric's has
   pub tick : (inverted : Bool) (clock : Option ℕ) → IsClocked fabric clock
-      → clock_test (ports_of fabric) (module_event event) inverted (clock_name fabric clock) ≡ has_edge inverted clock (bit_in before.v) (bit_in after.v)
-  unfolding clock_name
+      → clock_test (ports_of fabric) (module_event event) (is_falling fabric inverted clock) (clock_name fabric clock) ≡ has_edge inverted clock (bit_in before.v) (bit_in after.v)
+  unfolding clock_name is_falling
   tick inverted None good = refl
   tick inverted (Some net) good = tick-end inverted net (clock_end fabric net) refl good

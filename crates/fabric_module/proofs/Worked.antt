@@ -23,10 +23,11 @@ use Rattle.fabric_model.specs.Registers.{register_of}
 use Rattle.fabric_model.specs.Fabric.{Fabric, numbered_from}
 use Rattle.fabric_model.specs.Joins.{is_joined, class_of}
 use Rattle.fabric_model.specs.Drivers.{drives_of, drivers_of, is_driven}
+use Rattle.fabric_model.specs.ClockLuts.{pass_of, is_at_open}
 use Rattle.fabric_model.specs.Clocks.{turn_at, end_within, clock_end}
 use Rattle.fabric_module.specs.Names.{two_numbers, three_numbers, port_name, enable_name, register_name, read_name, memory_name, wire_name}
 use Rattle.fabric_module.specs.Rights.{input_atom, right_of, class_right}
-use Rattle.fabric_module.specs.Written.{clock_name, register_items, write_items, read_items, items_of, module_of}
+use Rattle.fabric_module.specs.Written.{clock_name, is_falling, register_items, write_items, read_items, items_of, module_of}
 
 -- ---- an inverter between two pins
 
@@ -83,7 +84,7 @@ inverting_module : module_of inverting (0 ∷ 1 ∷ 2 ∷ 3 ∷ []) (codes "top"
       ∷ Assign (codes "io_0_2_0") (Whole (codes "n_3"))
       ∷ [];
 }
-unfolding outputs_of digits any_below least_below gathered_below word_of register_of numbered_from is_joined class_of drives_of drivers_of is_driven turn_at end_within clock_end two_numbers three_numbers port_name register_name read_name memory_name wire_name input_atom right_of class_right clock_name items_of module_of
+unfolding outputs_of digits any_below least_below gathered_below word_of register_of numbered_from is_joined class_of drives_of drivers_of is_driven turn_at pass_of is_at_open end_within clock_end two_numbers three_numbers port_name register_name read_name memory_name wire_name input_atom right_of class_right clock_name is_falling items_of module_of
 inverting_module = refl
 
 -- ---- the same LUT with its own value at in_2, which it doesn't use
@@ -93,16 +94,16 @@ feeding = record inverter { ins = Some 1 ∷ None ∷ Some 2 ∷ None ∷ [] }
 
 all_written : class_right (record inverting { lcs = feeding ∷ [] }) 2
     ≡ RightLut (record { word = 21845; ins = Whole (codes "n_1") ∷ Bit false ∷ Whole (codes "n_2") ∷ Bit false ∷ [] })
-unfolding outputs_of digits any_below least_below gathered_below word_of register_of numbered_from is_joined class_of drives_of drivers_of is_driven turn_at end_within clock_end two_numbers three_numbers port_name register_name read_name memory_name wire_name input_atom right_of class_right clock_name items_of module_of
+unfolding outputs_of digits any_below least_below gathered_below word_of register_of numbered_from is_joined class_of drives_of drivers_of is_driven turn_at pass_of is_at_open end_within clock_end two_numbers three_numbers port_name register_name read_name memory_name wire_name input_atom right_of class_right clock_name is_falling items_of module_of
 all_written = refl
 
 used_written : class_right (record inverting { lut_inputs = read.Used; lcs = feeding ∷ [] }) 2
     ≡ RightLut (record { word = 21845; ins = Whole (codes "n_1") ∷ Bit false ∷ Bit false ∷ Bit false ∷ [] })
-unfolding uses_input word_bits outputs_of digits any_below least_below gathered_below word_of register_of numbered_from is_joined class_of drives_of drivers_of is_driven turn_at end_within clock_end two_numbers three_numbers port_name register_name read_name memory_name wire_name input_atom right_of class_right clock_name items_of module_of
+unfolding uses_input word_bits outputs_of digits any_below least_below gathered_below word_of register_of numbered_from is_joined class_of drives_of drivers_of is_driven turn_at pass_of is_at_open end_within clock_end two_numbers three_numbers port_name register_name read_name memory_name wire_name input_atom right_of class_right clock_name is_falling items_of module_of
 used_written = refl
 
 used_module : module_of (record inverting { lut_inputs = read.Used; lcs = feeding ∷ [] }) (0 ∷ 1 ∷ 2 ∷ 3 ∷ []) (codes "top") ≡ module_of inverting (0 ∷ 1 ∷ 2 ∷ 3 ∷ []) (codes "top")
-unfolding uses_input word_bits outputs_of digits any_below least_below gathered_below word_of register_of numbered_from is_joined class_of drives_of drivers_of is_driven turn_at end_within clock_end two_numbers three_numbers port_name register_name read_name memory_name wire_name input_atom right_of class_right clock_name items_of module_of
+unfolding uses_input word_bits outputs_of digits any_below least_below gathered_below word_of register_of numbered_from is_joined class_of drives_of drivers_of is_driven turn_at pass_of is_at_open end_within clock_end two_numbers three_numbers port_name register_name read_name memory_name wire_name input_atom right_of class_right clock_name is_falling items_of module_of
 used_module = refl
 
 -- ---- a toggle at falling edges
@@ -116,19 +117,19 @@ toggling = record inverting { lcs = toggle ∷ []; registers = register_of read.
 toggle_items : register_items toggling (register_of read.All toggle) ≡
     FlipFlop true (codes "io_0_1_0") (Bit true) (Bit false) false (codes "ff_1_1_0")
     (record { word = 21845; ins = Whole (codes "n_2") ∷ Bit false ∷ Bit false ∷ Bit false ∷ [] }) ∷ []
-unfolding outputs_of digits any_below least_below gathered_below word_of register_of numbered_from is_joined class_of drives_of drivers_of is_driven turn_at end_within clock_end two_numbers three_numbers port_name register_name read_name memory_name wire_name input_atom right_of class_right clock_name items_of module_of
+unfolding outputs_of digits any_below least_below gathered_below word_of register_of numbered_from is_joined class_of drives_of drivers_of is_driven turn_at pass_of is_at_open end_within clock_end two_numbers three_numbers port_name register_name read_name memory_name wire_name input_atom right_of class_right clock_name is_falling items_of module_of
 toggle_items = refl
 
 -- what its LUT doesn't use is 0 too
 used_items : register_items toggling (register_of read.Used (record toggle { ins = Some 2 ∷ Some 0 ∷ Some 1 ∷ Some 3 ∷ [] })) ≡
     FlipFlop true (codes "io_0_1_0") (Bit true) (Bit false) false (codes "ff_1_1_0")
     (record { word = 21845; ins = Whole (codes "n_2") ∷ Bit false ∷ Bit false ∷ Bit false ∷ [] }) ∷ []
-unfolding uses_input word_bits outputs_of digits any_below least_below gathered_below word_of register_of numbered_from is_joined class_of drives_of drivers_of is_driven turn_at end_within clock_end two_numbers three_numbers port_name register_name read_name memory_name wire_name input_atom right_of class_right clock_name items_of module_of
+unfolding uses_input word_bits outputs_of digits any_below least_below gathered_below word_of register_of numbered_from is_joined class_of drives_of drivers_of is_driven turn_at pass_of is_at_open end_within clock_end two_numbers three_numbers port_name register_name read_name memory_name wire_name input_atom right_of class_right clock_name is_falling items_of module_of
 used_items = refl
 
 -- a clock without a driver is written nowhere
 still_items : register_items toggling (register_of read.All (record toggle { clk = Some 9 })) ≡ []
-unfolding outputs_of digits any_below least_below gathered_below word_of register_of numbered_from is_joined class_of drives_of drivers_of is_driven turn_at end_within clock_end two_numbers three_numbers port_name register_name read_name memory_name wire_name input_atom right_of class_right clock_name items_of module_of
+unfolding outputs_of digits any_below least_below gathered_below word_of register_of numbered_from is_joined class_of drives_of drivers_of is_driven turn_at pass_of is_at_open end_within clock_end two_numbers three_numbers port_name register_name read_name memory_name wire_name input_atom right_of class_right clock_name is_falling items_of module_of
 still_items = refl
 
 -- ---- a toggle whose reset acts at once
@@ -142,23 +143,23 @@ resetting = record inverting { lcs = setting ∷ []; registers = register_of rea
 setting_items : register_items resetting (register_of read.All setting) ≡
     AsyncFlipFlop true (codes "io_0_1_0") (codes "n_0") true (codes "ff_1_1_0") (Bit true)
     (record { word = 21845; ins = Whole (codes "n_2") ∷ Bit false ∷ Bit false ∷ Bit false ∷ [] }) ∷ []
-unfolding outputs_of digits any_below least_below gathered_below word_of register_of numbered_from is_joined class_of drives_of drivers_of is_driven turn_at end_within clock_end two_numbers three_numbers port_name register_name read_name memory_name wire_name input_atom right_of class_right clock_name items_of module_of
+unfolding outputs_of digits any_below least_below gathered_below word_of register_of numbered_from is_joined class_of drives_of drivers_of is_driven turn_at pass_of is_at_open end_within clock_end two_numbers three_numbers port_name register_name read_name memory_name wire_name input_atom right_of class_right clock_name is_falling items_of module_of
 setting_items = refl
 
 setting_wires : class_right resetting 2 ≡ Choose (codes "n_0") true (codes "ff_1_1_0")
-unfolding outputs_of digits any_below least_below gathered_below word_of register_of numbered_from is_joined class_of drives_of drivers_of is_driven turn_at end_within clock_end two_numbers three_numbers port_name register_name read_name memory_name wire_name input_atom right_of class_right clock_name items_of module_of
+unfolding outputs_of digits any_below least_below gathered_below word_of register_of numbered_from is_joined class_of drives_of drivers_of is_driven turn_at pass_of is_at_open end_within clock_end two_numbers three_numbers port_name register_name read_name memory_name wire_name input_atom right_of class_right clock_name is_falling items_of module_of
 setting_wires = refl
 
 -- without a clock it is set alone
 clockless_items : register_items resetting (register_of read.All (record setting { clk = None })) ≡ AsyncReset (codes "n_0") true (codes "ff_1_1_0") ∷ []
-unfolding outputs_of digits any_below least_below gathered_below word_of register_of numbered_from is_joined class_of drives_of drivers_of is_driven turn_at end_within clock_end two_numbers three_numbers port_name register_name read_name memory_name wire_name input_atom right_of class_right clock_name items_of module_of
+unfolding outputs_of digits any_below least_below gathered_below word_of register_of numbered_from is_joined class_of drives_of drivers_of is_driven turn_at pass_of is_at_open end_within clock_end two_numbers three_numbers port_name register_name read_name memory_name wire_name input_atom right_of class_right clock_name is_falling items_of module_of
 clockless_items = refl
 
 -- a reset without a driver never acts
 undriven_items : register_items resetting (register_of read.All (record setting { sr = Some 9 })) ≡
     FlipFlop true (codes "io_0_1_0") (Bit true) (Bit false) true (codes "ff_1_1_0")
     (record { word = 21845; ins = Whole (codes "n_2") ∷ Bit false ∷ Bit false ∷ Bit false ∷ [] }) ∷ []
-unfolding outputs_of digits any_below least_below gathered_below word_of register_of numbered_from is_joined class_of drives_of drivers_of is_driven turn_at end_within clock_end two_numbers three_numbers port_name register_name read_name memory_name wire_name input_atom right_of class_right clock_name items_of module_of
+unfolding outputs_of digits any_below least_below gathered_below word_of register_of numbered_from is_joined class_of drives_of drivers_of is_driven turn_at pass_of is_at_open end_within clock_end two_numbers three_numbers port_name register_name read_name memory_name wire_name input_atom right_of class_right clock_name is_falling items_of module_of
 undriven_items = refl
 
 -- ---- a RAM
@@ -187,12 +188,12 @@ ram = record {
 write : write_items inverting ram ≡
     Write true (codes "io_0_1_0") (Bit true) (Whole (codes "n_2")) (codes "mem_3_1") (replicate 8 (Bit false)) (replicate 16 (Bit false))
     (Whole (codes "n_2") ∷ replicate 15 (Bit false)) ∷ []
-unfolding outputs_of digits any_below least_below gathered_below word_of register_of numbered_from is_joined class_of drives_of drivers_of is_driven turn_at end_within clock_end two_numbers three_numbers port_name register_name read_name memory_name wire_name input_atom right_of class_right clock_name items_of module_of
+unfolding outputs_of digits any_below least_below gathered_below word_of register_of numbered_from is_joined class_of drives_of drivers_of is_driven turn_at pass_of is_at_open end_within clock_end two_numbers three_numbers port_name register_name read_name memory_name wire_name input_atom right_of class_right clock_name is_falling items_of module_of
 write = refl
 
 wide_read : read_items inverting ram ≡
     Read false (codes "io_0_1_0") (Bit true) (Whole (codes "n_2")) (codes "rd_3_1") (codes "mem_3_1") (Whole (codes "n_2") ∷ replicate 7 (Bit false)) ∷ []
-unfolding outputs_of digits any_below least_below gathered_below word_of register_of numbered_from is_joined class_of drives_of drivers_of is_driven turn_at end_within clock_end two_numbers three_numbers port_name register_name read_name memory_name wire_name input_atom right_of class_right clock_name items_of module_of
+unfolding outputs_of digits any_below least_below gathered_below word_of register_of numbered_from is_joined class_of drives_of drivers_of is_driven turn_at pass_of is_at_open end_within clock_end two_numbers three_numbers port_name register_name read_name memory_name wire_name input_atom right_of class_right clock_name is_falling items_of module_of
 wide_read = refl
 
 -- ---- a RAM that is read in mode 2 and written in mode 1
@@ -209,13 +210,13 @@ narrow = record ram {
 narrow_write : write_items inverting narrow ≡
     WriteNarrow true (codes "io_0_1_0") (Bit true) (Whole (codes "n_2")) (codes "mem_3_1") (replicate 8 (Bit false)) 21845
     (Whole (codes "n_2") ∷ Bit false ∷ Bit false ∷ []) (Whole (codes "n_2") ∷ Whole (codes "n_2") ∷ replicate 14 (Bit false)) ∷ []
-unfolding outputs_of digits any_below least_below gathered_below word_of register_of numbered_from is_joined class_of drives_of drivers_of is_driven turn_at end_within clock_end two_numbers three_numbers port_name register_name read_name memory_name wire_name input_atom right_of class_right clock_name items_of module_of
+unfolding outputs_of digits any_below least_below gathered_below word_of register_of numbered_from is_joined class_of drives_of drivers_of is_driven turn_at pass_of is_at_open end_within clock_end two_numbers three_numbers port_name register_name read_name memory_name wire_name input_atom right_of class_right clock_name is_falling items_of module_of
 narrow_write = refl
 
 narrow_read : read_items inverting narrow ≡
     ReadNarrow false (codes "io_0_1_0") (Bit true) (Whole (codes "n_2")) (codes "rd_3_1") (codes "mem_3_1") (Whole (codes "n_2") ∷ replicate 7 (Bit false))
     (Whole (codes "n_2") ∷ Bit false ∷ Bit false ∷ []) 4369 ∷ []
-unfolding outputs_of digits any_below least_below gathered_below word_of register_of numbered_from is_joined class_of drives_of drivers_of is_driven turn_at end_within clock_end two_numbers three_numbers port_name register_name read_name memory_name wire_name input_atom right_of class_right clock_name items_of module_of
+unfolding outputs_of digits any_below least_below gathered_below word_of register_of numbered_from is_joined class_of drives_of drivers_of is_driven turn_at pass_of is_at_open end_within clock_end two_numbers three_numbers port_name register_name read_name memory_name wire_name input_atom right_of class_right clock_name is_falling items_of module_of
 narrow_read = refl
 
 -- ---- a registered output pin, a registered input pin and an output that can be switched off
@@ -267,7 +268,7 @@ registering_module : module_of registering (0 ∷ 1 ∷ 2 ∷ 3 ∷ 4 ∷ []) (c
       ∷ FlipFlop true (codes "io_0_1_0") (Bit true) (Bit false) false (codes "pi_0_3_0") (record { word = 43690; ins = Whole (codes "io_0_3_0") ∷ Bit false ∷ Bit false ∷ Bit false ∷ [] })
       ∷ [];
 }
-unfolding outputs_of digits any_below least_below gathered_below word_of register_of numbered_from is_joined class_of drives_of drivers_of is_driven turn_at end_within clock_end two_numbers three_numbers port_name enable_name register_name read_name memory_name wire_name input_atom right_of class_right clock_name items_of module_of
+unfolding outputs_of digits any_below least_below gathered_below word_of register_of numbered_from is_joined class_of drives_of drivers_of is_driven turn_at pass_of is_at_open end_within clock_end two_numbers three_numbers port_name enable_name register_name read_name memory_name wire_name input_atom right_of class_right clock_name is_falling items_of module_of
 registering_module = refl
 
 -- ---- names with numbers of several digits

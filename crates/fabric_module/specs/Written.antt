@@ -12,8 +12,9 @@ use Rattle.fabric_model.specs.Tiles.{each_below}
 use Rattle.fabric_model.specs.Pins.{is_tri_state}
 use Rattle.fabric_model.specs.Fabric.{Fabric, numbered}
 use Rattle.fabric_model.specs.Outputs.{Output, outputs_of}
-use Rattle.fabric_model.specs.Clocks.{ClockEnd, clock_end}
-use Rattle.fabric_model.specs.Clocks.ClockEnd.{at_pin, undriven, logic}
+use Rattle.fabric_model.specs.ClockLuts.{turned_bit}
+use Rattle.fabric_model.specs.Clocks.{ClockEnd, is_turned, clock_end}
+use Rattle.fabric_model.specs.Clocks.ClockEnd.{at_pin, still, logic}
 use Rattle.fabric_module.specs.Names.{port_name, enable_name, output_name, register_name, read_name, memory_name, wire_name}
 use Rattle.fabric_module.specs.Rights.{atom_or_0, atom_or_1, port_atoms, lut_of, input_name, setting_wire, pattern_of, shift_atoms, data_atoms, output_atom, class_right}
 
@@ -21,14 +22,20 @@ use Rattle.fabric_module.specs.Rights.{atom_or_0, atom_or_1, port_atoms, lut_of,
 
 -- the port of the pin at which a clock chain ends, if it ends at one
 abbrev pub end_name : Fabric → ClockEnd → Option (List ℕ)
-end_name fabric (at_pin place) = Some (input_name fabric place)
-end_name fabric undriven = None
+end_name fabric (at_pin place turned) = Some (input_name fabric place)
+end_name fabric (still bit) = None
 end_name fabric logic = None
 
 -- the port at which the clock chain of a clock net ends, if it ends at a pin
 unfoldable pub clock_name : Fabric → Option ℕ → Option (List ℕ)
 clock_name fabric None = None
 clock_name fabric (Some net) = end_name fabric (clock_end fabric net)
+
+-- whether the item of a user is written for falling edges of the port: if either the user takes its value at falling edges of its clock net,
+-- or the clock chain is turned, but not if both hold
+unfoldable pub is_falling : Fabric → Bool → Option ℕ → Bool
+is_falling fabric inverted None = inverted
+is_falling fabric inverted (Some net) = turned_bit (is_turned (clock_end fabric net)) inverted
 
 -- an item with that clock, if there is a clock
 abbrev pub clocked : Option (List ℕ) → (List ℕ → Item) → List Item
@@ -70,13 +77,13 @@ output_assign fabric output = Assign (output_name output) (output_atom fabric ou
 -- a register with a synchronous set or reset: its clock enable, its set or reset, and its LUT
 abbrev pub flip_item : Fabric → Register → List ℕ → Item
 flip_item fabric register clock =
-    FlipFlop register.neg clock (atom_or_1 fabric register.cen) (atom_or_0 fabric register.sr) register.«set» (register_name register)
+    FlipFlop (is_falling fabric register.neg register.clk) clock (atom_or_1 fabric register.cen) (atom_or_0 fabric register.sr) register.«set» (register_name register)
     (lut_of fabric register.table)
 
 -- a register with an asynchronous set or reset, and a clock
 abbrev pub at_once_item : Fabric → Register → List ℕ → List ℕ → Item
 at_once_item fabric register wire clock =
-    AsyncFlipFlop register.neg clock wire register.«set» (register_name register) (atom_or_1 fabric register.cen) (lut_of fabric register.table)
+    AsyncFlipFlop (is_falling fabric register.neg register.clk) clock wire register.«set» (register_name register) (atom_or_1 fabric register.cen) (lut_of fabric register.table)
 
 -- what a register is written as, by the wire of its asynchronous set or reset and by its clock, each of which may be missing
 abbrev pub items_by : Fabric → Register → Option (List ℕ) → Option (List ℕ) → List Item
@@ -93,8 +100,8 @@ abbrev pub read_item : Fabric → RamCell → List ℕ → Item
 read_item fabric ram clock =
     let address = port_atoms fabric (take 8 ram.raddr) in
     if ram.read == 0
-    then Read ram.rneg clock (atom_or_1 fabric ram.rclke) (atom_or_0 fabric ram.re) (read_name ram) (memory_name ram) address
-    else ReadNarrow ram.rneg clock (atom_or_1 fabric ram.rclke) (atom_or_0 fabric ram.re) (read_name ram) (memory_name ram) address
+    then Read (is_falling fabric ram.rneg ram.rclk) clock (atom_or_1 fabric ram.rclke) (atom_or_0 fabric ram.re) (read_name ram) (memory_name ram) address
+    else ReadNarrow (is_falling fabric ram.rneg ram.rclk) clock (atom_or_1 fabric ram.rclke) (atom_or_0 fabric ram.re) (read_name ram) (memory_name ram) address
     (shift_atoms fabric ram.read ram.raddr) (pattern_of ram.read)
 
 abbrev pub read_items : Fabric → RamCell → List Item
@@ -105,9 +112,9 @@ abbrev pub write_item : Fabric → RamCell → List ℕ → Item
 write_item fabric ram clock =
     let address = port_atoms fabric (take 8 ram.waddr) in
     if ram.write == 0
-    then Write ram.wneg clock (atom_or_1 fabric ram.wclke) (atom_or_0 fabric ram.we) (memory_name ram) address
+    then Write (is_falling fabric ram.wneg ram.wclk) clock (atom_or_1 fabric ram.wclke) (atom_or_0 fabric ram.we) (memory_name ram) address
     (port_atoms fabric ram.mask) (port_atoms fabric ram.wdata)
-    else WriteNarrow ram.wneg clock (atom_or_1 fabric ram.wclke) (atom_or_0 fabric ram.we) (memory_name ram) address
+    else WriteNarrow (is_falling fabric ram.wneg ram.wclk) clock (atom_or_1 fabric ram.wclke) (atom_or_0 fabric ram.we) (memory_name ram) address
     (pattern_of ram.write) (shift_atoms fabric ram.write ram.waddr) (data_atoms fabric ram.write ram.wdata)
 
 abbrev pub write_items : Fabric → RamCell → List Item

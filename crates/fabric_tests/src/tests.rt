@@ -247,7 +247,12 @@ fn has_clock(design: &Design, net: u32, clock: PinXy) -> bool {
     (net as usize) < design.net_count()
         && design.class_of(net) == net
         && design.clock(net) == Some(clock)
-        && design.clock_end(net) == ClockEnd::Pin(0)
+        && !design.turned(net)
+        && design.clock_end(net)
+            == (ClockEnd::Pin {
+                place: 0,
+                turned: false,
+            })
 }
 
 /// Whether the buffer of a line is on and has those nets.

@@ -1,4 +1,4 @@
--- The first user whose clock comes from no pin is the first fault of the clocks of a fabric.
+-- The first user whose clock comes from logic is the first fault of the clocks of a fabric.
 use Rattle.std.proofs.Common.{◌≡◌, ℕ, ◌+◌, ◌<◌, Bool, true, false, List, [], ◌∷◌, ◌++◌, length, map, take, get_or, refl, sym, ◌∙◌, ap}
 use Rattle.std.specs.Prelude.{Option, Some, None, All, filter, flat_map, ◌&&◌, ◌==◌, if◌then◌else◌}
 use Rattle.std.proofs.lemmas.List.{take_more, map-append, append-nil}
@@ -16,7 +16,7 @@ use Rattle.fabric_model.specs.Fabric.{Fabric}
 use Rattle.fabric_model.specs.Tiles.{over_grid, item_if, first_of}
 use Rattle.fabric_model.specs.Within.{IsNetIn}
 use Rattle.fabric_model.specs.Clocks.{ClockEnd, User, register_user, ram_users, users_at, users_of, clock_end}
-use Rattle.fabric_model.specs.Clocks.ClockEnd.{at_pin, undriven, logic}
+use Rattle.fabric_model.specs.Clocks.ClockEnd.{at_pin, still, logic}
 use Rattle.fabric_model.specs.Faults.{Fault, end_fault, user_fault, clock_faults}
 use Rattle.fabric_model.specs.Faults.Fault.{clock}
 use Rattle.fabric_model.specs.Links.{LinkSet, class_in}
@@ -79,10 +79,10 @@ module _ (x y : ℕ) where
   tile-end : (input : ClockInput) (net : ℕ) (end : ClockEnd) (here : Bool) → ((input.x == x) && (input.y == y)) ≡ here
       → map fault (filter (is_at x y) (item_if (is_other end) (found_with input net))) ≡ (if here then end_fault (user_of input) net end else [])
   unfolding fault
-  tile-end input net (at_pin place) true is = refl
-  tile-end input net (at_pin place) false is = refl
-  tile-end input net undriven true is = refl
-  tile-end input net undriven false is = refl
+  tile-end input net (at_pin place turned) true is = refl
+  tile-end input net (at_pin place turned) false is = refl
+  tile-end input net (still bit) true is = refl
+  tile-end input net (still bit) false is = refl
   tile-end input net logic true is = rw is refl
   tile-end input net logic false is = rw is refl
 

@@ -14,5 +14,7 @@ pub mod ReadRows
 pub mod Grid
 -- the first of some users in the order of tiles, with one more
 pub mod Sooner
--- the first user whose clock comes from no pin is the first fault of the clocks of a fabric
+-- the first user whose clock comes from logic is the first fault of the clocks of a fabric
 pub mod Clocked
+-- a source that a table reads is one of those of its inputs
+pub mod Sources

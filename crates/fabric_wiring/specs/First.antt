@@ -1,4 +1,4 @@
--- Users of clocks whose clock comes from another driver than a pin, and the first of them in the order of tiles.
+-- Users of clocks whose clock comes from logic, and the first of them in the order of tiles.
 use Rattle.std.specs.Prelude.{ℕ, Bool, true, false, ◌&&◌, ◌||◌, ◌==◌, nat_lt, List, [], ◌∷◌, filter, flat_map, Option, Some, None}
 use Rattle.plane_map.specs.Layout.{grid_width, grid_height}
 use Rattle.plane_map.specs.declared.device.DeviceName.{DeviceName}
@@ -7,7 +7,7 @@ use Rattle.fabric_model.specs.declared.ram.RamCell.{RamCell}
 use Rattle.fabric_model.specs.declared.driver.ClockUser.TheVariants.{Read, Write}
 use Rattle.fabric_model.specs.Tiles.{over_grid, item_if, first_of}
 use Rattle.fabric_model.specs.Clocks.{ClockEnd}
-use Rattle.fabric_model.specs.Clocks.ClockEnd.{at_pin, undriven, logic}
+use Rattle.fabric_model.specs.Clocks.ClockEnd.{at_pin, still, logic}
 use Rattle.fabric_model.specs.Links.{LinkSet, class_in}
 use Rattle.fabric_wiring.specs.declared.ends.ClockEnd.{ClockEnd as KeptEnd}
 use Rattle.fabric_wiring.specs.declared.users.Unclocked.{Unclocked}
@@ -26,13 +26,13 @@ ram_inputs ram =
     record { x = ram.x; y = ram.y; user = Read; net = ram.rclk }
     ∷ record { x = ram.x; y = ram.y; user = Write; net = ram.wclk } ∷ []
 
--- whether a clock chain ends at another driver than a pin
+-- whether a clock chain ends at logic
 abbrev pub is_other : ClockEnd → Bool
-is_other (at_pin place) = false
-is_other undriven = false
+is_other (at_pin place turned) = false
+is_other (still bit) = false
 is_other logic = true
 
--- a user with that clock net, if the clock comes from another driver than a pin
+-- a user with that clock net, if the clock comes from logic
 abbrev pub unclocked_with : LinkSet → List KeptEnd → ClockInput → Option ℕ → List Unclocked
 unclocked_with links ends input None = []
 unclocked_with links ends input (Some net) =
@@ -41,7 +41,7 @@ unclocked_with links ends input (Some net) =
 abbrev pub unclocked_by : LinkSet → List KeptEnd → ClockInput → List Unclocked
 unclocked_by links ends input = unclocked_with links ends input input.net
 
--- the users in a list whose clock comes from another driver than a pin
+-- the users in a list whose clock comes from logic
 abbrev pub unclocked_in : LinkSet → List KeptEnd → List ClockInput → List Unclocked
 unclocked_in links ends inputs = flat_map (unclocked_by links ends) inputs
 

@@ -1,5 +1,5 @@
 // The drivers of a fabric.
-ghost use Rattle.std.specs.Prelude.{◌≡◌, ◌<◌, length};
+ghost use Rattle.std.specs.Prelude.{◌≡◌, ◌<◌, length, is_some};
 ghost use Rattle.fabric_wiring.specs.DriverLists.{driver_in};
 
 use crate::drive::Drive;
@@ -38,5 +38,15 @@ impl Drivers {
         ensures { result ≡ driver_in self.now class }
     {
         driver_at(&self.drives, self.places[class as usize])
+    }
+
+    /// Whether a class of joined nets has a driver.
+    pub fn is_driven(&self, class: u32) -> bool
+        ensures { result ≡ is_some (driver_in self.now class) }
+    {
+        match self.places.get(class as usize) {
+            None => false,
+            Some(place) => driver_at(&self.drives, *place).is_some(),
+        }
     }
 }

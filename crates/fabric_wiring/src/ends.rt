@@ -1,30 +1,34 @@
 // Where the clocks of classes of joined nets come from.
-ghost use Rattle.std.specs.Prelude.{◌≡◌, ℕ, ◌<◌, length, map, option_to_list, IfOk};
+ghost use Rattle.std.specs.Prelude.{◌≡◌, ℕ, ◌<◌, Bool, true, false, length, map, flat_map, get_or, option_to_list, None, IfOk, IfSome};
 ghost use Rattle.fabric_model.specs.Fabric.{Fabric};
 ghost use Rattle.graph_order.specs.Wiring.{IsWriteOrder};
 ghost use Rattle.fabric_model.specs.Wiring.{wiring_of};
-ghost use Rattle.fabric_model.specs.Clocks.{turn_by, turn_of, end_by};
-ghost use Rattle.fabric_model.specs.Clocks.Turn.{goes_to};
-ghost use Rattle.fabric_model.specs.Clocks.ClockEnd.{undriven};
+ghost use Rattle.fabric_model.specs.declared.register.LutSource.TheVariants.{Net};
+ghost use Rattle.fabric_model.specs.ClockLuts.{can_be_1, pass_of};
+ghost use Rattle.fabric_model.specs.Clocks.{turned_end, turn_through, turn_by, turn_of, end_by};
+ghost use Rattle.fabric_model.specs.Clocks.ClockEnd.{still};
+ghost use Rattle.fabric_model.specs.Drivers.{nets_read, source_nets};
+ghost use Rattle.graph_order.specs.Wiring.{has};
+ghost use Rattle.fabric_model.specs.Within.{IsNetIn};
 ghost use Rattle.fabric_model.specs.Links.{class_in};
 ghost use Rattle.fabric_wiring.specs.Drives.{rule_of, drive_of};
 ghost use Rattle.fabric_wiring.specs.Parts.{ArePartsOf};
-ghost use Rattle.fabric_wiring.specs.DriverLists.{AreDriversOf, driver_in};
+ghost use Rattle.fabric_wiring.specs.DriverLists.{AreDriversOf, driver_in, is_connected_in};
 ghost use Rattle.fabric_wiring.specs.Ends.{end_of, end_in, AreEndsOf};
 
 use crate::{Drivers, Parts, Rule};
-use fabric_model::Links;
+use fabric_model::{Links, LutPass, LutSource, LutTable, pass_of};
 use std::alloc::{AllocError, Global};
 
-/// Where the clock chain from a class of joined nets ends. It leads from class to class, along buffers and along global networks that a
-/// net `fabout` drives.
+/// Where the clock chain from a class of joined nets ends. It leads from class to class, along buffers, along global networks that a net
+/// `fabout` drives, and through LUTs that follow one net.
 #[derive(Clone, Copy, Debug, PartialEq, Eq)]
 pub enum ClockEnd {
-    /// At the input pin with that index among the input pins.
-    Pin(u32),
-    /// At a class of joined nets without a driver.
-    Undriven,
-    /// At any other driver.
+    /// At the input pin with that index among the input pins; turned if the chain inverts the clock on its way.
+    Pin { place: u32, turned: bool },
+    /// At a bit that is always the same: at a class of joined nets without a driver, which is 0, or at a LUT whose value is always that bit.
+    Still(bool),
+    /// At logic: at any other driver.
     Logic,
 }
 
@@ -53,9 +57,9 @@ pub fn clock_ends(
 /// A list of `count` ends, each at a class of joined nets without a driver.
 fn all_still(alloc: Global, count: usize) -> Result<Vec<ClockEnd>, AllocError>
     ensures length { IfOk result (λ ends. length ends.items ≡ count) }
-    ensures undriven { IfOk result (λ ends. (class : ℕ) → end_in ends.items class ≡ undriven) }
+    ensures still { IfOk result (λ ends. (class : ℕ) → end_in ends.items class ≡ still false) }
 {
-    vec![in alloc; ClockEnd::Undriven; count]
+    vec![in alloc; ClockEnd::Still(false); count]
 }
 
 /// Sets the ends of the clock chains from all classes of joined nets with a driver. Those from all other classes are set before.
@@ -65,7 +69,7 @@ fn follow(parts: &Parts, drivers: &Drivers, order: &[u32], ends: &mut [ClockEnd]
     requires drivers { AreDriversOf fabric drivers.now }
     requires order { IsWriteOrder (wiring_of fabric) order.now }
     requires classes { length ends.old ≡ fabric.nets }
-    requires undriven { (class : ℕ) → end_in ends.old class ≡ undriven }
+    requires still { (class : ℕ) → end_in ends.old class ≡ still false }
     ensures { AreEndsOf fabric ends.new }
 {
     for class in order {
@@ -76,24 +80,96 @@ fn follow(parts: &Parts, drivers: &Drivers, order: &[u32], ends: &mut [ClockEnd]
 /// The end of the clock chain from a class of joined nets, if the end from the class that it goes on to is known.
 fn end_from(links: &Links, drivers: &Drivers, ends: &[ClockEnd], class: u32) -> ClockEnd
     requires class { class < length drivers.now.places }
-    requires net { (net : ℕ) → turn_of (map drive_of (option_to_list (driver_in drivers.now class))) ≡ goes_to net → net < length links.now.classes }
-    ensures { end_of result ≡ end_by (λ net. end_in ends.now (class_in links.now net)) (turn_of (map drive_of (option_to_list (driver_in drivers.now class)))) }
+    requires reads { IfSome (driver_in drivers.now class) (λ drive. (net : ℕ) → has (nets_read (rule_of drive.rule)) net ≡ true → net < length links.now.classes) }
+    ensures { end_of result ≡ end_by (λ net. end_in ends.now (class_in links.now net))
+        (turn_of (is_connected_in links.now drivers.now) (map drive_of (option_to_list (driver_in drivers.now class)))) }
 {
     match drivers.of_class(class) {
-        None => ClockEnd::Undriven,
-        Some(drive) => end_along(links, ends, drive.rule),
+        None => ClockEnd::Still(false),
+        Some(drive) => end_along(links, drivers, ends, drive.rule),
     }
 }
 
 /// The end of a clock chain at or after a driver with that rule.
-fn end_along(links: &Links, ends: &[ClockEnd], rule: Rule) -> ClockEnd
-    requires { (net : ℕ) → turn_by (rule_of rule) ≡ goes_to net → net < length links.now.classes }
-    ensures { end_of result ≡ end_by (λ net. end_in ends.now (class_in links.now net)) (turn_by (rule_of rule)) }
+#[tactic(auto, unfolding(fabric_model::specs::Drivers::nets_read))]
+fn end_along(links: &Links, drivers: &Drivers, ends: &[ClockEnd], rule: Rule) -> ClockEnd
+    requires { (net : ℕ) → has (nets_read (rule_of rule)) net ≡ true → net < length links.now.classes }
+    ensures { end_of result ≡ end_by (λ net. end_in ends.now (class_in links.now net)) (turn_by (is_connected_in links.now drivers.now) (rule_of rule)) }
 {
     match rule {
-        Rule::PinBit(place) => ClockEnd::Pin(place),
+        Rule::PinBit(place) => ClockEnd::Pin {
+            place,
+            turned: false,
+        },
         Rule::Copied(net) => end_at(ends, links.class_of(net)),
+        Rule::TableEntry(table) => end_through(links, drivers, ends, &table),
         _ => ClockEnd::Logic,
+    }
+}
+
+/// The end of a clock chain at or after a LUT.
+fn end_through(links: &Links, drivers: &Drivers, ends: &[ClockEnd], table: &LutTable) -> ClockEnd
+    ghost connected: { ℕ → Bool }
+    requires connected { connected ≡ is_connected_in links.now drivers.now }
+    requires reads { (net : ℕ) → has (flat_map source_nets table.now.ins) net ≡ true → net < length links.now.classes }
+    ensures { end_of result ≡ end_by (λ net. end_in ends.now (class_in links.now net)) (turn_through (pass_of connected table.now)) }
+{
+    match pass_of(table, open_inputs(links, drivers, &table.ins)) {
+        LutPass::Holds(bit) => ClockEnd::Still(bit),
+        LutPass::Follows { turned, net } => turned_end(turned, end_at(ends, links.class_of(net))),
+        LutPass::Mixes => ClockEnd::Logic,
+    }
+}
+
+/// Which inputs of a LUT can be 1.
+fn open_inputs(links: &Links, drivers: &Drivers, ins: &[LutSource; 4]) -> [bool; 4]
+    requires { (net : ℕ) → has (flat_map source_nets ins.now) net ≡ true → net < length links.now.classes }
+    ensures { (k : ℕ) → k < 4 → get_or result k false ≡ can_be_1 (is_connected_in links.now drivers.now) (get_or ins.now k (Net None)) }
+{
+    [
+        can_be_1(links, drivers, ins[0]),
+        can_be_1(links, drivers, ins[1]),
+        can_be_1(links, drivers, ins[2]),
+        can_be_1(links, drivers, ins[3]),
+    ]
+}
+
+/// Whether an input of a LUT can be 1: whether it reads an input pin, or a net whose class of joined nets has a driver.
+fn can_be_1(links: &Links, drivers: &Drivers, source: LutSource) -> bool
+    requires { (net : ℕ) → has (source_nets source) net ≡ true → net < length links.now.classes }
+    ensures { result ≡ can_be_1 (is_connected_in links.now drivers.now) source }
+{
+    match source {
+        LutSource::Net(net) => is_connected(links, drivers, net),
+        LutSource::Pin(_) => true,
+    }
+}
+
+/// Whether an input is connected: whether it has a net whose class of joined nets has a driver.
+fn is_connected(links: &Links, drivers: &Drivers, net: Option<u32>) -> bool
+    requires { IsNetIn (length links.now.classes) net }
+    ensures { result ≡ can_be_1 (is_connected_in links.now drivers.now) (Net net) }
+{
+    match net {
+        None => false,
+        Some(net) => drivers.is_driven(links.class_of(net)),
+    }
+}
+
+/// The end of a clock chain that is turned before it comes there.
+fn turned_end(turned: bool, end: ClockEnd) -> ClockEnd
+    ensures { end_of result ≡ turned_end turned (end_of end) }
+{
+    match end {
+        ClockEnd::Pin {
+            place,
+            turned: other,
+        } => ClockEnd::Pin {
+            place,
+            turned: turned != other,
+        },
+        ClockEnd::Still(bit) => ClockEnd::Still(turned != bit),
+        ClockEnd::Logic => ClockEnd::Logic,
     }
 }
 
@@ -102,7 +178,7 @@ pub(crate) fn end_at(ends: &[ClockEnd], class: u32) -> ClockEnd
     ensures { end_of result ≡ end_in ends.now class }
 {
     match ends.get(class as usize) {
-        None => ClockEnd::Undriven,
+        None => ClockEnd::Still(false),
         Some(end) => *end,
     }
 }

@@ -1,4 +1,4 @@
-// Users of clocks whose clock comes from no pin.
+// Users of clocks whose clock comes from logic.
 ghost use Rattle.std.specs.Prelude.{◌≡◌, ◌<◌, ◌&&◌, ◌||◌, ◌==◌, ◌∷◌, ◌++◌, [], List, All, nat_lt, length, flat_map, option_to_list};
 ghost use Rattle.fabric_model.specs.Fabric.{Fabric};
 ghost use Rattle.fabric_model.specs.Within.{IsNetIn};
@@ -15,7 +15,7 @@ use crate::ends::{ClockEnd, end_at};
 use fabric_model::{ClockUser, Links, RamCell, Register};
 use plane_map::DeviceName;
 
-/// A user of a clock at the tile at (x, y), and the net of its clock, which comes from another driver than a pin.
+/// A user of a clock at the tile at (x, y), and the net of its clock, which comes from logic.
 #[derive(Clone, Copy, Debug, PartialEq, Eq)]
 pub struct Unclocked {
     pub x: u8,
@@ -33,7 +33,7 @@ struct ClockInput {
     net: Option<u32>,
 }
 
-/// Finds the first user whose clock comes from another driver than a pin. Users are ordered by tile; the registers of a tile are in
+/// Finds the first user whose clock comes from logic. Users are ordered by tile; the registers of a tile are in
 /// their order, and the read port of a RAM comes before its write port. It goes over the registers and the RAMs once, and allocates no
 /// memory.
 pub fn first_unclocked(device: DeviceName, parts: &Parts, ends: &[ClockEnd]) -> Option<Unclocked>
@@ -46,7 +46,7 @@ pub fn first_unclocked(device: DeviceName, parts: &Parts, ends: &[ClockEnd]) -> 
     or_first_port(device, &parts.links, ends, &parts.rams, register)
 }
 
-/// The first register whose clock comes from another driver than a pin.
+/// The first register whose clock comes from logic.
 fn first_register(
     device: DeviceName,
     links: &Links,
@@ -63,7 +63,7 @@ fn first_register(
     found
 }
 
-/// What was found, or the first port of RAMs whose clock comes from another driver than a pin, if its tile comes before.
+/// What was found, or the first port of RAMs whose clock comes from logic, if its tile comes before.
 fn or_first_port(
     device: DeviceName,
     links: &Links,
@@ -82,7 +82,7 @@ fn or_first_port(
     found
 }
 
-/// What was found, or a register whose clock comes from another driver than a pin, if its tile comes before.
+/// What was found, or a register whose clock comes from logic, if its tile comes before.
 fn or_register(
     device: DeviceName,
     links: &Links,
@@ -102,7 +102,7 @@ fn or_register(
     or_input(device, links, ends, found, input)
 }
 
-/// What was found, or a port of a RAM whose clock comes from another driver than a pin, if its tile comes before.
+/// What was found, or a port of a RAM whose clock comes from logic, if its tile comes before.
 fn or_ports(
     device: DeviceName,
     links: &Links,
@@ -130,7 +130,7 @@ fn or_ports(
     or_input(device, links, ends, found, write)
 }
 
-/// What was found, or a user whose clock comes from another driver than a pin, if its tile comes before.
+/// What was found, or a user whose clock comes from logic, if its tile comes before.
 fn or_input(
     device: DeviceName,
     links: &Links,
@@ -147,7 +147,7 @@ fn or_input(
     }
 }
 
-/// A user and the net of its clock, or `None` if the clock comes from a pin or has no driver.
+/// A user and the net of its clock, or `None` if the clock comes from a pin or is always the same bit.
 fn without_pin(links: &Links, ends: &[ClockEnd], input: ClockInput) -> Option<Unclocked>
     requires { IsNetIn (length links.now.classes) input.net }
     ensures { option_to_list result ≡ unclocked_by links.now ends.now input }
@@ -164,7 +164,7 @@ fn without_pin(links: &Links, ends: &[ClockEnd], input: ClockInput) -> Option<Un
     })
 }
 
-/// Whether the clock chain from a class of joined nets ends at another driver than a pin.
+/// Whether the clock chain from a class of joined nets ends at logic.
 fn ends_otherwise(ends: &[ClockEnd], class: u32) -> bool
     ensures { result ≡ is_other (end_in ends.now class) }
 {

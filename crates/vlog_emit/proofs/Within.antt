@@ -1,5 +1,5 @@
 -- The parts of a design and what its drivers name are there.
-use Rattle.std.proofs.Common.{◌≡◌, ℕ, ◌<◌, ◌≤◌, true, List, [], ◌∷◌, ◌++◌, length, map, get_or, refl, sym, ap, ◌∙◌, subst, arith, inl, inr}
+use Rattle.std.proofs.Common.{Bool, ◌≡◌, ℕ, ◌<◌, ◌≤◌, true, List, [], ◌∷◌, ◌++◌, length, map, get_or, refl, sym, ap, ◌∙◌, subst, arith, inl, inr}
 use Rattle.std.specs.Prelude.{All, Contains, Option, Some, None, option_to_list}
 use Rattle.std.proofs.lemmas.Bool.{cases_Bool}
 use Rattle.std.proofs.lemmas.List.Elements.{All-from_get_or, All-nil, All-cons, All-head, All-tail, All-contains, All-contains_itself, All-weaker}
@@ -199,9 +199,9 @@ module _ (design : Kept) (is : IsDesign design) where
   -- ---- clocks
 
   -- a chain ends at an input pin that is there
-  pub clock-within : (net : ℕ) → net < nets_in design → (place : ℕ) → end_in design.ends (class_in design.parts.links net) ≡ at_pin place → place < length design.inputs
-  clock-within net below place at =
-      let ends : clock_end fabric net ≡ at_pin place = sym (end-is fabric design is.2.kept net below) ∙ at in
+  pub clock-within : (net : ℕ) → net < nets_in design → (place : ℕ) (turned : Bool) → end_in design.ends (class_in design.parts.links net) ≡ at_pin place turned → place < length design.inputs
+  clock-within net below place turned at =
+      let ends : clock_end fabric net ≡ at_pin place turned = sym (end-is fabric design is.2.kept net below) ∙ at in
       subst (λ pins. place < length pins) (sym is.2.kept.inputs)
       (leads-place fabric writable
-      (clock_end-leads fabric (fabric-within is.0 is.1 is.2.fit design.parts.lut_inputs) design.order is.2.kept.order net) place ends)
+      (clock_end-leads fabric (fabric-within is.0 is.1 is.2.fit design.parts.lut_inputs) design.order is.2.kept.order net) place turned ends)

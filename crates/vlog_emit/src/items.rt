@@ -5,7 +5,7 @@ ghost use Rattle.fabric_model.specs.Pins.{is_tri_state};
 ghost use Rattle.fabric_wiring.specs.Outputs.{output_of};
 ghost use Rattle.fabric.specs.Design.{IsDesign};
 ghost use Rattle.fabric_module.specs.Names.{output_name, register_name};
-ghost use Rattle.fabric_module.specs.Written.{clock_name, port_of, pin_ports, register_item, read_register, ram_memory, class_wire, output_assign, flip_item, at_once_item, items_by, register_items, read_item, read_items, write_item, write_items};
+ghost use Rattle.fabric_module.specs.Written.{clock_name, is_falling, port_of, pin_ports, register_item, read_register, ram_memory, class_wire, output_assign, flip_item, at_once_item, items_by, register_items, read_item, read_items, write_item, write_items};
 ghost use Rattle.vlog_emit.specs.Each.{EachFabric, IsRegisterIn, IsRuleIn, nets_in};
 
 use crate::atoms::{
@@ -135,12 +135,24 @@ fn end_name(alloc: Global, design: &Design, net: u32) -> Result<Option<Name>, Al
     ensures { IfOk result (λ name. EachFabric design.now (λ fabric. name ≡ clock_name fabric (Some net))) }
 {
     match design.clock_end(net) {
-        ClockEnd::Pin(place) => {
+        ClockEnd::Pin { place, .. } => {
             let name = input_name(alloc, design, place as usize)?;
             Ok(Some(name))
         }
-        ClockEnd::Undriven => Ok(None),
+        ClockEnd::Still(_) => Ok(None),
         ClockEnd::Logic => Ok(None),
+    }
+}
+
+/// Whether the item of a user is written for falling edges of the port at which its clock chain ends.
+#[tactic(auto, unfolding(fabric_module::specs::Written::is_falling))]
+fn is_falling(design: &Design, inverted: bool, clock: Option<u32>) -> bool
+    requires { IsNetIn (nets_in design.now) clock }
+    ensures { EachFabric design.now (λ fabric. result ≡ is_falling fabric inverted clock) }
+{
+    match clock {
+        None => inverted,
+        Some(net) => design.turned(net) != inverted,
     }
 }
 
@@ -159,7 +171,7 @@ fn flip_item(
     let target = register_name(alloc, register)?;
     let lut = lut_of(alloc, design, &register.table)?;
     Ok(Item::FlipFlop {
-        falling: register.neg,
+        falling: is_falling(design, register.neg, register.clk),
         clock,
         enable,
         reset,
@@ -184,7 +196,7 @@ fn at_once_item(
     let enable = input_atom(alloc, design, true, register.cen)?;
     let lut = lut_of(alloc, design, &register.table)?;
     Ok(Item::AsyncFlipFlop {
-        falling: register.neg,
+        falling: is_falling(design, register.neg, register.clk),
         clock,
         reset,
         set: register.set,
@@ -262,7 +274,7 @@ fn read_item(alloc: Global, design: &Design, ram: &RamCell, clock: Name) -> Resu
     requires mode { ram.now.read ≤ 3 }
     ensures { IfOk result (λ item. EachFabric design.now (λ fabric. item ≡ read_item fabric ram.now clock)) }
 {
-    let falling = ram.rneg;
+    let falling = is_falling(design, ram.rneg, ram.rclk);
     let clock_enable = input_atom(alloc, design, true, ram.rclke)?;
     let enable = input_atom(alloc, design, false, ram.re)?;
     let target = read_name(alloc, ram)?;
@@ -334,7 +346,7 @@ fn write_whole(
     let mask = port_atoms(alloc, design, &ram.mask)?;
     let bits = port_atoms(alloc, design, &ram.wdata)?;
     Ok(Item::Write {
-        falling: ram.wneg,
+        falling: is_falling(design, ram.wneg, ram.wclk),
         clock,
         clock_enable,
         enable,
@@ -364,7 +376,7 @@ fn write_narrow(
     let shift = shift_atoms(alloc, design, ram.write, &ram.waddr)?;
     let bits = data_atoms(alloc, design, ram.write, &ram.wdata)?;
     Ok(Item::WriteNarrow {
-        falling: ram.wneg,
+        falling: is_falling(design, ram.wneg, ram.wclk),
         clock,
         clock_enable,
         enable,

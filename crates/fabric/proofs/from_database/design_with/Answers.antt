@@ -7,7 +7,7 @@ use Rattle.chipdb_reader.specs.Kept.{database_in}
 use Rattle.fabric_model.specs.declared.lut_inputs.LutInputs.{LutInputs}
 use Rattle.fabric_model.specs.Fabric.{fabric_with}
 use Rattle.fabric_model.specs.Faults.{design_fault}
-use Rattle.fabric_model.proofs.Alike.{design-value, design-run}
+use Rattle.fabric_model.proofs.Alike.{design-value, design-run, clock_end-with}
 use Rattle.fabric_model.proofs.Once.{first-differ}
 use Rattle.fabric_wiring.specs.Parts.{ArePartsOf}
 use Rattle.fabric_wiring.specs.declared.parts.Parts.{Parts}
@@ -16,7 +16,7 @@ use Rattle.fabric.proofs.Refused.{told, fabric-refuses, fabric-taken}
 use Rattle.fabric.specs.Kept.{Kept}
 use Rattle.fabric.specs.Design.{IsDesignOf}
 use Rattle.fabric.proofs.Composed.{fabric-reads, rams-kept, designed}
-use Rattle.fabric.proofs.Clocked.{ends-lead, run-has-clocks}
+use Rattle.fabric.proofs.Clocked.{ends-lead, values-have-clocks}
 use Rattle.fabric.proofs.from_database.design_with.Goals as goal
 
 -- parts tell which inputs their LUTs read
@@ -108,8 +108,11 @@ returns-clause-chains c =
     let image = configuration_of c.args.image.now in
     ends-lead c.in_ok-parts.parts.lut_inputs db image c.in_ok-parts.ensures.fit (fabric-taken c.in_ok-parts.parts.lut_inputs db image c.in_ok-parts.ensures.taken c.in_ok-wired.ensures.taken)
 
+pub returns-clause-origins : goal.returns-clause-origins
+returns-clause-origins c = clock_end-with c.args.lut_inputs (database_in c.args.db.now) (configuration_of c.args.image.now)
+
 pub returns-clause-clocks : goal.returns-clause-clocks
 returns-clause-clocks c =
     let db = database_in c.args.db.now in
     let image = configuration_of c.args.image.now in
-    run-has-clocks c.in_ok-parts.parts.lut_inputs db image c.in_ok-parts.ensures.fit (fabric-taken c.in_ok-parts.parts.lut_inputs db image c.in_ok-parts.ensures.taken c.in_ok-wired.ensures.taken)
+    values-have-clocks c.in_ok-parts.parts.lut_inputs db image c.in_ok-parts.ensures.fit (fabric-taken c.in_ok-parts.parts.lut_inputs db image c.in_ok-parts.ensures.taken c.in_ok-wired.ensures.taken)

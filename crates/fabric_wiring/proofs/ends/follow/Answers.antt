@@ -1,10 +1,15 @@
-use Rattle.std.proofs.Common.{◌≡◌, take, get_or, sym, ◌∙◌, ap, subst, arith}
+use Rattle.std.specs.Prelude.{IfSome}
+use Rattle.std.proofs.Common.{◌≡◌, ℕ, ◌<◌, true, take, get_or, sym, ◌∙◌, ap, subst, arith}
 use Rattle.std.proofs.lemmas.List.{length-set, take_all}
 use Rattle.fabric_model.specs.Clocks.{end_by}
 use Rattle.fabric_model.specs.Links.{class_in}
 use Rattle.fabric_model.proofs.Within.{within-parts}
 use Rattle.fabric_wiring.specs.Ends.{end_in}
-use Rattle.fabric_wiring.proofs.Drives.{goes-within, turn-kept}
+use Rattle.fabric_model.specs.Drivers.{nets_read}
+use Rattle.graph_order.specs.Wiring.{has}
+use Rattle.fabric_wiring.specs.Drives.{rule_of}
+use Rattle.fabric_wiring.specs.DriverLists.{driver_in}
+use Rattle.fabric_wiring.proofs.Drives.{kept-within, turn-kept}
 use Rattle.fabric_wiring.proofs.Following.{AreFound, still-found, next-below, next-found, found-ends}
 use Rattle.fabric_wiring.proofs.ends.follow.Goals as goal
 
@@ -19,12 +24,12 @@ end_from-requires-clause-class g c =
     let below = next-below g.fabric c.args.order.now c.requires.1.1.0 c.loop-class.class-index c.loop-class-test.true in
     omega (arith, below, c.requires.1.0.classes)
 
-pub end_from-requires-clause-net : goal.end_from-requires-clause-net
-end_from-requires-clause-net g c = λ net goes.
+pub end_from-requires-clause-reads : goal.end_from-requires-clause-reads
+end_from-requires-clause-reads g c =
     let class = get_or c.args.order.now c.loop-class.class-index 0 in
     let below = next-below g.fabric c.args.order.now c.requires.1.1.0 c.loop-class.class-index c.loop-class-test.true in
-    let within = goes-within g.fabric class (within-parts g.fabric c.requires.0.within) net (turn-kept g.fabric c.args.drivers.now c.requires.1.0 class below ∙ goes) in
-    omega (arith, within, c.requires.0.nets)
+    subst (λ count. IfSome (driver_in c.args.drivers.now class) (λ drive. (net : ℕ) → has (nets_read (rule_of drive.rule)) net ≡ true → net < count)) (sym c.requires.0.nets)
+    (kept-within g.fabric class (within-parts g.fabric c.requires.0.within) (driver_in c.args.drivers.now class) (c.requires.1.0.each class below))
 
 pub bounds-ends-class : goal.bounds-ends-class
 bounds-ends-class g c =
@@ -42,7 +47,7 @@ loop-class-preserved g c =
       found = next-found g.fabric c.args.order.now c.requires.1.1.0 c.loop-class.class-index c.loop-class-test.true
           (λ net. end_in kept (class_in links net)) kept c.end_from.result c.loop-class.invariant.classes c.loop-class.invariant.found
           (λ net. ap (end_in kept) (c.requires.0.classes net))
-          (c.end_from.ensures ∙ ap (end_by (λ net. end_in kept (class_in links net))) (sym (turn-kept g.fabric c.args.drivers.now c.requires.1.0 class below)));
+          (c.end_from.ensures ∙ ap (end_by (λ net. end_in kept (class_in links net))) (sym (turn-kept g.fabric c.args.parts.now c.requires.0 c.args.drivers.now c.requires.1.0 class below)));
     }
 
 pub returns : goal.returns

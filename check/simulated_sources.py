@@ -8,15 +8,13 @@ COUNT is how many designs of a family are made for each device, 6 if it is missi
 is made, for a 1k alone. The chip databases are those of Debian's package fpga-icestorm-chipdb. With -k the files stay in FOLDER, a folder for
 each design.
 
-There are three families of designs (designs.py). Registers at both edges of a clock: some are set or reset at the edge, some at once, by a
+There are four families of designs (designs.py). Registers at both edges of a clock: some are set or reset at the edge, some at once, by a
 pin that is 1, by a pin that is 0, or by a pin or another register; some have an enable. Memories of 256 to 4096 words of 1 to 16 bits, and
-the same ones only read. Pins by SB_IO cells: inputs and outputs with registers at both edges, with and without an enable, and
-outputs that can be switched off. The simulation takes the models of these cells that yosys ships. Designs and events are random, but always
-the same. After the start and after each event the outputs are compared; one that is switched off has z. A router may wire the output of a
-cell to an input that the cell's table doesn't use, which is a loop; such a design is routed again with another seed.
-
-yosys gives the write port of a memory that is only read the constant 0 as its clock. nextpnr may bring that from a cell; the design is then
-refused for a clock that is made by logic, as it should be.
+the same ones only read, whose write clock is the constant 0, which nextpnr may bring from a cell. Pins by SB_IO cells: inputs and outputs
+with registers at both edges, with and without an enable, and outputs that can be switched off. Clocks that go through LUTs. The simulation
+takes the models of these cells that yosys ships. Designs and events are random, but always the same. After the start and after each event
+the outputs are compared; one that is switched off has z. A router may wire the output of a cell to an input that the cell's table doesn't
+use, which is a loop; such a design is routed again with another seed.
 
 The last line is 'N passed, M failed'. Status 0: all passed; 1: something failed; 2: the arguments aren't taken; 127: a database or a program is
 missing.
@@ -86,11 +84,6 @@ def compare(design, device, work):
     return "%d lines; %s" % (len(mine), design.seen(module)), fault
 
 
-def is_constant_clock(design, refused):
-    """Whether a design is refused for the clock of a write port that it doesn't use."""
-    return not design.is_written and " write: Clock net " in str(refused)
-
-
 def try_design(tally, family, number, device, work):
     """Makes a design, and compares."""
     work.mkdir(parents=True)
@@ -98,8 +91,7 @@ def try_design(tally, family, number, device, work):
     try:
         what, fault = compare(design, device, work)
     except Refused as refused:
-        what = "refused: %s" % refused
-        fault = "" if is_constant_clock(design, refused) else what
+        what = fault = "refused: %s" % refused
     tally.tell("%s %s %d: %s" % (device, family, number, what), fault)
 
 

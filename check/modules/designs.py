@@ -1,4 +1,4 @@
-"""Designs in Verilog, made from a number: registers that are set and reset, memories, and pins with registers.
+"""Designs in Verilog, made from a number: registers that are set and reset, memories, pins with registers, and clocks that go through LUTs.
 
 A design has inputs and outputs of one bit, a text, events, and what its simulation begins with. They are random, but always the same.
 """
@@ -16,8 +16,6 @@ class Design:
 
     # how many designs there are in a family that doesn't go on for ever
     COUNT = None
-    # whether its memories, if it has any, are written
-    is_written = True
     # whether no two of its pins may be in one tile, which has one clock for registers of inputs and one for those of outputs
     is_apart = False
     inputs = []
@@ -227,4 +225,44 @@ class Pins(Design):
             module.count("reg pi_") + module.count("reg po_"), module.count("output io_") - len(self.outputs))
 
 
-FAMILIES = {"resets": Resets, "memory": Memory, "pins": Pins}
+class Clocks(Design):
+    """Registers whose clocks go through LUTs: tables that pass a clock on or invert it, one after the other, on a global net, or that hold a bit."""
+
+    TABLES = {"passed": ("0002", "aaaa"), "turned": ("0001", "5555"), "back": ("0001", "5555"), "held": ("0000", "0008"), "set": ("ffff", "000b")}
+    SOURCES = {"passed": "clk", "turned": "clk", "back": "turned", "held": "clk", "set": "clk"}
+    CLOCKS = "clk", "passed", "turned", "back", "held", "set", "driven"
+
+    def __init__(self, number):
+        draws = random.Random(number)
+        self.inputs = ["clk", "in0", "in1"]
+        self.outputs = ["out%d" % k for k in range(OUTPUTS)]
+        self.tables = {name: draws.choice(tables) for name, tables in self.TABLES.items()}
+        # each clock has a register at one edge at least
+        self.registers = [(clock, draws.choice(["posedge", "negedge"])) for clock in self.CLOCKS]
+        self.registers += [(draws.choice(self.CLOCKS), draws.choice(["posedge", "negedge"])) for _ in self.CLOCKS]
+        self.mixed = [[draws.randrange(len(self.registers)) for _ in range(2)] for _ in self.registers]
+        self.shown = [draws.sample(range(len(self.registers)), 2) for _ in self.outputs]
+        self.events = self.drawn(draws, [6, 2, 2])
+
+    def text(self):
+        ports = ["input %s" % name for name in self.inputs] + ["output %s" % name for name in self.outputs]
+        lines = ["module top (%s);" % ", ".join(ports), "  wire driven, %s;" % ", ".join(self.TABLES),
+                 "  SB_GB global (.USER_SIGNAL_TO_GLOBAL_BUFFER(turned), .GLOBAL_BUFFER_OUTPUT(driven));"]
+        for name, table in self.tables.items():
+            lines += ["  (* keep *) SB_LUT4 #(.LUT_INIT(16'h%s)) lut_%s (.I0(%s), .I1(1'b0), .I2(1'b0), .I3(1'b0), .O(%s));" % (
+                table, name, self.SOURCES[name], name)]
+        for place, (clock, edge) in enumerate(self.registers):
+            lines += ["  reg r%d = 1'b0;" % place, "  always @(%s %s) r%d <= r%d ^ (r%d & in0) ^ in1;" % (edge, clock, place, *self.mixed[place])]
+        # the clock and its inverse are values as others are
+        lines += ["  assign %s = r%d ^ r%d ^ %s;" % (name, *shown, ("clk", "turned", "in0")[place % 3])
+                  for place, (name, shown) in enumerate(zip(self.outputs, self.shown))]
+        return "\n".join(lines + ["endmodule"]) + "\n"
+
+    def start_lines(self):
+        return ["top.r%d = 1'b0;" % place for place in range(len(self.registers))]
+
+    def seen(self, module):
+        return "%d registers with a clock, %d at falling edges" % (module.count("edge io_"), module.count("negedge io_"))
+
+
+FAMILIES = {"resets": Resets, "memory": Memory, "pins": Pins, "clocks": Clocks}

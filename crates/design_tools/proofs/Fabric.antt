@@ -18,7 +18,7 @@ use Rattle.pin_file.specs.declared.pin_name.PinName.{PinName}
 use Rattle.pin_file.specs.declared.fault.PinFileFault.{PinFileFault}
 use Rattle.pin_file.specs.Faults.{pin_fault_of, ports_of}
 use Rattle.pin_file.specs.Packages.{Package, package_of}
-use Rattle.port_names.specs.Named.{AreAccepted, named_module, named_output, named_port, named_ports, switched_places}
+use Rattle.port_names.specs.Named.{AreAccepted, named_module, named_output, named_port, named_ports, port_pins}
 use Rattle.port_names.specs.NamedLaw.{RunsNamed}
 use Rattle.port_names.proofs.IsFabric.{named-is-fabric}
 use Rattle.vlog_forms.specs.Printed.{printed}
@@ -111,7 +111,7 @@ module _ (inputs : LutInputs) (name : List ℕ) (is_name : IsName name) (db : Da
 -- what the bytes are, by the package of a pin file if there is one
 IsWritten : Option (List ℕ) → List (List ℕ) → List ℕ → Database → Configuration → Type 0
 IsWritten package_name texts bytes db image =
-    HasNoPinFault package_name texts (fabric_of db image).pins × SpellsFabric (names_given package_name texts) db image bytes
+    HasNoPinFault package_name texts × SpellsFabric (names_given package_name texts (fabric_of db image).pins) db image bytes
 
 own-done : (inputs : LutInputs) (name : List ℕ) → IsName name → (db : Database) (image : Configuration) → IsFit db → db.chip.nets ≤ 2 ^ 64 → (bytes : List ℕ) (fault : Option Fault)
     → design_fault inputs db image ≡ fault → written_with inputs name db image fault ≡ Done bytes → SpellsFabric [] db image bytes
@@ -127,25 +127,30 @@ pins-same inputs db image = refl
 
 module _ (inputs : LutInputs) (name : List ℕ) (is_name : IsName name) (db : Database) (image : Configuration) (fit : IsFit db) (few : db.chip.nets ≤ 2 ^ 64)
     (chosen : Package) (file bytes : List ℕ) where
+  -- the names that the pin file gives to the pins of a fabric
+  abbrev given : List Pin → List PinName
+  given pins = ports_of chosen (port_pins pins) file
+
   -- the pin file has no fault, and bytes spell the fabric by its names
   abbrev IsNamed : Type 0
-  IsNamed = (pin_fault_of chosen (switched_places (fabric_of db image).pins) file ≡ None) × SpellsFabric (ports_of chosen file) db image bytes
+  IsNamed = (pin_fault_of chosen file ≡ None) × SpellsFabric (given (fabric_of db image).pins) db image bytes
 
-  accepted-done : (fault : Option PinFileFault) → design_fault inputs db image ≡ None
-      → pin_fault_of chosen (switched_places (fabric_with inputs db image).pins) file ≡ fault → named_with inputs name (ports_of chosen file) db image fault ≡ Done bytes → IsNamed
+  accepted-done : (fault : Option PinFileFault) → design_fault inputs db image ≡ None → pin_fault_of chosen file ≡ fault
+      → named_with inputs name (given (fabric_of db image).pins) db image fault ≡ Done bytes → IsNamed
   accepted-done (Some fault) none is done = absurd cc
   accepted-done None none is done =
-      let same : printed (module_with_names (ports_of chosen file) inputs name db image) ≡ bytes = cc in
-      let faultless : pin_fault_of chosen (switched_places (fabric_of db image).pins) file ≡ None =
-      sym (ap (λ (ports : List Pin). pin_fault_of chosen (switched_places ports) file) (pins-same inputs db image)) ∙ is in (
-        faultless,
-        subst (SpellsFabric (ports_of chosen file) db image) same
-            (named-spelled inputs name is_name db image fit few none (ports_of chosen file) (record { chosen = chosen; text = file; faultless = faultless; are = refl })),
+      let names = given (fabric_of db image).pins in
+      let same : printed (module_with_names names inputs name db image) ≡ bytes = cc in (
+        is,
+        subst (SpellsFabric names db image) same
+            (named-spelled inputs name is_name db image fit few none names (record { chosen = chosen; text = file; faultless = is; are = refl })),
       )
 
   named-done : (fault : Option Fault) → design_fault inputs db image ≡ fault → named_where inputs name chosen file db image fault ≡ Done bytes → IsNamed
   named-done (Some fault) is done = absurd cc
-  named-done None is done = accepted-done (pin_fault_of chosen (switched_places (fabric_with inputs db image).pins) file) is refl done
+  named-done None is done =
+      accepted-done (pin_fault_of chosen file) is refl
+      (subst (λ pins. named_with inputs name (given pins) db image (pin_fault_of chosen file) ≡ Done bytes) (pins-same inputs db image) done)
 
 module _ (package_name layout : Option (List ℕ)) (all : List (List ℕ)) (bytes : List ℕ) (answer : Database → Configuration → Answer)
     (shown : (db : Database) (image : Configuration) → IsFit db → db.chip.nets ≤ 2 ^ 64 → answer db image ≡ Done bytes → IsWritten package_name all bytes db image) where

@@ -21,7 +21,7 @@ use Rattle.pin_file.specs.declared.fault.PinFileFault.{PinFileFault}
 use Rattle.pin_file.specs.declared.fault.PinFileFault.TheVariants.{At, Memory as OutOfMemory}
 use Rattle.pin_file.specs.Faults.{Tells, pin_fault_of, ports_of}
 use Rattle.pin_file.specs.Packages.{Package}
-use Rattle.port_names.specs.Named.{named_module, switched_places}
+use Rattle.port_names.specs.Named.{named_module, port_pins}
 use Rattle.tool_run.specs.declared.tool.Stop.{Stop}
 use Rattle.tool_run.specs.declared.tool.Stop.TheVariants.{Refused, UsageError, Memory}
 use Rattle.tool_run.specs.Stops.{StopsWith}
@@ -56,21 +56,24 @@ module _ (name : List ℕ) (chosen : Package) (pins : List ℕ) (db : Database) 
   abbrev inputs : LutInputs
   inputs = design.parts.lut_inputs
 
-  fault-is : (fault : Option PinFileFault) → pin_fault_of chosen (switched_places design.parts.pins.items) pins ≡ fault
-      → written_named inputs name chosen pins db image ≡ named_with inputs name (ports_of chosen pins) db image fault
+  -- the names that the file gives to the pins of the design
+  abbrev given : List PinName
+  given = ports_of chosen (port_pins design.parts.pins.items) pins
+
+  fault-is : (fault : Option PinFileFault) → pin_fault_of chosen pins ≡ fault → written_named inputs name chosen pins db image ≡ named_with inputs name given db image fault
   fault-is fault told =
       ap (named_where inputs name chosen pins db image) is.taken
-      ∙ ap (named_with inputs name (ports_of chosen pins) db image)
-      (ap (λ (list : List Pin). pin_fault_of chosen (switched_places list) pins) (sym is.kept.parts.pins) ∙ told)
+      ∙ ap (λ (list : List Pin). named_with inputs name (ports_of chosen (port_pins list) pins) db image (pin_fault_of chosen pins)) (sym is.kept.parts.pins)
+      ∙ ap (named_with inputs name given db image) told
 
   -- the text of the module whose ports have its names
-  pub accepted_done : (named : List PinName) (bytes : List ℕ) → pin_fault_of chosen (switched_places design.parts.pins.items) pins ≡ None → named ≡ ports_of chosen pins
+  pub accepted_done : (named : List PinName) (bytes : List ℕ) → pin_fault_of chosen pins ≡ None → named ≡ given
       → bytes ≡ printed (module_with_names named inputs name db image) → written_named inputs name chosen pins db image ≡ Done bytes
   accepted_done named bytes none are shown =
       fault-is None none ∙ ap Done (sym (shown ∙ ap (λ (ports : List PinName). printed (module_with_names ports inputs name db image)) are))
 
   -- a tool that tells its fault stops as it has to
-  pub pins_stop : (fault : PinFileFault) (stop : Stop) → Tells (pin_fault_of chosen (switched_places design.parts.pins.items) pins) fault → StopsForPins fault stop
+  pub pins_stop : (fault : PinFileFault) (stop : Stop) → Tells (pin_fault_of chosen pins) fault → StopsForPins fault stop
       → StopsWith (written_named inputs name chosen pins db image) stop
   pins_stop (At line cause) stop tells stops = subst (λ (answer : Answer). StopsWith answer stop) (sym (fault-is (Some (At line cause)) tells)) stops
   pins_stop (OutOfMemory failed) stop tells stops = rw stops tt

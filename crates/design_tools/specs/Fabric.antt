@@ -18,7 +18,7 @@ use Rattle.pin_file.specs.declared.pin_name.PinName.{PinName}
 use Rattle.fabric_model.specs.declared.pin.Pin.{Pin}
 use Rattle.pin_file.specs.Faults.{pin_fault_of, ports_of}
 use Rattle.pin_file.specs.Packages.{Package, package_of}
-use Rattle.port_names.specs.Named.{named_ports, switched_places}
+use Rattle.port_names.specs.Named.{named_ports, port_pins}
 use Rattle.port_names.specs.Matching.{MatchesNamed}
 use Rattle.tool_run.specs.Runs.{Outside, Scene}
 use Rattle.tool_run.specs.Tasks.{asks_for_help}
@@ -56,16 +56,15 @@ texts_of_design (Some package_name) texts = texts_without_pins texts
 abbrev pub package_read : List ℕ → List (List ℕ) → Package
 package_read package_name texts = package_of package_name (database_text texts)
 
--- the names that the pin file gives for the package, if there is one
-abbrev pub names_given : Option (List ℕ) → List (List ℕ) → List PinName
-names_given None texts = []
-names_given (Some package_name) texts = ports_of (package_read package_name texts) (pin_text texts)
+-- the names that the pin file gives to these pins of a design for the package, if there is one
+abbrev pub names_given : Option (List ℕ) → List (List ℕ) → List Pin → List PinName
+names_given None texts pins = []
+names_given (Some package_name) texts pins = ports_of (package_read package_name texts) (port_pins pins) (pin_text texts)
 
--- the pin file, if there is one, has no fault, for a design with these pins
-abbrev pub HasNoPinFault : Option (List ℕ) → List (List ℕ) → List Pin → Type 0
-HasNoPinFault None texts pins = Unit {0}
-HasNoPinFault (Some package_name) texts pins =
-    pin_fault_of (package_read package_name texts) (switched_places pins) (pin_text texts) ≡ None
+-- the pin file, if there is one, has no fault
+abbrev pub HasNoPinFault : Option (List ℕ) → List (List ℕ) → Type 0
+HasNoPinFault None texts = Unit {0}
+HasNoPinFault (Some package_name) texts = pin_fault_of (package_read package_name texts) (pin_text texts) ≡ None
 
 -- Bytes spell the fabric of a database and an image. `layout` is the layout file if one is named. The texts are those that were loaded
 -- after it: the pin file if a package is given, then the database, then the image, which is read under the layouts.
@@ -76,8 +75,8 @@ pub record WritesFabric (package_name : Option (List ℕ)) (layout : Option (Lis
   pub layouts_are : layouts_for layout ≡ Ok layouts
   pub db_is : database_read (get_or (texts_of_design package_name texts) 0 []) ≡ Ok db
   pub image_is : image_read layouts (get_or (texts_of_design package_name texts) 1 []) ≡ Ok image
-  pub faultless : HasNoPinFault package_name texts (fabric_of db image).pins
-  pub spells : SpellsFabric (names_given package_name texts) db image bytes
+  pub faultless : HasNoPinFault package_name texts
+  pub spells : SpellsFabric (names_given package_name texts (fabric_of db image).pins) db image bytes
 
 -- the name of the layout file, if the arguments of `icebox_vlog` name one
 abbrev pub layout_given : List (List ℕ) → Option (List ℕ)

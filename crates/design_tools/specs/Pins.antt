@@ -1,7 +1,7 @@
 -- The pin file of `icebox_vlog`, and the message for its fault.
 use Rattle.std.specs.Prelude.{◌≡◌, ℕ, List, [], ◌++◌, codes, decimal, drop, get_or, Option, Some, None}
 use Rattle.pin_file.specs.declared.fault.PinFileCause.{PinFileCause}
-use Rattle.pin_file.specs.declared.fault.PinFileCause.TheVariants.{Statement, Package, Pin, Repeated, Name}
+use Rattle.pin_file.specs.declared.fault.PinFileCause.TheVariants.{Statement, Package, Pin}
 use Rattle.pin_file.specs.declared.fault.PinFileFault.{PinFileFault}
 use Rattle.pin_file.specs.declared.fault.PinFileFault.TheVariants.{At, Memory}
 use Rattle.pin_file.specs.declared.pin_reader.PinReader.{PinReader}
@@ -21,8 +21,6 @@ abbrev pub pin_cause_text : PinFileCause → List ℕ
 pin_cause_text Statement = codes ": Statement"
 pin_cause_text Package = codes ": Package"
 pin_cause_text Pin = codes ": Pin"
-pin_cause_text Repeated = codes ": Repeated"
-pin_cause_text Name = codes ": Name"
 
 -- the faulty line, and the cause
 abbrev pub pin_fault_text : PinFileFault → List ℕ

@@ -30,7 +30,7 @@ use Rattle.pin_file.specs.declared.fault.PinFileFault.{PinFileFault}
 use Rattle.pin_file.specs.declared.pin_name.PinName.{PinName}
 use Rattle.pin_file.specs.Faults.{pin_fault_of, ports_of}
 use Rattle.pin_file.specs.Packages.{Package, package_of}
-use Rattle.port_names.specs.Named.{named_module, switched_places}
+use Rattle.port_names.specs.Named.{named_module, port_pins}
 use Rattle.design_answers.specs.Order.{write_order}
 use Rattle.design_answers.specs.Faults.{design_fault_text}
 
@@ -63,7 +63,7 @@ named_with inputs name named db image (Some fault) = Refused (pin_fault_text fau
 -- file
 abbrev pub named_where : LutInputs → List ℕ → Package → List ℕ → Database → Configuration → Option Fault → Answer
 named_where inputs name chosen file db image None =
-    named_with inputs name (ports_of chosen file) db image (pin_fault_of chosen (switched_places (fabric_with inputs db image).pins) file)
+    named_with inputs name (ports_of chosen (port_pins (fabric_with inputs db image).pins) file) db image (pin_fault_of chosen file)
 named_where inputs name chosen file db image (Some fault) = Refused (design_fault_text fault)
 
 abbrev pub written_named : LutInputs → List ℕ → Package → List ℕ → Database → Configuration → Answer

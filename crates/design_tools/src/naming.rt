@@ -10,7 +10,7 @@ ghost use Rattle.vlog_forms.specs.Printed.{printed};
 ghost use Rattle.pin_file.specs.Feeding.{kept_in};
 ghost use Rattle.pin_file.specs.Packages.{package_of};
 ghost use Rattle.pin_file.specs.declared.fault.PinFileFault.TheVariants.{At};
-ghost use Rattle.port_names.specs.Named.{AreAccepted, switched_places};
+ghost use Rattle.port_names.specs.Named.{AreAccepted, port_pins};
 ghost use Rattle.tool_run.specs.Collected.{Collects};
 ghost use Rattle.tool_run.specs.Lines.{refusal_text};
 ghost use Rattle.tool_run.specs.Needs.{text_of};
@@ -29,8 +29,8 @@ use design_answers::design_stop;
 use fabric::{Design, design_with};
 use fabric_model::LutInputs;
 use ice_image::AnyImage;
-use pin_file::{PackagePins, PinFileCause, PinFileFault, PinName, PinPlace, PinReader, pin_names};
-use port_names::{name_ports, switched_places};
+use pin_file::{PackagePins, PinFileCause, PinFileFault, PinName, PinReader, PortPin, pin_names};
+use port_names::{name_ports, port_pins};
 use std::alloc::{AllocError, Global};
 use tool_inputs::{DB_LIMIT, IMAGE_LIMIT, refusal};
 use tool_run::{Collected, Host, Job, Load, PieceTool, Refusal, Stop, decimal, text};
@@ -144,28 +144,28 @@ fn named_design_text(
 {
     let pins = package_pins(pins)?;
     let text = file.text()?;
-    let places = switched_places(alloc, design)?;
-    text_by_pins(alloc, design, name, &pins, text, &places)
+    let ports = port_pins(alloc, design)?;
+    text_by_pins(alloc, design, name, &pins, text, &ports)
 }
 
-// The module of a design with the names of a pin file, from the text of the file and the pins of its package. `places` has the places of
-// the design's pins that can be switched off (their output has an enable).
+// The module of a design with the names of a pin file, from the text of the file and the pins of its package. `ports` are the design's pins
+// with their ports.
 fn text_by_pins(
     alloc: Global,
     design: &Design,
     name: &[u8],
     pins: &PackagePins,
     text: &[u8],
-    places: &[PinPlace],
+    ports: &[PortPin],
 ) -> Result<Vec<u8>, Stop<'static>>
     requires name { IsName name.now }
-    requires places { places.now ≡ switched_places design.now.parts.pins.items }
+    requires ports { ports.now ≡ port_pins design.now.parts.pins.items }
     ensures bytes { IfOk result (λ bytes. (db : Database) (image : Configuration) → IsDesignOf db image design.now
         → written_named design.now.parts.lut_inputs name.now (kept_in pins.now) text.now db image ≡ Done bytes.items) }
     ensures stops { IfErr result (λ stop. (db : Database) (image : Configuration) → IsDesignOf db image design.now
         → StopsWith (written_named design.now.parts.lut_inputs name.now (kept_in pins.now) text.now db image) stop) }
 {
-    match pin_names(alloc, text, pins, places) {
+    match pin_names(alloc, text, pins, ports) {
         Ok(named) => Ok(named_text(alloc, design, name, &named)?),
         Err(fault) => Err(pin_stop(fault)),
     }
@@ -206,8 +206,6 @@ fn pin_cause_text(cause: PinFileCause) -> &'static str
         PinFileCause::Statement => ": Statement",
         PinFileCause::Package => ": Package",
         PinFileCause::Pin => ": Pin",
-        PinFileCause::Repeated => ": Repeated",
-        PinFileCause::Name => ": Name",
     }
 }
 

@@ -54,13 +54,15 @@ doesn't use, and 1'b0 is written in its place. The module has the same values
 as without.
 
 In a pin file a line `set_io NAME PIN` gives the port at PIN a name: NAME, with
-_ for each byte that is no letter, digit or _, and without _ at the end. Its
-second port, if it has one, is NAME_en. Lists of events then use these names.
+_ for each byte that is no letter, digit or _, and without _ at the end. p_
+comes before it if that is no name, or has the form of one of those above. Its
+second port, if it has one, has that name and _en. Lists of events then use
+these names. A line counts only if its pin has a port and no earlier line names
+the pin. If an earlier line gave one of its names, the port keeps io_X_Y_N.
 Options of set_io, lines with set_frequency, and # and all behind it are passed
 over. A pin file with a fault is refused, and told by its first faulty line:
 Statement, another statement; Package or Pin, the database has no such package,
-or the package no such pin; Repeated, the pin has a name; Name, the port can't
-have that name, since it is no name, is taken, or has the form of those above.
+or the package no such pin.
 
 Example: icebox_vlog -n blink chipdb-1k.txt blink.asc >blink.v
 

@@ -1,7 +1,6 @@
 -- The lines of a pin file, taken one after the other, and the first that is faulty.
-use Rattle.std.proofs.Common.{◌≡◌, ℕ, ◌+◌, ◌<◌, ◌≤◌, List, [], ◌++◌, length, take, drop, refl, sym, ap, ◌∙◌, arith, subst}
+use Rattle.std.proofs.Common.{◌≡◌, ℕ, suc, ◌+◌, ◌<◌, ◌≤◌, List, [], ◌++◌, length, take, drop, refl, sym, ap, ◌∙◌, arith, subst}
 use Rattle.std.specs.Prelude.{None}
-use Rattle.std.proofs.lemmas.List.{take_all}
 use Rattle.shared_lemmas.proofs.Cuts.{drop_end}
 use Rattle.shared_lemmas.proofs.Lists.{flat_map-more}
 use Rattle.text_lines.specs.Lines.{lines_of, line_at}
@@ -11,10 +10,12 @@ use Rattle.index_search.proofs.Found.{first_below-clear}
 use Rattle.pin_file.specs.declared.fault.PinFileFault.{PinFileFault}
 use Rattle.pin_file.specs.declared.fault.PinFileFault.TheVariants.{At, Memory}
 use Rattle.pin_file.specs.declared.pin_name.PinName.{PinName}
-use Rattle.pin_file.specs.declared.place.PinPlace.{PinPlace}
+use Rattle.pin_file.specs.declared.place.PortPin.{PortPin}
+use Rattle.pin_file.specs.declared.ports.Ports.{Ports}
 use Rattle.pin_file.specs.Lines.{line_of}
 use Rattle.pin_file.specs.Packages.{Package}
-use Rattle.pin_file.specs.Faults.{Tells, cause_of, fault_at, fault_with, pin_fault_of, port_in, ports_in, ports_of}
+use Rattle.pin_file.specs.Faults.{Tells, cause_of, fault_at, fault_with, name_by, names_before, pin_fault_of, place_by, places_in, ports_of}
+use Rattle.pin_file.specs.inside.Reading.{Grows, Holds}
 
 none-left : (left : List ℕ) (lines : List (List ℕ)) → left ≡ [] → lines_of left ≡ lines → lines ≡ []
 unfolding lines_of
@@ -26,60 +27,83 @@ cut-end lines k left none is within = drop_end lines k (none-left left (drop k l
 
 -- ---- a line more
 
-pub ports-nothing : (pins : Package) (lines : List (List ℕ)) (ports : List PinName) → ports ≡ [] → ports ≡ ports_in pins (take 0 lines)
-unfolding ports_in
-ports-nothing pins lines ports none = none
+-- what is kept after the first lines of a file, so many of them
+abbrev pub HoldsBefore : Package → List PortPin → List (List ℕ) → ℕ → Ports → Type 0
+HoldsBefore chosen pins lines n ports = Holds pins (places_in chosen (take n lines)) (names_before chosen pins lines n) ports
 
-pub ports-more : (pins : Package) (lines : List (List ℕ)) (k : ℕ) (line : List ℕ) (old new : List PinName) → k < length lines → line_at lines k ≡ line
-    → old ≡ ports_in pins (take k lines) → new ≡ old ++ port_in pins (line_of line) → new ≡ ports_in pins (take (k + 1) lines)
-unfolding ports_in
-ports-more pins lines k line old new within at read taken =
-    taken ∙ ap (λ list. list ++ port_in pins (line_of line)) read
-    ∙ ap (λ l. ports_in pins (take k lines) ++ port_in pins (line_of l)) (sym at)
-    ∙ sym (flat_map-more (λ l. port_in pins (line_of l)) lines k [] within)
+pub holds-nothing : (chosen : Package) (pins : List PortPin) (lines : List (List ℕ)) (ports : Ports) → Holds pins [] [] ports → HoldsBefore chosen pins lines 0 ports
+unfolding places_in names_before
+holds-nothing chosen pins lines ports holds = holds
 
--- the fault of a line, given the ports before it
-fault-is : (pins : Package) (enabled : List PinPlace) (lines : List (List ℕ)) (k : ℕ) (line : List ℕ) (ports : List PinName) → line_at lines k ≡ line → ports ≡ ports_in pins (take k lines)
-    → fault_at pins enabled lines k ≡ fault_with (k + 1) (cause_of pins enabled ports (line_of line))
-fault-is pins enabled lines k line ports at read =
-    ap (λ l. fault_with (k + 1) (cause_of pins enabled (ports_in pins (take k lines)) (line_of l))) at
-    ∙ ap (λ list. fault_with (k + 1) (cause_of pins enabled list (line_of line))) (sym read)
+pub places-more : (chosen : Package) (lines : List (List ℕ)) (k : ℕ) → k < length lines
+    → places_in chosen (take (k + 1) lines) ≡ places_in chosen (take k lines) ++ place_by chosen (line_of (line_at lines k))
+unfolding places_in
+places-more chosen lines k within = flat_map-more (λ line. place_by chosen (line_of line)) lines k [] within
+
+names-next : (chosen : Package) (pins : List PortPin) (lines : List (List ℕ)) (k : ℕ)
+    → names_before chosen pins lines (suc k)
+    ≡ names_before chosen pins lines k ++ name_by chosen pins (places_in chosen (take k lines)) (names_before chosen pins lines k) (line_of (line_at lines k))
+unfolding names_before
+names-next chosen pins lines k = refl
+
+pub names-more : (chosen : Package) (pins : List PortPin) (lines : List (List ℕ)) (k : ℕ)
+    → names_before chosen pins lines (k + 1)
+    ≡ names_before chosen pins lines k ++ name_by chosen pins (places_in chosen (take k lines)) (names_before chosen pins lines k) (line_of (line_at lines k))
+names-more chosen pins lines k = let next : k + 1 ≡ suc k = omega arith in ap (names_before chosen pins lines) next ∙ names-next chosen pins lines k
+
+pub holds-more : (chosen : Package) (pins : List PortPin) (lines : List (List ℕ)) (k : ℕ) (line : List ℕ) (old new : Ports) → k < length lines → line_at lines k ≡ line
+    → HoldsBefore chosen pins lines k old
+    → Grows old new (place_by chosen (line_of line)) (λ pins earlier named. name_by chosen pins earlier named (line_of line))
+    → HoldsBefore chosen pins lines (k + 1) new
+holds-more chosen pins lines k line old new within at holds grows =
+    let earlier = places_in chosen (take k lines) in
+    let named = names_before chosen pins lines k in
+    let places : earlier ++ place_by chosen (line_of line) ≡ places_in chosen (take (k + 1) lines)
+    = ap (λ l. earlier ++ place_by chosen (line_of l)) (sym at) ∙ sym (places-more chosen lines k within) in
+    let names : named ++ name_by chosen pins earlier named (line_of line) ≡ names_before chosen pins lines (k + 1)
+    = ap (λ l. named ++ name_by chosen pins earlier named (line_of l)) (sym at) ∙ sym (names-more chosen pins lines k) in
+    subst (λ list. Holds pins list (names_before chosen pins lines (k + 1)) new) places
+    (subst (λ list. Holds pins (earlier ++ place_by chosen (line_of line)) list new) names (grows pins earlier named holds))
+
+-- the fault of a line
+fault-is : (chosen : Package) (lines : List (List ℕ)) (k : ℕ) (line : List ℕ) → line_at lines k ≡ line → fault_at chosen lines k ≡ fault_with (k + 1) (cause_of chosen (line_of line))
+fault-is chosen lines k line at = ap (λ l. fault_with (k + 1) (cause_of chosen (line_of l))) at
 
 -- there is no fault yet
-pub fit-nothing : (pins : Package) (enabled : List PinPlace) (lines : List (List ℕ)) → first_below 0 (fault_at pins enabled lines) ≡ None
+pub fit-nothing : (chosen : Package) (lines : List (List ℕ)) → first_below 0 (fault_at chosen lines) ≡ None
 unfolding first_below
-fit-nothing pins enabled lines = refl
+fit-nothing chosen lines = refl
 
-pub fit-more : (pins : Package) (enabled : List PinPlace) (lines : List (List ℕ)) (k : ℕ) (line : List ℕ) (ports : List PinName) → line_at lines k ≡ line → ports ≡ ports_in pins (take k lines)
-    → cause_of pins enabled ports (line_of line) ≡ None → first_below k (fault_at pins enabled lines) ≡ None → first_below (k + 1) (fault_at pins enabled lines) ≡ None
-fit-more pins enabled lines k line ports at read fine fit =
-    first_below-more k (fault_at pins enabled lines)
-    ∙ ap (λ found. or_else found (fault_at pins enabled lines k)) fit
-    ∙ fault-is pins enabled lines k line ports at read
+pub fit-more : (chosen : Package) (lines : List (List ℕ)) (k : ℕ) (line : List ℕ) → line_at lines k ≡ line
+    → cause_of chosen (line_of line) ≡ None → first_below k (fault_at chosen lines) ≡ None → first_below (k + 1) (fault_at chosen lines) ≡ None
+fit-more chosen lines k line at fine fit =
+    first_below-more k (fault_at chosen lines)
+    ∙ ap (λ found. or_else found (fault_at chosen lines k)) fit
+    ∙ fault-is chosen lines k line at
     ∙ ap (fault_with (k + 1)) fine
 
 -- ---- the end
 
 -- a line that is refused is the first faulty one
-pub refused : (pins : Package) (enabled : List PinPlace) (text : List ℕ) (k : ℕ) (line : List ℕ) (ports : List PinName) (fault : PinFileFault) → k < length (lines_of text)
-    → line_at (lines_of text) k ≡ line → ports ≡ ports_in pins (take k (lines_of text)) → first_below k (fault_at pins enabled (lines_of text)) ≡ None
-    → Tells (fault_with (k + 1) (cause_of pins enabled ports (line_of line))) fault → Tells (pin_fault_of pins enabled text) fault
+pub refused : (chosen : Package) (text : List ℕ) (k : ℕ) (line : List ℕ) (fault : PinFileFault) → k < length (lines_of text)
+    → line_at (lines_of text) k ≡ line → first_below k (fault_at chosen (lines_of text)) ≡ None
+    → Tells (fault_with (k + 1) (cause_of chosen (line_of line))) fault → Tells (pin_fault_of chosen text) fault
 unfolding pin_fault_of
-refused pins enabled text k line ports (Memory e) within at read fit told = tt
-refused pins enabled text k line ports (At number cause) within at read fit told =
+refused chosen text k line (Memory e) within at fit told = tt
+refused chosen text k line (At number cause) within at fit told =
     let lines = lines_of text in
-    first_below-first (length lines) k (fault_at pins enabled lines) (At number cause) within
-    (λ j before. first_below-clear k j (fault_at pins enabled lines) fit before)
-    (fault-is pins enabled lines k line ports at read ∙ told)
+    first_below-first (length lines) k (fault_at chosen lines) (At number cause) within
+    (λ j before. first_below-clear k j (fault_at chosen lines) fit before)
+    (fault-is chosen lines k line at ∙ told)
 
 -- if all lines were taken there is none
-pub accepted : (pins : Package) (enabled : List PinPlace) (text : List ℕ) (k : ℕ) → k ≡ length (lines_of text) → first_below k (fault_at pins enabled (lines_of text)) ≡ None
-    → pin_fault_of pins enabled text ≡ None
+pub accepted : (chosen : Package) (text : List ℕ) (k : ℕ) → k ≡ length (lines_of text) → first_below k (fault_at chosen (lines_of text)) ≡ None
+    → pin_fault_of chosen text ≡ None
 unfolding pin_fault_of
-accepted pins enabled text k all fit = subst (λ n. first_below n (fault_at pins enabled (lines_of text)) ≡ None) all fit
+accepted chosen text k all fit = subst (λ n. first_below n (fault_at chosen (lines_of text)) ≡ None) all fit
 
--- and the ports are the ports of the text
-pub answered : (pins : Package) (text : List ℕ) (k : ℕ) (ports : List PinName) → k ≡ length (lines_of text) → ports ≡ ports_in pins (take k (lines_of text)) → ports ≡ ports_of pins text
+-- and the names are the names of the text
+pub answered : (chosen : Package) (pins : List PortPin) (text : List ℕ) (k : ℕ) (named : List PinName) → k ≡ length (lines_of text)
+    → named ≡ names_before chosen pins (lines_of text) k → named ≡ ports_of chosen pins text
 unfolding ports_of
-answered pins text k ports all read =
-    read ∙ ap (λ n. ports_in pins (take n (lines_of text))) all ∙ ap (ports_in pins) (take_all (length (lines_of text)) (lines_of text) (omega arith))
+answered chosen pins text k named all read = read ∙ ap (names_before chosen pins (lines_of text)) all

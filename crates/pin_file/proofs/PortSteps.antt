@@ -1,149 +1,148 @@
--- The ports that lines give, one more at a time.
-use Rattle.std.proofs.Common.{◌≡◌, ℕ, ◌+◌, Bool, true, false, not, ◌||◌, List, [], ◌∷◌, ◌++◌, length, length-append, append_assoc, refl, sym, ap, ◌∙◌, arith}
-use Rattle.std.specs.Prelude.{Some, None, bytes_eq, codes, if◌then◌else◌}
+-- What is kept of a pin file, one line more at a time.
+use Rattle.std.proofs.Common.{◌≡◌, ℕ, Bool, true, false, ◌||◌, List, [], ◌∷◌, ◌++◌, append-nil, refl, sym, ap, ◌∙◌, subst, map}
+use Rattle.std.specs.Prelude.{Some, Vec, bytes_eq, if◌then◌else◌}
+use Rattle.std.specs.Global.{Global}
 use Rattle.std.specs.List.{list_any}
-use Rattle.std.proofs.Math.Bool.{or-false}
-use Rattle.std.proofs.lemmas.Bool.{not-false, or_from, or_parts}
+use Rattle.std.specs.Map.{lookup}
 use Rattle.std.proofs.lemmas.List.{map-append}
-use Rattle.shared_lemmas.proofs.Bytes.{bytes_eq-apart}
+use Rattle.std.proofs.lemmas.List.Folds.{list_any-append}
 use Rattle.shared_lemmas.proofs.Lists.{flat_map-push}
 use Rattle.shared_lemmas.proofs.Searches.{list_any-push}
-use Rattle.vlog_module.specs.Names.{is_name}
-use Rattle.pin_file.specs.declared.fault.PinFileCause.TheVariants.{Repeated, Name}
 use Rattle.pin_file.specs.declared.pin_name.PinName.{PinName}
 use Rattle.pin_file.specs.declared.place.PinPlace.{PinPlace}
+use Rattle.pin_file.specs.declared.place.PortPin.{PortPin}
 use Rattle.pin_file.specs.declared.ports.Ports.{Ports}
-use Rattle.pin_file.specs.Faults.{is_misnamed, is_repeated, port_cause}
-use Rattle.pin_file.specs.PortNames.{all_names, enable_name, has_name, has_own_form, has_place, names_of, places_of, port_name}
-use Rattle.pin_file.specs.inside.Reading.{AreKept}
+use Rattle.pin_file.specs.Faults.{is_taken, name_at, named_if_free}
+use Rattle.pin_file.specs.PortNames.{all_names, has_name, has_place, is_place, names_by, names_with, pin_at, places_of, port_name}
+use Rattle.pin_file.specs.inside.Reading.{Grows, Holds, pin_kept}
+use Rattle.pin_file.proofs.PinSteps.{any-names}
 
 -- ---- lists of ports
 
-pub places_of-push : (ports : List PinName) (port : PinName) → places_of (ports ++ port ∷ []) ≡ places_of ports ++ port.place ∷ []
+pub places_of-push : (named : List PinName) (port : PinName) → places_of (named ++ port ∷ []) ≡ places_of named ++ port.place ∷ []
 unfolding places_of
-places_of-push ports port = map-append (λ (p : PinName). p.place) ports (port ∷ [])
+places_of-push named port = map-append (λ (p : PinName). p.place) named (port ∷ [])
 
-pub all_names-push : (enabled : List PinPlace) (ports : List PinName) (port : PinName) → all_names enabled (ports ++ port ∷ []) ≡ all_names enabled ports ++ names_of enabled port
+pub all_names-push : (pins : List PortPin) (named : List PinName) (port : PinName) → all_names pins (named ++ port ∷ []) ≡ all_names pins named ++ names_by port.name (pin_at pins port.place)
 unfolding all_names
-all_names-push enabled ports port = flat_map-push (names_of enabled) ports port
+all_names-push pins named port = flat_map-push (λ (p : PinName). names_by p.name (pin_at pins p.place)) named port
 
-pub AreKept-more : (enabled : List PinPlace) (old new : Ports) (port : PinName) (items : List PinName) (names : List (List ℕ)) → AreKept enabled old
-    → items ≡ old.list.items ++ port ∷ [] → new.list.items ≡ items → new.places ≡ old.places ++ port.place ∷ [] → names ≡ names_of enabled port → new.names ≡ old.names ++ names → AreKept enabled new
-AreKept-more enabled old new port items names kept pushed is placed are named = record {
-  places =
-      placed ∙ ap (λ list. list ++ port.place ∷ []) kept.places ∙ sym (places_of-push old.list.items port)
-      ∙ ap places_of (sym (is ∙ pushed));
-  names =
-      named ∙ ap (λ more. old.names ++ more) are ∙ ap (λ list. list ++ names_of enabled port) kept.names
-      ∙ sym (all_names-push enabled old.list.items port) ∙ ap (all_names enabled) (sym (is ∙ pushed));
+-- ---- nothing is named
+
+pub grows-nothing : (ports : Ports) → Grows ports ports [] (λ pins earlier named. [])
+grows-nothing ports = λ pins earlier named holds.
+    subst (λ list. Holds pins list (named ++ []) ports) (sym (append-nil earlier))
+    (subst (λ list. Holds pins earlier list ports) (sym (append-nil named)) holds)
+
+-- a pin with ports
+pub grows-pin : (old new : Ports) (place : PinPlace) (name : List ℕ) (pin : PortPin) → pin_kept old.pins place ≡ Some pin
+    → Grows old new [] (λ pins earlier named. named_if_free (all_names pins named) place name (Some pin))
+    → Grows old new [] (λ pins earlier named. named_if_free (all_names pins named) place name (pin_at pins place))
+grows-pin old new place name pin there grows = λ pins earlier named holds.
+    subst (λ found. Holds pins (earlier ++ []) (named ++ named_if_free (all_names pins named) place name found) new) (sym there ∙ holds.pins_are place)
+    (grows pins earlier named holds)
+
+-- ---- places
+
+-- what is the same after a place was added
+pub record AddsPlace (old : Ports) (place : PinPlace) (new : Ports) : Type 0 where
+  pub list : new.list.items ≡ old.list.items
+  pub places : (other : PinPlace) → has_place other new.places ≡ (has_place other old.places || is_place other place)
+  pub names : new.names ≡ old.names
+  pub pins : new.pins.pins.entries ≡ old.pins.pins.entries
+
+holds-place : (old new : Ports) (place : PinPlace) → AddsPlace old place new → (pins : List PortPin) (earlier : List PinPlace) (named : List PinName) → Holds pins earlier named old
+    → Holds pins (earlier ++ place ∷ []) named new
+holds-place old new place adds pins earlier named holds = record {
+  list = adds.list ∙ holds.list;
+  places = λ other.
+      adds.places other ∙ ap (λ b. b || is_place other place) (holds.places other) ∙ sym (list_any-push (is_place other) earlier place);
+  names = λ name. ap (λ names. has_name names name) adds.names ∙ holds.names name;
+  pins_are = λ other. ap (lookup (is_place other)) adds.pins ∙ holds.pins_are other;
 }
 
--- no ports
-pub AreKept-nothing : (enabled : List PinPlace) (ports : Ports) → ports.list.items ≡ [] → ports.places ≡ [] → ports.names ≡ [] → AreKept enabled ports
-unfolding places_of all_names
-AreKept-nothing enabled ports none nowhere unnamed = record {
-  places = nowhere ∙ ap places_of (sym none);
-  names = unnamed ∙ ap (all_names enabled) (sym none);
+pub if-true : {A : Type 0} (b : Bool) (x y : A) → b ≡ true → (if b then x else y) ≡ x
+if-true true x y is = refl
+if-true false x y is = absurd cc
+
+pub if-false : {A : Type 0} (b : Bool) (x y : A) → b ≡ false → (if b then x else y) ≡ y
+if-false true x y is = absurd cc
+if-false false x y is = refl
+
+-- a place that none does
+pub grows-new : (old mid new : Ports) (place : PinPlace) (name : List ℕ) → has_place place old.places ≡ false → AddsPlace old place mid
+    → Grows mid new [] (λ pins earlier named. named_if_free (all_names pins named) place (port_name name) (pin_at pins place))
+    → Grows old new (place ∷ []) (λ pins earlier named. name_at pins earlier named name place)
+grows-new old mid new place name free adds grows = λ pins earlier named holds.
+    let given : name_at pins earlier named name place ≡ named_if_free (all_names pins named) place (port_name name) (pin_at pins place)
+    = if-false (has_place place earlier) [] (named_if_free (all_names pins named) place (port_name name) (pin_at pins place)) (sym (holds.places place) ∙ free) in
+    let grown = grows pins (earlier ++ place ∷ []) named (holds-place old mid place adds pins earlier named holds) in
+    subst (λ list. Holds pins list (named ++ name_at pins earlier named name place) new) (append-nil (earlier ++ place ∷ []))
+    (subst (λ list. Holds pins ((earlier ++ place ∷ []) ++ []) (named ++ list) new) (sym given) grown)
+
+-- ---- names
+
+any-same : {A : Type 0} (one two : A → Bool) → ((x : A) → one x ≡ two x) → (xs : List A) → list_any one xs ≡ list_any two xs
+any-same one two same [] = refl
+any-same one two same (x ∷ xs) = ap (λ b. b || list_any one xs) (same x) ∙ ap (λ b. two x || b) (any-same one two same xs)
+
+-- whether one of the names of a pin's ports is given, as the code finds it
+taken-is : (ports : Ports) (pin : PortPin) (name : List ℕ) (names : List (Vec ℕ Global)) → map (λ n. n.items) names ≡ names_with name pin
+    → (pins : List PortPin) (earlier : List PinPlace) (named : List PinName) → Holds pins earlier named ports
+    → list_any (λ n. has_name ports.names n.items) names ≡ is_taken (all_names pins named) pin name
+taken-is ports pin name names are pins earlier named holds =
+    any-names (λ n. n.items) (has_name ports.names) names
+    ∙ ap (list_any (has_name ports.names)) are
+    ∙ any-same (has_name ports.names) (has_name (all_names pins named)) holds.names (names_with name pin)
+
+-- one of them is given
+pub grows-taken : (ports : Ports) (place : PinPlace) (pin : PortPin) (name : List ℕ) (names : List (Vec ℕ Global)) → map (λ n. n.items) names ≡ names_with name pin
+    → list_any (λ n. has_name ports.names n.items) names ≡ true
+    → Grows ports ports [] (λ pins earlier named. named_if_free (all_names pins named) place name (Some pin))
+grows-taken ports place pin name names are taken = λ pins earlier named holds.
+    let none : named_if_free (all_names pins named) place name (Some pin) ≡ []
+    = if-true (is_taken (all_names pins named) pin name) [] (record { place = place; name = name } ∷ []) (sym (taken-is ports pin name names are pins earlier named holds) ∙ taken) in
+    subst (λ list. Holds pins (earlier ++ []) (named ++ list) ports) (sym none) (grows-nothing ports pins earlier named holds)
+
+-- what is added with a name
+pub record AddsName (old : Ports) (port : PinName) (added : List (List ℕ)) (new : Ports) : Type 0 where
+  pub list : new.list.items ≡ old.list.items ++ port ∷ []
+  pub places : new.places ≡ old.places
+  pub names : (name : List ℕ) → has_name new.names name ≡ (has_name old.names name || has_name added name)
+  pub pins : new.pins.pins.entries ≡ old.pins.pins.entries
+
+-- none of them is
+pub grows-free : (old new : Ports) (place : PinPlace) (pin : PortPin) (name : List ℕ) (names : List (Vec ℕ Global)) → map (λ n. n.items) names ≡ names_with name pin
+    → list_any (λ n. has_name old.names n.items) names ≡ false → pin_kept old.pins place ≡ Some pin
+    → AddsName old (record { place = place; name = name }) (map (λ n. n.items) names) new
+    → Grows old new [] (λ pins earlier named. named_if_free (all_names pins named) place name (Some pin))
+grows-free old new place pin name names are free there adds = λ pins earlier named holds.
+    let port : PinName = record { place = place; name = name } in
+    let given : named_if_free (all_names pins named) place name (Some pin) ≡ port ∷ []
+    = if-false (is_taken (all_names pins named) pin name) [] (port ∷ []) (sym (taken-is old pin name names are pins earlier named holds) ∙ free) in
+    let grown : all_names pins (named ++ port ∷ []) ≡ all_names pins named ++ names_with name pin
+    = all_names-push pins named port ∙ ap (λ found. all_names pins named ++ names_by name found) (sym (holds.pins_are place) ∙ there) in
+    let holding : Holds pins earlier (named ++ port ∷ []) new
+    = record {
+      list = adds.list ∙ ap (λ list. list ++ port ∷ []) holds.list;
+      places = λ other. ap (has_place other) adds.places ∙ holds.places other;
+      names = λ other.
+          adds.names other ∙ ap (λ b. b || has_name (map (λ n. n.items) names) other) (holds.names other)
+          ∙ ap (λ list. has_name (all_names pins named) other || has_name list other) are
+          ∙ sym (ap (λ list. has_name list other) grown ∙ list_any-append (bytes_eq other) (all_names pins named) (names_with name pin));
+      pins_are = λ other. ap (lookup (is_place other)) adds.pins ∙ holds.pins_are other;
+    } in
+    subst (λ list. Holds pins list (named ++ named_if_free (all_names pins named) place name (Some pin)) new) (sym (append-nil earlier))
+    (subst (λ list. Holds pins earlier (named ++ list) new) (sym given) holding)
+
+-- ---- nothing is kept
+
+pub holds-new : (pins : List PortPin) (ports : Ports) → ports.list.items ≡ [] → ports.places ≡ [] → ports.names ≡ [] → ((place : PinPlace) → pin_kept ports.pins place ≡ pin_at pins place)
+    → Holds pins [] [] ports
+unfolding all_names
+holds-new pins ports none nowhere unnamed same = record {
+  list = none;
+  places = λ place. ap (has_place place) nowhere;
+  names = λ name. ap (λ names. has_name names name) unnamed;
+  pins_are = same;
 }
-
--- ---- causes
-
--- the port of a NAME at a place
-abbrev pub named_at : PinPlace → List ℕ → PinName
-named_at place name = record { place = place; name = port_name name }
-
-pub cause-repeated : (enabled : List PinPlace) (ports : Ports) (port : PinName) → AreKept enabled ports → has_place port.place ports.places ≡ true
-    → port_cause enabled ports.list.items port ≡ Some Repeated
-unfolding port_cause
-cause-repeated enabled ports port kept there =
-    let repeated : is_repeated ports.list.items port.place ≡ true = ap (has_place port.place) (sym kept.places) ∙ there in
-    rw repeated refl
-
-not_repeated : (enabled : List PinPlace) (ports : Ports) (port : PinName) → AreKept enabled ports → has_place port.place ports.places ≡ false
-    → is_repeated ports.list.items port.place ≡ false
-not_repeated enabled ports port kept free = ap (has_place port.place) (sym kept.places) ∙ free
-
-pub cause-misnamed : (enabled : List PinPlace) (ports : Ports) (port : PinName) → AreKept enabled ports → has_place port.place ports.places ≡ false
-    → is_misnamed enabled ports.list.items port ≡ true → port_cause enabled ports.list.items port ≡ Some Name
-unfolding port_cause
-cause-misnamed enabled ports port kept free misnamed = rw (not_repeated enabled ports port kept free, misnamed) refl
-
-pub cause-none : (enabled : List PinPlace) (ports : Ports) (port : PinName) → AreKept enabled ports → has_place port.place ports.places ≡ false
-    → is_misnamed enabled ports.list.items port ≡ false → port_cause enabled ports.list.items port ≡ None
-unfolding port_cause
-cause-none enabled ports port kept free named = rw (not_repeated enabled ports port kept free, named) refl
-
--- whether names can't be had, as the code finds it
-abbrev pub misnamed_by : List (List ℕ) → List ℕ → List (List ℕ) → Bool
-misnamed_by taken name rest = not (is_name name) || has_own_form name || list_any (has_name taken) (name ∷ rest)
-
-pub misnamed-is : (enabled : List PinPlace) (ports : Ports) (place : PinPlace) (name bytes : List ℕ) (rest : List (List ℕ)) → AreKept enabled ports → bytes ≡ port_name name
-    → rest ≡ (if has_place place enabled then enable_name bytes ∷ [] else [])
-    → misnamed_by ports.names bytes rest ≡ is_misnamed enabled ports.list.items (named_at place name)
-misnamed-is enabled ports place name bytes rest kept is second =
-    ap (misnamed_by ports.names bytes) second
-    ∙ ap (λ taken. misnamed_by taken bytes (if has_place place enabled then enable_name bytes ∷ [] else [])) kept.names
-    ∙ ap (λ (n : List ℕ). misnamed_by (all_names enabled ports.list.items) n (if has_place place enabled then enable_name n ∷ [] else [])) is
-
--- the same answer if the code finds the name twice
-pub misnamed-both : (enabled : List PinPlace) (ports : Ports) (place : PinPlace) (name one two : List ℕ) (rest : List (List ℕ)) → AreKept enabled ports → one ≡ port_name name → two ≡ one
-    → rest ≡ (if has_place place enabled then enable_name one ∷ [] else [])
-    → misnamed_by ports.names two rest ≡ is_misnamed enabled ports.list.items (named_at place name)
-misnamed-both enabled ports place name one two rest kept is same second =
-    ap (λ b. misnamed_by ports.names b rest) same ∙ misnamed-is enabled ports place name one rest kept is second
-
--- the names that a port has
-pub names-are : (enabled : List PinPlace) (place : PinPlace) (name bytes : List ℕ) (rest : List (List ℕ)) → bytes ≡ port_name name
-    → rest ≡ (if has_place place enabled then enable_name bytes ∷ [] else []) → bytes ∷ rest ≡ names_of enabled (named_at place name)
-names-are enabled place name bytes rest is second =
-    ap (λ more. bytes ∷ more) second ∙ ap (λ (n : List ℕ). n ∷ (if has_place place enabled then enable_name n ∷ [] else [])) is
-
-pub name-is : (taken : List (List ℕ)) (name : List ℕ) (rest : List (List ℕ)) → misnamed_by taken name rest ≡ false → is_name name ≡ true
-name-is taken name rest fine =
-    let parts = or_parts (not (is_name name) || has_own_form name) (list_any (has_name taken) (name ∷ rest)) fine in
-    not-false (is_name name) (or_parts (not (is_name name)) (has_own_form name) parts.0).0
-
-pub names-free : (taken : List (List ℕ)) (name : List ℕ) (rest : List (List ℕ)) → misnamed_by taken name rest ≡ false → list_any (has_name taken) (name ∷ rest) ≡ false
-names-free taken name rest fine = (or_parts (not (is_name name) || has_own_form name) (list_any (has_name taken) (name ∷ rest)) fine).1
-
--- the second name is another one
-pub longer-apart : (name : List ℕ) → bytes_eq (enable_name name) name ≡ false
-longer-apart name =
-    bytes_eq-apart (enable_name name) name (λ same.
-    let count : length (enable_name name) ≡ length name + 3 = length-append name (codes "_en") in
-    let equal : length (enable_name name) ≡ length name = ap (λ (n : List ℕ). length n) same in
-    omega arith)
-
-second-apart : (name : List ℕ) (b : Bool) → list_any (has_name (name ∷ [])) (if b then enable_name name ∷ [] else []) ≡ false
-second-apart name true = or_from (has_name (name ∷ []) (enable_name name)) false (or_from (bytes_eq (enable_name name) name) false (longer-apart name) refl) refl
-second-apart name false = refl
-
-pub seconds-apart : (name : List ℕ) (b : Bool) (rest : List (List ℕ)) → rest ≡ (if b then enable_name name ∷ [] else []) → list_any (has_name (name ∷ [])) rest ≡ false
-seconds-apart name b rest is = ap (list_any (has_name (name ∷ []))) is ∙ second-apart name b
-
--- ---- names that are added
-
-pub first-free : (taken : List (List ℕ)) (name : List ℕ) (rest : List (List ℕ)) → list_any (has_name taken) (name ∷ rest) ≡ false → has_name taken name ≡ false
-first-free taken name rest free = (or_parts (has_name taken name) (list_any (has_name taken) rest) free).0
-
-pub second-free : (taken now : List (List ℕ)) (name second : List ℕ) → list_any (has_name taken) (name ∷ second ∷ []) ≡ false → list_any (has_name (name ∷ [])) (second ∷ []) ≡ false
-    → now ≡ taken ++ name ∷ [] → has_name now second ≡ false
-second-free taken now name second free apart is =
-    let behind = (or_parts (has_name taken name) (list_any (has_name taken) (second ∷ [])) free).1 in
-    let old : has_name taken second ≡ false = (or_parts (has_name taken second) false behind).0 in
-    let here : has_name (name ∷ []) second ≡ false = (or_parts (has_name (name ∷ []) second) false apart).0 in
-    let other : bytes_eq second name ≡ false = (or_parts (bytes_eq second name) false here).0 in
-    ap (λ list. has_name list second) is ∙ list_any-push (bytes_eq second) taken name ∙ or_from (has_name taken second) (bytes_eq second name) old other
-
-pub both-pushed : (taken now after : List (List ℕ)) (name second : List ℕ) → now ≡ taken ++ name ∷ [] → after ≡ now ++ second ∷ [] → after ≡ taken ++ (name ∷ second ∷ [])
-both-pushed taken now after name second one two = two ∙ ap (λ list. list ++ second ∷ []) one ∙ append_assoc taken (name ∷ []) (second ∷ [])
-
--- whether one of two names is taken
-pub taken-first : (taken : List (List ℕ)) (name : List ℕ) (rest : List (List ℕ)) → has_name taken name ≡ true → true ≡ list_any (has_name taken) (name ∷ rest)
-taken-first taken name rest there = rw there refl
-
-pub taken-none : (taken : List (List ℕ)) (name : List ℕ) → has_name taken name ≡ false → false ≡ list_any (has_name taken) (name ∷ [])
-taken-none taken name free = rw free refl
-
-pub taken-second : (taken : List (List ℕ)) (name second : List ℕ) → has_name taken name ≡ false → has_name taken second ≡ list_any (has_name taken) (name ∷ second ∷ [])
-taken-second taken name second free = rw free (sym (or-false (has_name taken second)))

@@ -5,15 +5,17 @@ use Rattle.text_lines.specs.Lines.{lines_of}
 use Rattle.text_lines.specs.Words.{words_of, pieces_of, numbers_of, number_of}
 use Rattle.index_search.specs.Places.{any_below, first_below, last_below}
 use Rattle.vlog_module.specs.Names.{is_name, reserved_words}
+use Rattle.pin_file.specs.declared.pin_name.PinName.{PinName}
 use Rattle.pin_file.specs.declared.place.PinPlace.{PinPlace}
+use Rattle.pin_file.specs.declared.place.PortPin.{PortPin}
 use Rattle.pin_file.specs.declared.fault.PinFileCause.{PinFileCause}
-use Rattle.pin_file.specs.declared.fault.PinFileCause.TheVariants.{Statement, Package as NoPackage, Pin, Repeated, Name}
+use Rattle.pin_file.specs.declared.fault.PinFileCause.TheVariants.{Statement, Package as NoPackage, Pin}
 use Rattle.pin_file.specs.declared.fault.PinFileFault.{PinFileFault}
 use Rattle.pin_file.specs.declared.fault.PinFileFault.TheVariants.{At}
 use Rattle.pin_file.specs.Lines.{Passed, Port, Unknown, plain_line, words_in, behind_options, line_of}
-use Rattle.pin_file.specs.PortNames.{port_name, places_of, all_names, own_beginnings, has_own_form}
+use Rattle.pin_file.specs.PortNames.{plain_name, port_name, all_names, own_beginnings, has_own_form}
 use Rattle.pin_file.specs.Packages.{Package, begins_package, place_in_line, stands_below, package_of}
-use Rattle.pin_file.specs.Faults.{ports_in, ports_of, port_cause, pin_fault_of}
+use Rattle.pin_file.specs.Faults.{places_in, names_before, ports_of, pin_fault_of}
 
 -- ---- lines
 
@@ -48,16 +50,47 @@ other = refl
 -- ---- names
 
 indexed : port_name (codes "led[3]") ≡ codes "led_3"
-unfolding port_name
+unfolding port_name plain_name has_own_form own_beginnings is_name reserved_words
 indexed = refl
 
 nested : port_name (codes "top.bus[1][20]") ≡ codes "top_bus_1__20"
-unfolding port_name
+unfolding port_name plain_name has_own_form own_beginnings is_name reserved_words
 nested = refl
 
-nothing : port_name (codes "[_]") ≡ []
-unfolding port_name
+-- what comes out is no name
+nothing : port_name (codes "[]") ≡ codes "p_"
+unfolding port_name plain_name has_own_form own_beginnings is_name reserved_words
 nothing = refl
+
+digit : port_name (codes "1a") ≡ codes "p_1a"
+unfolding port_name plain_name has_own_form own_beginnings is_name reserved_words
+digit = refl
+
+reserved : port_name (codes "end") ≡ codes "p_end"
+unfolding port_name plain_name has_own_form own_beginnings is_name reserved_words
+reserved = refl
+
+-- or a name of the module itself
+wire : port_name (codes "n[0]") ≡ codes "p_n_0"
+unfolding port_name plain_name has_own_form own_beginnings is_name reserved_words
+wire = refl
+
+pll : port_name (codes "pll_0_A") ≡ codes "p_pll_0_A"
+unfolding port_name plain_name has_own_form own_beginnings is_name reserved_words
+pll = refl
+
+other_input : port_name (codes "pj_0_2_1") ≡ codes "p_pj_0_2_1"
+unfolding port_name plain_name has_own_form own_beginnings is_name reserved_words
+other_input = refl
+
+-- these are names already
+word : port_name (codes "n") ≡ codes "n"
+unfolding port_name plain_name has_own_form own_beginnings is_name reserved_words
+word = refl
+
+led : port_name (codes "io_led") ≡ codes "io_led"
+unfolding port_name plain_name has_own_form own_beginnings is_name reserved_words
+led = refl
 
 own_pin : has_own_form (codes "io_0_2_0_en") ≡ true
 unfolding has_own_form own_beginnings
@@ -122,41 +155,83 @@ no_pins = record { known = false; place_of = λ pin. None }
 fault : ℕ → PinFileCause → Option PinFileFault
 fault line cause = Some (At line cause)
 
+-- pins of a design that have a port: `A` has an output enable, and `B` has none
+ports : List PortPin
+ports = record { place = place_a; enable = true; outside = false } ∷ record { place = place_b; enable = false; outside = false } ∷ []
+
+-- `B` alone has a port
+port_b : List PortPin
+port_b = record { place = place_b; enable = false; outside = false } ∷ []
+
+-- `A` has an input beside its output
+ports_outside : List PortPin
+ports_outside = record { place = place_a; enable = false; outside = true } ∷ record { place = place_b; enable = false; outside = false } ∷ []
+
+at_a : List ℕ → List PinName
+at_a name = record { place = place_a; name = name } ∷ []
+
+at_b : List ℕ → List PinName
+at_b name = record { place = place_b; name = name } ∷ []
+
 -- two ports, with an empty line and a remark between
-accepted : ports_of two_pins (codes "set_io clk A\n\n# led\nset_io led[0] B\n") ≡ record { place = place_a; name = codes "clk" } ∷ record { place = place_b; name = codes "led_0" } ∷ []
-unfolding two_pins place_a place_b ports_of ports_in lines_of line_of plain_line words_of pieces_of behind_options port_name
-accepted = refl
+both : ports_of two_pins ports (codes "set_io clk A\n\n# led\nset_io led[0] B\n") ≡ at_a (codes "clk") ++ at_b (codes "led_0")
+unfolding two_pins place_a place_b ports port_b ports_outside at_a at_b ports_of names_before places_in all_names lines_of line_of plain_line words_of pieces_of behind_options port_name plain_name has_own_form own_beginnings is_name reserved_words
+both = refl
 
-accepted_whole : pin_fault_of two_pins [] (codes "set_io clk A\n\n# led\nset_io led[0] B\n") ≡ None
-unfolding two_pins place_a place_b pin_fault_of first_below ports_in port_cause lines_of line_of plain_line words_of pieces_of behind_options port_name places_of all_names has_own_form own_beginnings is_name reserved_words
-accepted_whole = refl
+-- a second line for a pin gives nothing
+second_line : ports_of two_pins ports (codes "set_io clk A\nset_io led A\n") ≡ at_a (codes "clk")
+unfolding two_pins place_a place_b ports port_b ports_outside at_a at_b ports_of names_before places_in all_names lines_of line_of plain_line words_of pieces_of behind_options port_name plain_name has_own_form own_beginnings is_name reserved_words
+second_line = refl
 
-statement_first : pin_fault_of no_pins [] (codes "set_io clk\nset_io clk A\n") ≡ fault 1 Statement
-unfolding no_pins fault pin_fault_of first_below ports_in port_cause lines_of line_of plain_line words_of pieces_of behind_options port_name places_of all_names has_own_form own_beginnings is_name reserved_words
-statement_first = refl
+-- a line for a pin without a port gives nothing, and its name is free for the other pin
+no_port : ports_of two_pins port_b (codes "set_io led A\nset_io led B\n") ≡ at_b (codes "led")
+unfolding two_pins place_a place_b ports port_b ports_outside at_a at_b ports_of names_before places_in all_names lines_of line_of plain_line words_of pieces_of behind_options port_name plain_name has_own_form own_beginnings is_name reserved_words
+no_port = refl
 
-no_package : pin_fault_of no_pins [] (codes "set_frequency clk 12\nset_io module A\n") ≡ fault 2 NoPackage
-unfolding no_pins fault pin_fault_of first_below ports_in port_cause lines_of line_of plain_line words_of pieces_of behind_options port_name places_of all_names has_own_form own_beginnings is_name reserved_words
-no_package = refl
-
-not_there : pin_fault_of two_pins [] (codes "set_io module C\n") ≡ fault 1 Pin
-unfolding two_pins fault pin_fault_of first_below ports_in port_cause lines_of line_of plain_line words_of pieces_of behind_options port_name places_of all_names has_own_form own_beginnings is_name reserved_words
-not_there = refl
-
--- the line has the causes `Repeated` and `Name`
-twice : pin_fault_of two_pins [] (codes "set_io clk A\nset_io clk A\n") ≡ fault 2 Repeated
-unfolding two_pins place_a place_b fault pin_fault_of first_below ports_in port_cause lines_of line_of plain_line words_of pieces_of behind_options port_name places_of all_names has_own_form own_beginnings is_name reserved_words
-twice = refl
-
-same_name : pin_fault_of two_pins [] (codes "set_io led[1] A\nset_io led.1 B\n") ≡ fault 2 Name
-unfolding two_pins place_a place_b fault pin_fault_of first_below ports_in port_cause lines_of line_of plain_line words_of pieces_of behind_options port_name places_of all_names has_own_form own_beginnings is_name reserved_words
+-- a name that an earlier line gave: the port keeps its own name
+same_name : ports_of two_pins ports (codes "set_io led[1] A\nset_io led.1 B\n") ≡ at_a (codes "led_1")
+unfolding two_pins place_a place_b ports port_b ports_outside at_a at_b ports_of names_before places_in all_names lines_of line_of plain_line words_of pieces_of behind_options port_name plain_name has_own_form own_beginnings is_name reserved_words
 same_name = refl
 
--- a name of the second port of a pin that can be switched off
-enable_taken : pin_fault_of two_pins (place_a ∷ []) (codes "set_io bus A\nset_io bus_en B\n") ≡ fault 2 Name
-unfolding two_pins place_a place_b fault pin_fault_of first_below ports_in port_cause lines_of line_of plain_line words_of pieces_of behind_options port_name places_of all_names has_own_form own_beginnings is_name reserved_words
+-- the second line for a pin gives nothing, even if the first line gave nothing
+first_counts_still : ports_of two_pins ports (codes "set_io led A\nset_io led B\nset_io clk B\n") ≡ at_a (codes "led")
+unfolding two_pins place_a place_b ports port_b ports_outside at_a at_b ports_of names_before places_in all_names lines_of line_of plain_line words_of pieces_of behind_options port_name plain_name has_own_form own_beginnings is_name reserved_words
+first_counts_still = refl
+
+-- the name of an output enable that an earlier line gave
+enable_given : ports_of two_pins ports (codes "set_io bus A\nset_io bus_en B\n") ≡ at_a (codes "bus")
+unfolding two_pins place_a place_b ports port_b ports_outside at_a at_b ports_of names_before places_in all_names lines_of line_of plain_line words_of pieces_of behind_options port_name plain_name has_own_form own_beginnings is_name reserved_words
+enable_given = refl
+
+-- an output enable whose name an earlier line gave
+enable_taken : ports_of two_pins ports (codes "set_io bus_en B\nset_io bus A\n") ≡ at_b (codes "bus_en")
+unfolding two_pins place_a place_b ports port_b ports_outside at_a at_b ports_of names_before places_in all_names lines_of line_of plain_line words_of pieces_of behind_options port_name plain_name has_own_form own_beginnings is_name reserved_words
 enable_taken = refl
 
-enable_free : pin_fault_of two_pins (place_b ∷ []) (codes "set_io bus A\nset_io bus_en B\n") ≡ None
-unfolding two_pins place_a place_b fault pin_fault_of first_below ports_in port_cause lines_of line_of plain_line words_of pieces_of behind_options port_name places_of all_names has_own_form own_beginnings is_name reserved_words
-enable_free = refl
+-- without an output enable the name is free
+no_enable : ports_of two_pins ports_outside (codes "set_io bus A\nset_io bus_en B\n") ≡ at_a (codes "bus") ++ at_b (codes "bus_en")
+unfolding two_pins place_a place_b ports port_b ports_outside at_a at_b ports_of names_before places_in all_names lines_of line_of plain_line words_of pieces_of behind_options port_name plain_name has_own_form own_beginnings is_name reserved_words
+no_enable = refl
+
+-- the same for an input beside an output
+input_taken : ports_of two_pins ports_outside (codes "set_io bus A\nset_io bus_in B\n") ≡ at_a (codes "bus")
+unfolding two_pins place_a place_b ports port_b ports_outside at_a at_b ports_of names_before places_in all_names lines_of line_of plain_line words_of pieces_of behind_options port_name plain_name has_own_form own_beginnings is_name reserved_words
+input_taken = refl
+
+-- ---- faults
+
+accepted : pin_fault_of two_pins (codes "set_io clk A\n\n# led\nset_io module A\n") ≡ None
+unfolding two_pins no_pins place_a place_b fault pin_fault_of first_below lines_of line_of plain_line words_of pieces_of behind_options
+accepted = refl
+
+statement_first : pin_fault_of no_pins (codes "set_io clk\nset_io clk A\n") ≡ fault 1 Statement
+unfolding two_pins no_pins place_a place_b fault pin_fault_of first_below lines_of line_of plain_line words_of pieces_of behind_options
+statement_first = refl
+
+no_package : pin_fault_of no_pins (codes "set_frequency clk 12\nset_io module A\n") ≡ fault 2 NoPackage
+unfolding two_pins no_pins place_a place_b fault pin_fault_of first_below lines_of line_of plain_line words_of pieces_of behind_options
+no_package = refl
+
+not_there : pin_fault_of two_pins (codes "set_io module A\nset_io module C\nset_io\n") ≡ fault 2 Pin
+unfolding two_pins no_pins place_a place_b fault pin_fault_of first_below lines_of line_of plain_line words_of pieces_of behind_options
+not_there = refl

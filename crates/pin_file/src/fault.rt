@@ -17,13 +17,6 @@ pub enum PinFileCause {
     /// The package doesn't have the pin.
     #[error("the package doesn't have the pin")]
     Pin,
-    /// An earlier line is for the same pin, or for one at the same place.
-    #[error("an earlier line names the pin")]
-    Repeated,
-    /// The port's name isn't a name of the Verilog subset, or has the form of the names that a module uses itself, or is the name of a port
-    /// of an earlier line. The same holds for the name of the second port of a pin that can be switched off.
-    #[error("the port can't have the name")]
-    Name,
 }
 
 /// Why a pin file is refused.

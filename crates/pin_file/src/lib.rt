@@ -1,6 +1,7 @@
 //! Pin files: texts that name the ports at the pins of a package (nextpnr's PCF files, as far as they place ports).
 //!
-//! [`PinReader`] takes the text of a chip database and keeps the pins of one package. With these, [`pin_names`] reads a pin file.
+//! [`PinReader`] takes the text of a chip database and keeps the pins of one package. With these and the pins of a design that have a port,
+//! [`pin_names`] reads a pin file.
 #![tactic(auto)]
 
 mod database;
@@ -14,6 +15,7 @@ mod pin_reader;
 mod place;
 mod place_set;
 mod port_name;
+mod port_pins;
 mod ports;
 mod reading;
 mod refusal;
@@ -22,5 +24,5 @@ pub use fault::{PinFileCause, PinFileFault};
 pub use package_pins::PackagePins;
 pub use pin_name::PinName;
 pub use pin_reader::PinReader;
-pub use place::PinPlace;
+pub use place::{PinPlace, PortPin};
 pub use reading::pin_names;

@@ -1,12 +1,13 @@
 // Sets of names.
-ghost use Rattle.std.specs.Prelude.{◌≡◌, ◌++◌, ◌∷◌, [], false, OnOk};
+ghost use Rattle.std.specs.Prelude.{◌≡◌, ◌||◌, ℕ, List, [], bytes_eq, map, OnOk};
+ghost use Rattle.std.specs.List.{list_any};
 ghost use Rattle.pin_file.specs.PortNames.{has_name};
 
 use indexmap::IndexSet;
 use std::alloc::{AllocError, Global};
 use std::marker::Model;
 
-/// Names in the order in which they were added, each once.
+/// Names, each once.
 #[derive(Drop)]
 pub(crate) struct NameSet {
     names: IndexSet<Vec<u8>>,
@@ -30,19 +31,35 @@ impl NameSet {
         }
     }
 
-    /// Adds a name that isn't in the set yet.
-    pub(crate) fn push(&mut self, name: Vec<u8>) -> Result<(), AllocError>
-        requires { has_name self.old name.items ≡ false }
-        ensures { OnOk result (self.new ≡ self.old ++ name.items ∷ []) }
+    /// Adds a name.
+    fn insert(&mut self, name: Vec<u8>) -> Result<(), AllocError>
+        ensures { OnOk result ((other : List ℕ) → has_name self.new other ≡ (has_name self.old other || bytes_eq other name.items)) }
     {
         self.names.insert(name)?;
         Ok(())
     }
 
+    /// Adds names.
+    pub(crate) fn insert_all(&mut self, names: Vec<Vec<u8>>) -> Result<(), AllocError>
+        ensures { OnOk result ((other : List ℕ) → has_name self.new other ≡ (has_name self.old other || has_name (map (λ name. name.items) names.items) other)) }
+    {
+        for name in names {
+            self.insert(name)?;
+        }
+        Ok(())
+    }
+
     /// Whether a name is in the set.
-    pub(crate) fn contains(&self, name: &[u8]) -> bool
+    fn contains(&self, name: &[u8]) -> bool
         ensures { result ≡ has_name self.now name.now }
     {
         self.names.contains(name)
+    }
+
+    /// Whether one of the names is in the set.
+    pub(crate) fn has_any(&self, names: &[Vec<u8>]) -> bool
+        ensures { result ≡ list_any (λ name. has_name self.now name.items) names.now }
+    {
+        names.iter().any(|name| self.contains(name))
     }
 }

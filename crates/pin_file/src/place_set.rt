@@ -1,13 +1,14 @@
 // Sets of places.
-ghost use Rattle.std.specs.Prelude.{◌≡◌, ◌++◌, ◌∷◌, [], false, OnOk};
-ghost use Rattle.pin_file.specs.PortNames.{has_place};
+ghost use Rattle.std.specs.Prelude.{◌≡◌, ◌||◌, [], not, IfOk, OnOk};
+ghost use Rattle.pin_file.specs.PortNames.{has_place, is_place};
+ghost use Rattle.pin_file.specs.declared.place.PinPlace.{PinPlace as Place};
 
 use crate::place::PinPlace;
 use indexmap::IndexSet;
 use std::alloc::{AllocError, Global};
 use std::marker::Model;
 
-/// Places in the order in which they were added, each once.
+/// Places, each once.
 #[derive(Drop)]
 pub(crate) struct PlaceSet {
     places: IndexSet<PinPlace>,
@@ -32,19 +33,12 @@ impl PlaceSet {
         }
     }
 
-    /// Adds a place that isn't in the set yet.
-    pub(crate) fn push(&mut self, place: PinPlace) -> Result<(), AllocError>
-        requires { has_place place self.old ≡ false }
-        ensures { OnOk result (self.new ≡ self.old ++ place ∷ []) }
+    /// Adds a place. The result says whether it wasn't in the set yet.
+    pub(crate) fn insert(&mut self, place: PinPlace) -> Result<bool, AllocError>
+        ensures added { IfOk result (λ added. added ≡ not (has_place place self.old)) }
+        ensures places { OnOk result ((other : Place) → has_place other self.new ≡ (has_place other self.old || is_place other place)) }
     {
-        self.places.insert(place)?;
-        Ok(())
-    }
-
-    /// Whether a place is in the set.
-    pub(crate) fn contains(&self, place: PinPlace) -> bool
-        ensures { result ≡ has_place place self.now }
-    {
-        self.places.contains(&place)
+        let added = self.places.insert(place)?;
+        Ok(added)
     }
 }

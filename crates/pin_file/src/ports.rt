@@ -1,42 +1,47 @@
-// The ports that the lines of a pin file have given.
-ghost use Rattle.std.specs.Prelude.{◌≡◌, ◌++◌, ◌∷◌, [], ◌||◌, not, false, None, Ok, List, IfErr, OnOk};
+// The ports that the lines of a pin file have named.
+ghost use Rattle.std.specs.Prelude.{◌≡◌, ◌++◌, ◌∷◌, [], None, List, IfErr, OnOk};
 ghost use Rattle.pin_file.specs.declared.place.PinPlace.{PinPlace as Place};
+ghost use Rattle.pin_file.specs.declared.place.PortPin.{PortPin as PinWithPort};
 
 use crate::fault::PinFileCause;
 use crate::line::{LineKind, line_kind, plain_line};
 use crate::name_set::NameSet;
 use crate::package_pins::PackagePins;
 use crate::pin_name::PinName;
-use crate::place::PinPlace;
+use crate::place::{PinPlace, PortPin};
 use crate::place_set::PlaceSet;
-use crate::port_name::{enable_name, has_own_form, port_name};
+use crate::port_name::{names_with, port_name};
+use crate::port_pins::PortPins;
 use crate::refusal::PinLineRefusal;
 use std::alloc::{AllocError, Global};
-use vlog_module::{Name, is_name};
+use vlog_module::Name;
 
-/// The ports that the lines so far have given. Their places and all of their names are kept for searches.
+/// The ports that the lines so far have named. The places that the lines name and all names of ports are kept for searches.
 #[derive(Drop)]
 pub(crate) struct Ports {
     list: Vec<PinName>,
     places: PlaceSet,
     names: NameSet,
+    pins: PortPins,
     alloc: Global,
 }
 
 impl Ports {
-    ghost use Rattle.pin_file.specs.Faults.{cause_of, pin_cause, port_at, port_in};
+    ghost use Rattle.pin_file.specs.Faults.{cause_in, cause_of, name_at, name_by, name_if, named_if_free, place_by, place_in, place_or_none};
+    ghost use Rattle.pin_file.specs.Feeding.{kept_in};
     ghost use Rattle.pin_file.specs.Lines.{line_of};
-    ghost use Rattle.pin_file.specs.inside.Reading.{AreKept, RefusesFor, said_by};
+    ghost use Rattle.pin_file.specs.PortNames.{all_names, pin_at, port_name};
+    ghost use Rattle.pin_file.specs.inside.Reading.{Grows, Holds, RefusesFor, pin_kept, said_by};
 
-    /// A list without ports. It takes no memory yet.
-    pub(crate) fn new(alloc: Global) -> Ports
-        ensures kept { (enabled : List Place) → AreKept enabled result }
-        ensures empty { result.list.items ≡ [] }
+    /// No port is named yet. `pins` are the pins that have ports.
+    pub(crate) fn new(alloc: Global, pins: PortPins) -> Ports
+        ensures { (given : List PinWithPort) → ((place : Place) → pin_kept pins place ≡ pin_at given place) → Holds given [] [] result }
     {
         Ports {
             list: Vec::new(alloc),
             places: PlaceSet::new(alloc),
             names: NameSet::new(alloc),
+            pins,
             alloc,
         }
     }
@@ -50,184 +55,102 @@ impl Ports {
     }
 
     /// Takes the next line.
-    pub(crate) fn accept(
-        &mut self,
-        pins: &PackagePins,
-        enabled: &[PinPlace],
-        line: &[u8],
-    ) -> Result<(), PinLineRefusal>
-        requires { AreKept enabled.now self.old }
-        ensures kept { OnOk result (AreKept enabled.now self.new) }
-        ensures taken { OnOk result (self.new.list.items ≡ self.old.list.items ++ port_in (kept_in pins.now) (line_of line.now)) }
-        ensures fits { OnOk result (cause_of (kept_in pins.now) enabled.now self.old.list.items (line_of line.now) ≡ None) }
-        ensures refused { IfErr result (RefusesFor (cause_of (kept_in pins.now) enabled.now self.old.list.items (line_of line.now))) }
+    pub(crate) fn accept(&mut self, chosen: &PackagePins, line: &[u8]) -> Result<(), PinLineRefusal>
+        ensures taken { OnOk result (Grows self.old self.new (place_by (kept_in chosen.now) (line_of line.now))
+            (λ pins earlier named. name_by (kept_in chosen.now) pins earlier named (line_of line.now))) }
+        ensures fits { OnOk result (cause_of (kept_in chosen.now) (line_of line.now) ≡ None) }
+        ensures refused { IfErr result (RefusesFor (cause_of (kept_in chosen.now) (line_of line.now))) }
     {
         let plain = plain_line(self.alloc, line)?;
-        self.accept_kind(pins, enabled, line_kind(&plain))
+        self.accept_kind(chosen, line_kind(&plain))
     }
 
     /// Takes a line of that kind.
     fn accept_kind(
         &mut self,
-        pins: &PackagePins,
-        enabled: &[PinPlace],
+        chosen: &PackagePins,
         kind: LineKind<'_>,
     ) -> Result<(), PinLineRefusal>
-        requires { AreKept enabled.now self.old }
-        ensures kept { OnOk result (AreKept enabled.now self.new) }
-        ensures taken { OnOk result (self.new.list.items ≡ self.old.list.items ++ port_in (kept_in pins.now) (said_by kind.entry)) }
-        ensures fits { OnOk result (cause_of (kept_in pins.now) enabled.now self.old.list.items (said_by kind.entry) ≡ None) }
-        ensures refused { IfErr result (RefusesFor (cause_of (kept_in pins.now) enabled.now self.old.list.items (said_by kind.entry))) }
+        ensures taken { OnOk result (Grows self.old self.new (place_by (kept_in chosen.now) (said_by kind.entry))
+            (λ pins earlier named. name_by (kept_in chosen.now) pins earlier named (said_by kind.entry))) }
+        ensures fits { OnOk result (cause_of (kept_in chosen.now) (said_by kind.entry) ≡ None) }
+        ensures refused { IfErr result (RefusesFor (cause_of (kept_in chosen.now) (said_by kind.entry))) }
     {
         match kind {
             LineKind::Passed => Ok(()),
-            LineKind::Port { name, pin } => self.accept_port(pins, enabled, name, pin),
+            LineKind::Port { name, pin } => self.accept_port(chosen, name, pin),
             LineKind::Unknown => Err(PinLineRefusal::Cause(PinFileCause::Statement)),
         }
     }
 
-    /// Takes the port NAME at a pin.
+    /// Takes a line that gives NAME to a pin.
     fn accept_port(
         &mut self,
-        pins: &PackagePins,
-        enabled: &[PinPlace],
+        chosen: &PackagePins,
         name: &[u8],
         pin: &[u8],
     ) -> Result<(), PinLineRefusal>
-        requires { AreKept enabled.now self.old }
-        ensures kept { OnOk result (AreKept enabled.now self.new) }
-        ensures taken { OnOk result (self.new.list.items ≡ self.old.list.items ++ port_at name.now (place_in (kept_in pins.now) pin.now)) }
-        ensures fits { OnOk result (pin_cause enabled.now self.old.list.items name.now (place_in (kept_in pins.now) pin.now) ≡ None) }
-        ensures refused { IfErr result (RefusesFor (pin_cause enabled.now self.old.list.items name.now (place_in (kept_in pins.now) pin.now))) }
+        ensures taken { OnOk result (Grows self.old self.new (place_or_none (place_in (kept_in chosen.now) pin.now))
+            (λ pins earlier named. name_if pins earlier named name.now (place_in (kept_in chosen.now) pin.now))) }
+        ensures fits { OnOk result (cause_in (place_in (kept_in chosen.now) pin.now) ≡ None) }
+        ensures refused { IfErr result (RefusesFor (cause_in (place_in (kept_in chosen.now) pin.now))) }
     {
-        match place_in(pins, pin) {
-            Ok(place) => self.accept_at(enabled, place, name),
+        match place_in(chosen, pin) {
+            Ok(place) => Ok(self.accept_at(place, name)?),
             Err(cause) => Err(PinLineRefusal::Cause(cause)),
         }
     }
 
-    /// Takes the port NAME at a place.
-    fn accept_at(
-        &mut self,
-        enabled: &[PinPlace],
-        place: PinPlace,
-        name: &[u8],
-    ) -> Result<(), PinLineRefusal>
-        requires { AreKept enabled.now self.old }
-        ensures kept { OnOk result (AreKept enabled.now self.new) }
-        ensures taken { OnOk result (self.new.list.items ≡ self.old.list.items ++ port_at name.now (Ok place)) }
-        ensures fits { OnOk result (pin_cause enabled.now self.old.list.items name.now (Ok place) ≡ None) }
-        ensures refused { IfErr result (RefusesFor (pin_cause enabled.now self.old.list.items name.now (Ok place))) }
+    /// Takes a line that gives NAME to the pin at a place.
+    fn accept_at(&mut self, place: PinPlace, name: &[u8]) -> Result<(), AllocError>
+        ensures { OnOk result (Grows self.old self.new (place ∷ []) (λ pins earlier named. name_at pins earlier named name.now place)) }
     {
-        let name = port_name(self.alloc, name)?;
-        if self.places.contains(place) {
-            return Err(PinLineRefusal::Cause(PinFileCause::Repeated));
-        }
-        let second = second_name(self.alloc, enabled, place, &name)?;
-        if self.is_misnamed(&name, &second) {
-            return Err(PinLineRefusal::Cause(PinFileCause::Name));
-        }
-        self.push(place, name, second)?;
-        Ok(())
-    }
-
-    /// Whether a port can't have these names.
-    fn is_misnamed(&self, name: &[u8], second: &Option<Vec<u8>>) -> bool
-        ensures { result ≡ (not (is_name name.now) || has_own_form name.now || list_any (has_name self.now.names) (name.now ∷ seconds second.now)) }
-    {
-        !is_name(name) || has_own_form(name) || self.is_taken(name, second)
-    }
-
-    /// Whether one of the names is a name of an earlier port.
-    fn is_taken(&self, name: &[u8], second: &Option<Vec<u8>>) -> bool
-        ensures { result ≡ list_any (has_name self.now.names) (name.now ∷ seconds second.now) }
-    {
-        if self.names.contains(name) {
-            return true;
-        }
-        match second {
-            None => false,
-            Some(second) => self.names.contains(second),
+        if self.places.insert(place)? {
+            self.name_at(place, name)
+        } else {
+            Ok(())
         }
     }
 
-    /// Adds the port at a place, and the names of the pin's ports.
-    fn push(
-        &mut self,
-        place: PinPlace,
-        name: Vec<u8>,
-        second: Option<Vec<u8>>,
-    ) -> Result<(), AllocError>
-        requires named { IsName name.items }
-        requires place { has_place place self.old.places ≡ false }
-        requires free { list_any (has_name self.old.names) (name.items ∷ seconds second) ≡ false }
-        requires apart { list_any (has_name (name.items ∷ [])) (seconds second) ≡ false }
-        ensures list { OnOk result (self.new.list.items ≡ self.old.list.items ++ record { place = place; name = name.items } ∷ []) }
-        ensures places { OnOk result (self.new.places ≡ self.old.places ++ place ∷ []) }
-        ensures names { OnOk result (self.new.names ≡ self.old.names ++ (name.items ∷ seconds second)) }
+    /// Gives NAME to the pin at a place that no earlier line names.
+    fn name_at(&mut self, place: PinPlace, name: &[u8]) -> Result<(), AllocError>
+        ensures { OnOk result (Grows self.old self.new [] (λ pins earlier named. named_if_free (all_names pins named) place (port_name name.now) (pin_at pins place))) }
     {
-        let port = Name::new(self.alloc, &name)?;
-        self.list.push(PinName { place, name: port })?;
-        self.places.push(place)?;
-        push_names(&mut self.names, name, second)
+        match self.pins.at(place) {
+            None => Ok(()),
+            Some(pin) => self.name_pin(place, pin, name),
+        }
+    }
+
+    /// Gives NAME to a pin with ports, if none of the names of its ports is given yet.
+    fn name_pin(&mut self, place: PinPlace, pin: PortPin, name: &[u8]) -> Result<(), AllocError>
+        requires { pin_kept self.old.pins place ≡ Some pin }
+        ensures { OnOk result (Grows self.old self.new [] (λ pins earlier named. named_if_free (all_names pins named) place (port_name name.now) (Some pin))) }
+    {
+        let port = port_name(self.alloc, name)?;
+        let names = names_with(self.alloc, &port, pin)?;
+        if self.names.has_any(&names) {
+            return Ok(());
+        }
+        let name = Name::new(self.alloc, &port)?;
+        self.list.push(PinName { place, name })?;
+        self.names.insert_all(names)
     }
 }
 
-ghost use Rattle.std.specs.Prelude.{if◌then◌else◌, IfOk};
-ghost use Rattle.std.specs.List.{list_any};
-ghost use Rattle.vlog_module.specs.Names.{is_name, IsName};
 ghost use Rattle.pin_file.specs.Faults.{place_in};
 ghost use Rattle.pin_file.specs.Feeding.{kept_in};
-ghost use Rattle.pin_file.specs.PortNames.{enable_name, has_name, has_own_form, has_place};
-ghost use Rattle.pin_file.specs.inside.Reading.{seconds};
 
 /// The place of a pin of the package, or why there is none.
-fn place_in(pins: &PackagePins, pin: &[u8]) -> Result<PinPlace, PinFileCause>
-    ensures { result ≡ place_in (kept_in pins.now) pin.now }
+fn place_in(chosen: &PackagePins, pin: &[u8]) -> Result<PinPlace, PinFileCause>
+    ensures { result ≡ place_in (kept_in chosen.now) pin.now }
 {
-    if pins.is_known() {
-        match pins.place_of(pin) {
+    if chosen.is_known() {
+        match chosen.place_of(pin) {
             Some(place) => Ok(place),
             None => Err(PinFileCause::Pin),
         }
     } else {
         Err(PinFileCause::Package)
-    }
-}
-
-/// The name of the second port of a pin, if it has one.
-fn second_name(
-    alloc: Global,
-    enabled: &[PinPlace],
-    place: PinPlace,
-    name: &[u8],
-) -> Result<Option<Vec<u8>>, AllocError>
-    ensures { IfOk result (λ second. seconds second ≡ (if has_place place enabled.now then enable_name name.now ∷ [] else [])) }
-{
-    if has_place(place, enabled) {
-        let second = enable_name(alloc, name)?;
-        Ok(Some(second))
-    } else {
-        Ok(None)
-    }
-}
-
-/// Whether a place is in a list.
-fn has_place(place: PinPlace, places: &[PinPlace]) -> bool
-    ensures { result ≡ has_place place places.now }
-{
-    places.iter().any(|other| place == *other)
-}
-
-/// Adds names that aren't in the set yet.
-fn push_names(names: &mut NameSet, name: Vec<u8>, second: Option<Vec<u8>>) -> Result<(), AllocError>
-    requires free { list_any (has_name names.old) (name.items ∷ seconds second) ≡ false }
-    requires apart { list_any (has_name (name.items ∷ [])) (seconds second) ≡ false }
-    ensures { OnOk result (names.new ≡ names.old ++ (name.items ∷ seconds second)) }
-{
-    names.push(name)?;
-    match second {
-        None => Ok(()),
-        Some(second) => names.push(second),
     }
 }

@@ -18,7 +18,7 @@ use Rattle.fabric_module.specs.Written.{port_of, enable_ports, pin_ports, module
 use Rattle.pin_file.specs.declared.pin_name.PinName.{PinName}
 use Rattle.pin_file.specs.PortNames.{has_own_form, all_names, AreSafe, enable_name as enable_name_behind}
 use Rattle.port_names.specs.Fresh.{old_names, new_names, declared_names, port_names, IsFresh, AreNames, OnlyPorts}
-use Rattle.port_names.specs.Named.{switched_places, given_name, renaming_by, pin_renaming, port_renaming}
+use Rattle.port_names.specs.Named.{port_pins, given_name, renaming_by, pin_renaming, port_renaming}
 use Rattle.port_names.proofs.Own.{IsOwn}
 use Rattle.port_names.proofs.DeclaredOwn.{ports-own, declared-own}
 use Rattle.port_names.proofs.Lists.{All-each, PartsDiffer, parts-apart, apart-before, Differ, apart-names, has_name-none}
@@ -89,20 +89,20 @@ module _ (fabric : Fabric) (order name : List ℕ) (whole : IsModule (module_of 
       (λ a b parts. All-head (PortsDiffer (port_of a)) (port_of b) (enable_ports b) (All-head (λ one. All (PortsDiffer one) (pin_ports b)) (port_of a) (enable_ports a) parts))
       fabric.pins pins-differ
 
-  module _ (named : List PinName) (safe : AreSafe (switched_places fabric.pins) named) where
+  module _ (named : List PinName) (safe : AreSafe (port_pins fabric.pins) named) where
     pub is-fresh : IsFresh (port_renaming named fabric.pins) (module_of fabric order name)
     is-fresh =
         let foreign_to : (names : List (List ℕ)) → All IsOwn names → All (λ q. IsTrue (not (has_name names q))) (new_names (port_renaming named fabric.pins)) =
-        λ names own. new-all fabric.pins named (λ q. IsTrue (not (has_name names q)))
-        (All-weaker (λ q. has_own_form q ≡ false) (λ q. IsTrue (not (has_name names q))) (none-own names own) (all_names (switched_places fabric.pins) named) safe.foreign) in
+        λ names own. new-all fabric.pins named names-differ (λ q. IsTrue (not (has_name names q)))
+        (All-weaker (λ q. has_own_form q ≡ false) (λ q. IsTrue (not (has_name names q))) (none-own names own) (all_names (port_pins fabric.pins) named) safe.foreign) in
         record {
-          apart = new-apart fabric.pins named safe names-differ;
+          apart = new-apart fabric.pins named names-differ safe;
           undeclared = foreign_to (declared_names (module_of fabric order name)) (declared-own fabric order name);
           unlisted = foreign_to (old_names (port_renaming named fabric.pins)) (old-all named fabric.pins IsOwn (ports-own fabric.pins));
         }
 
     pub are-names : AreNames (port_renaming named fabric.pins)
-    are-names = record { old = old-all named fabric.pins IsName ports-named; «new» = new-all fabric.pins named IsName safe.named }
+    are-names = record { old = old-all named fabric.pins IsName ports-named; «new» = new-all fabric.pins named names-differ IsName safe.are_names }
 
     pub only-ports : OnlyPorts (port_renaming named fabric.pins) (module_of fabric order name)
     unfolding module_of

@@ -27,7 +27,7 @@ use Rattle.port_names.specs.Renamed.{entry_renamed, new_name, renamed_port}
 use Rattle.port_names.specs.Fresh.{IsFresh}
 use Rattle.port_names.specs.Law.{SameState, RunsRenamed}
 use Rattle.port_names.proofs.Laws.{renaming-keeps-runs}
-use Rattle.port_names.specs.Named.{AreAccepted, named_ports, switched_places, port_renaming, named_module}
+use Rattle.port_names.specs.Named.{AreAccepted, named_ports, port_pins, port_renaming, named_module}
 use Rattle.port_names.specs.Matching.{MatchesNamed}
 use Rattle.port_names.specs.NamedLaw.{NamedIsFabric, RunsNamed}
 use Rattle.port_names.proofs.Lists.{PartsDiffer}
@@ -40,9 +40,9 @@ module _ (inputs : LutInputs) (db : Database) (image : Configuration) (order nam
   unfolding fabric_with
   same-pins = refl
 
-  module _ (safe : AreSafe (switched_places (fabric_of db image).pins) named) where
-    safe-pins : AreSafe (switched_places (fabric_with inputs db image).pins) named
-    safe-pins = subst (λ pins. AreSafe (switched_places pins) named) (sym same-pins) safe
+  module _ (safe : AreSafe (port_pins (fabric_of db image).pins) named) where
+    safe-pins : AreSafe (port_pins (fabric_with inputs db image).pins) named
+    safe-pins = subst (λ pins. AreSafe (port_pins pins) named) (sym same-pins) safe
 
     -- the renaming is fresh for the module
     fresh : IsFresh (port_renaming named (fabric_with inputs db image).pins) (module_of (fabric_with inputs db image) order name)
@@ -90,9 +90,9 @@ module _ (inputs : LutInputs) (db : Database) (image : Configuration) (order nam
       }
 
 -- the names of a pin file without a fault are safe
-accepted-safe : (pins : List Pin) (named : List PinName) → AreAccepted pins named → AreSafe (switched_places pins) named
+accepted-safe : (pins : List Pin) (named : List PinName) → AreAccepted pins named → AreSafe (port_pins pins) named
 accepted-safe pins named accepted =
-    subst (AreSafe (switched_places pins)) (sym accepted.are) (safe-ports accepted.chosen (switched_places pins) accepted.text accepted.faultless)
+    subst (AreSafe (port_pins pins)) (sym accepted.are) (safe-ports accepted.chosen (port_pins pins) accepted.text)
 
 -- they can be given to the ports of the module
 pub names-fresh : (named : List PinName) (inputs : LutInputs) (db : Database) (image : Configuration) → IsFit db → db.chip.nets ≤ 2 ^ 64 → design_fault inputs db image ≡ None

@@ -1,8 +1,8 @@
 -- The names that ports of a pin file give to the ports of pins.
-use Rattle.std.proofs.Common.{◌≡◌, ℕ, zero, suc, ◌⊎◌, Bool, true, false, List, [], ◌∷◌, ◌++◌, length, get_or, refl, sym, ap, ◌∙◌, subst, arith, inl, inr, length-append, eq-eqb, eqb-true}
-use Rattle.std.specs.Prelude.{All, Contains, Option, Some, None, flat_map, bytes_eq, codes, ◌&&◌, ◌==◌, if◌then◌else◌}
+use Rattle.std.proofs.Common.{◌≡◌, ℕ, zero, suc, ◌⊎◌, Bool, true, false, List, [], ◌∷◌, ◌++◌, length, get_or, refl, sym, ap, ◌∙◌, subst, arith, inl, inr, length-append}
+use Rattle.std.specs.Prelude.{All, Contains, Option, Some, None, flat_map, bytes_eq, codes, if◌then◌else◌}
 use Rattle.std.specs.List.{IsDistinct}
-use Rattle.std.proofs.lemmas.Bool.{cases_Bool, and_from, and_parts, or_right}
+use Rattle.std.proofs.lemmas.Bool.{cases_Bool}
 use Rattle.std.proofs.lemmas.List.Elements.{All-nil, All-cons, All-head, All-tail, All-map, All-contains, All-contains_itself, All-weaker}
 use Rattle.shared_lemmas.proofs.Bytes.{bytes_eq-same, bytes_eq-apart, apart_turned}
 use Rattle.fabric_model.specs.declared.pin.Pin.{Pin}
@@ -12,44 +12,36 @@ use Rattle.fabric_model.proofs.Within.{All-flat_map, All-single, All-if}
 use Rattle.fabric_module.specs.Names.{three_numbers, port_name, enable_name}
 use Rattle.pin_file.specs.declared.place.PinPlace.{PinPlace}
 use Rattle.pin_file.specs.declared.pin_name.PinName.{PinName}
-use Rattle.pin_file.specs.PortNames.{is_place, has_place, names_of, all_names, AreSafe, enable_name as enable_name_behind}
+use Rattle.pin_file.specs.PortNames.{is_place, pin_at, names_by, names_with, all_names, AreSafe, enable_name as enable_name_behind}
+use Rattle.pin_file.proofs.PinSteps.{place-itself, place-same}
 use Rattle.port_names.specs.Fresh.{new_names}
-use Rattle.port_names.specs.Named.{place_of, switched_places, given_name, renaming_by, pin_renaming, port_renaming}
+use Rattle.port_names.specs.Named.{place_of, port_pin, port_pins, given_name, renaming_by, pin_renaming, port_renaming}
 use Rattle.port_names.proofs.Lists.{All-each, PartsDiffer, parts-apart, two-apart, Differ, apart-names, distinct-names}
 
 -- ---- places
-
-place-same : (one two : PinPlace) → is_place one two ≡ true → one ≡ two
-place-same one two same =
-    let parts = and_parts (one.x == two.x) ((one.y == two.y) && (one.pio == two.pio)) same in
-    let last = and_parts (one.y == two.y) (one.pio == two.pio) parts.1 in
-    let x : one.x ≡ two.x = eqb-true one.x two.x parts.0 in
-    let y : one.y ≡ two.y = eqb-true one.y two.y last.0 in
-    let pio : one.pio ≡ two.pio = eqb-true one.pio two.pio last.1 in
-    λ i. record { x = x i; y = y i; pio = pio i }
-
-place-itself : (place : PinPlace) → is_place place place ≡ true
-place-itself place =
-    and_from _ _ (eq-eqb place.x place.x refl) (and_from _ _ (eq-eqb place.y place.y refl) (eq-eqb place.pio place.pio refl))
 
 -- pins at one place have one name
 name-by-place : (a b : Pin) → place_of a ≡ place_of b → port_name a ≡ port_name b
 unfolding port_name
 name-by-place a b same = ap (λ (place : PinPlace). codes "io_" ++ three_numbers place.x place.y place.pio) same
 
--- a pin that can be switched off is at one of the places of those pins
-switched-there : (pins : List Pin) (pin : Pin) → Contains pins pin → is_tri_state pin ≡ true → (place : PinPlace) → is_place place (place_of pin) ≡ true
-    → has_place place (switched_places pins) ≡ true
-switched-there [] pin (k, within, here) switched place same = absurd (omega (arith, within))
-switched-there (first ∷ pins) pin (zero, within, here) switched place same =
-    let first_switched : is_tri_state first ≡ true = subst (λ p. is_tri_state p ≡ true) (sym here) switched in
-    let first_same : is_place place (place_of first) ≡ true = subst (λ p. is_place place (place_of p) ≡ true) (sym here) same in
-    rw first_switched (rw first_same refl)
-switched-there (first ∷ pins) pin (suc k, within, here) switched place same =
-    let rest : has_place place (switched_places pins) ≡ true = switched-there pins pin (k, omega (arith, within), here) switched place same in
-    elim (cases_Bool (is_tri_state first)) [
-      | inl there ↦ rw there (or_right _ _ rest)
-      | inr away ↦ rw away rest
+-- two pins with different names
+abbrev pub PinsDiffer : Pin → Pin → Type 0
+PinsDiffer a b = Differ (port_name a) (port_name b)
+
+-- if all pins have different names, each is found at its place
+pin-there : (pins : List Pin) → AreApart PinsDiffer pins → (pin : Pin) → Contains pins pin → pin_at (port_pins pins) (place_of pin) ≡ Some (port_pin pin)
+pin-there [] apart pin (k, within, here) = absurd (omega (arith, within))
+pin-there (first ∷ pins) apart pin (zero, within, here) =
+    let same : is_place (place_of pin) (place_of first) ≡ true = subst (λ p. is_place (place_of pin) (place_of p) ≡ true) (sym here) (place-itself (place_of pin)) in
+    rw same (ap (λ p. Some (port_pin p)) here)
+pin-there (first ∷ pins) apart pin (suc k, within, here) =
+    elim (cases_Bool (is_place (place_of pin) (place_of first))) [
+      | inl same ↦
+          let differ : Differ (port_name first) (port_name pin) = All-contains (PinsDiffer first) pins pin apart.0 (k, omega (arith, within), here) in
+          let never : true ≡ false
+          = sym (bytes_eq-same (port_name first) (port_name pin) (sym (name-by-place pin first (place-same (place_of pin) (place_of first) same)))) ∙ differ in absurd cc
+      | inr away ↦ rw away (pin-there pins apart.1 pin (k, omega (arith, within), here))
     ]
 
 -- ---- the name that a pin is given
@@ -92,63 +84,68 @@ apart-known P R (x ∷ xs) all apart =
 
 -- ---- the new names of all pins
 
-module _ (pins : List Pin) (named : List PinName) where
+-- the names that a pin file gives to the ports of a pin
+abbrev pub names_of : List Pin → PinName → List (List ℕ)
+names_of pins port = names_by port.name (pin_at (port_pins pins) port.place)
+
+module _ (pins : List Pin) (named : List PinName) (pins_apart : AreApart PinsDiffer pins) where
   -- what holds of the names of a port at a pin's place holds of the names that it gives
-  given-by : (pin : Pin) → Contains pins pin → (port : PinName) → port.place ≡ place_of pin → (Q : List ℕ → Type 0) → All Q (names_of (switched_places pins) port)
+  given-by : (pin : Pin) → Contains pins pin → (port : PinName) → port.place ≡ place_of pin → (Q : List ℕ → Type 0) → All Q (names_of pins port)
       → All (λ (entry : List ℕ × List ℕ). Q entry.1) (renaming_by pin (Some port.name))
   given-by pin there port at Q all =
-      let same : is_place port.place (place_of pin) ≡ true = subst (λ place. is_place port.place place ≡ true) at (place-itself port.place) in
+      let same : names_of pins port ≡ names_with port.name (port_pin pin)
+      = ap (λ place. names_by port.name (pin_at (port_pins pins) place)) at ∙ ap (names_by port.name) (pin-there pins pins_apart pin there) in
+      let each : All Q (names_with port.name (port_pin pin)) = subst (All Q) same all in
       All-cons (λ (entry : List ℕ × List ℕ). Q entry.1) (port_name pin, port.name) _
-      (All-head Q port.name (if has_place port.place (switched_places pins) then enable_name_behind port.name ∷ [] else []) all)
+      (All-head Q port.name ((if is_tri_state pin then enable_name_behind port.name ∷ [] else []) ++ []) each)
       (elim (cases_Bool (is_tri_state pin)) [
         | inl switched ↦
-            let on : has_place port.place (switched_places pins) ≡ true = switched-there pins pin there switched port.place same in
-            let second : All Q (if has_place port.place (switched_places pins) then enable_name_behind port.name ∷ [] else []) = All-tail Q port.name _ all in
-            let only : All Q (enable_name_behind port.name ∷ []) = subst (λ (b : Bool). All Q (if b then enable_name_behind port.name ∷ [] else [])) on second in
+            let second : All Q ((if is_tri_state pin then enable_name_behind port.name ∷ [] else []) ++ []) = All-tail Q port.name _ each in
+            let only : All Q (enable_name_behind port.name ∷ []) = subst (λ (b : Bool). All Q ((if b then enable_name_behind port.name ∷ [] else []) ++ [])) switched second in
             rw switched (All-single (λ (entry : List ℕ × List ℕ). Q entry.1) (enable_name pin, enable_name_behind port.name) (All-head Q (enable_name_behind port.name) [] only))
         | inr still ↦ rw still (All-nil (λ (entry : List ℕ × List ℕ). Q entry.1))
       ])
 
   -- what holds of all names of the pin file holds of those that a pin gets
-  new-pin : (Q : List ℕ → Type 0) → All Q (all_names (switched_places pins) named) → (pin : Pin) → Contains pins pin
+  new-pin : (Q : List ℕ → Type 0) → All Q (all_names (port_pins pins) named) → (pin : Pin) → Contains pins pin
       → All (λ (entry : List ℕ × List ℕ). Q entry.1) (pin_renaming named pin)
   unfolding all_names
   new-pin Q all pin there =
       elim (given-cases named pin) [
         | inl none ↦ subst (λ given. All (λ (entry : List ℕ × List ℕ). Q entry.1) (renaming_by pin given)) (sym none) (All-nil (λ (entry : List ℕ × List ℕ). Q entry.1))
         | inr found ↦
-            let each = All-contains (λ port. All Q (names_of (switched_places pins) port)) named found.0 (All-each Q (names_of (switched_places pins)) named all) found.1 in
+            let each = All-contains (λ port. All Q (names_of pins port)) named found.0 (All-each Q (names_of pins) named all) found.1 in
             subst (λ given. All (λ (entry : List ℕ × List ℕ). Q entry.1) (renaming_by pin given)) (sym found.3) (given-by pin there found.0 found.2 Q each)
       ]
 
   -- and so of all new names
-  pub new-all : (Q : List ℕ → Type 0) → All Q (all_names (switched_places pins) named) → All Q (new_names (port_renaming named pins))
+  pub new-all : (Q : List ℕ → Type 0) → All Q (all_names (port_pins pins) named) → All Q (new_names (port_renaming named pins))
   unfolding port_renaming
   new-all Q all =
       All-map Q (λ (entry : List ℕ × List ℕ). entry.1) (flat_map (pin_renaming named) pins)
       (All-flat_map (λ (entry : List ℕ × List ℕ). Q entry.1) (pin_renaming named) pins
       (All-weaker (Contains pins) (λ pin. All (λ (entry : List ℕ × List ℕ). Q entry.1) (pin_renaming named pin)) (new-pin Q all) pins (All-contains_itself pins)))
 
-  module _ (safe : AreSafe (switched_places pins) named) where
-    names-turned : (a b : PinName) → PartsDiffer Differ (names_of (switched_places pins)) a b → PartsDiffer Differ (names_of (switched_places pins)) b a
+  module _ (safe : AreSafe (port_pins pins) named) where
+    names-turned : (a b : PinName) → PartsDiffer Differ (names_of pins) a b → PartsDiffer Differ (names_of pins) b a
     names-turned a b apart = λ k d less j e low.
-        apart_turned (get_or (names_of (switched_places pins) a) j e) (get_or (names_of (switched_places pins) b) k d) (apart j e low k d less)
+        apart_turned (get_or (names_of pins a) j e) (get_or (names_of pins b) k d) (apart j e low k d less)
 
     -- the names of two ports at two places
-    ports-differ : (a b : PinName) → Contains named a → Contains named b → (a ≡ b → ⊥) → PartsDiffer Differ (names_of (switched_places pins)) a b
+    ports-differ : (a b : PinName) → Contains named a → Contains named b → (a ≡ b → ⊥) → PartsDiffer Differ (names_of pins) a b
     unfolding all_names
     ports-differ a b of_a of_b other =
-        two-apart (PartsDiffer Differ (names_of (switched_places pins))) names-turned named a b
-        (parts-apart Differ (names_of (switched_places pins)) named (apart-names (flat_map (names_of (switched_places pins)) named) safe.apart)) of_a of_b other
+        two-apart (PartsDiffer Differ (names_of pins)) names-turned named a b
+        (parts-apart Differ (names_of pins) named (apart-names (flat_map (names_of pins) named) safe.apart)) of_a of_b other
 
     -- those that they give to two pins
     given-across : (a b : Pin) → Contains pins a → Contains pins b → (port other : PinName) → port.place ≡ place_of a → other.place ≡ place_of b
-        → PartsDiffer Differ (names_of (switched_places pins)) port other
+        → PartsDiffer Differ (names_of pins) port other
         → All (λ (one : List ℕ × List ℕ). All (λ (two : List ℕ × List ℕ). Differ one.1 two.1) (renaming_by b (Some other.name))) (renaming_by a (Some port.name))
     given-across a b in_a in_b port other at_a at_b apart =
         given-by a in_a port at_a (λ m. All (λ (two : List ℕ × List ℕ). Differ m two.1) (renaming_by b (Some other.name)))
-        (All-weaker (λ m. All (Differ m) (names_of (switched_places pins) other)) (λ m. All (λ (two : List ℕ × List ℕ). Differ m two.1) (renaming_by b (Some other.name)))
-        (λ m all. given-by b in_b other at_b (Differ m) all) (names_of (switched_places pins) port) apart)
+        (All-weaker (λ m. All (Differ m) (names_of pins other)) (λ m. All (λ (two : List ℕ × List ℕ). Differ m two.1) (renaming_by b (Some other.name)))
+        (λ m all. given-by b in_b other at_b (Differ m) all) (names_of pins port) apart)
 
     pins-across : (a b : Pin) → Contains pins a × Contains pins b × Differ (port_name a) (port_name b)
         → All (λ (one : List ℕ × List ℕ). All (λ (two : List ℕ × List ℕ). Differ one.1 two.1) (pin_renaming named b)) (pin_renaming named a)
@@ -171,12 +168,12 @@ module _ (pins : List Pin) (named : List PinName) where
           ]
         ]
 
-    -- no two new names are the same, if no two pins have one name
-    pub new-apart : AreApart (λ (a b : Pin). Differ (port_name a) (port_name b)) pins → IsDistinct bytes_eq (new_names (port_renaming named pins))
+    -- no two new names are the same
+    pub new-apart : IsDistinct bytes_eq (new_names (port_renaming named pins))
     unfolding port_renaming
-    new-apart apart =
+    new-apart =
         distinct-names (new_names (flat_map (pin_renaming named) pins))
         (apart-map Differ (λ (entry : List ℕ × List ℕ). entry.1) (flat_map (pin_renaming named) pins)
         (apart-flat_map (λ (one two : List ℕ × List ℕ). Differ one.1 two.1) (λ a b. Contains pins a × Contains pins b × Differ (port_name a) (port_name b)) (pin_renaming named)
         pins-across (λ pin. given-inside pin (given_name named pin)) pins
-        (apart-known (Contains pins) (λ a b. Differ (port_name a) (port_name b)) pins (All-contains_itself pins) apart)))
+        (apart-known (Contains pins) (λ a b. Differ (port_name a) (port_name b)) pins (All-contains_itself pins) pins_apart)))

@@ -7,7 +7,7 @@ use Rattle.fabric_model.specs.declared.pin.PinKind.{PinKind}
 use Rattle.fabric_model.specs.declared.pin.PinKind.TheVariants.{Plain, TriState}
 use Rattle.fabric_module.specs.Names.{three_numbers, port_name, enable_name}
 use Rattle.pin_file.specs.declared.pin_name.PinName.{PinName}
-use Rattle.port_names.specs.Named.{switched_places, named_port, named_enable, port_renaming}
+use Rattle.port_names.specs.Named.{port_pins, named_port, named_enable, port_renaming}
 
 -- a pin of the io tile at (x, y) without nets
 pin_at : ℕ → ℕ → ℕ → PinKind → Bool → Pin
@@ -25,9 +25,13 @@ named =
     ∷ record { place = record { x = 6; y = 17; pio = 0 }; name = codes "led" }
     ∷ record { place = record { x = 0; y = 12; pio = 1 }; name = codes "clk" } ∷ []
 
-switched : switched_places pins ≡ record { x = 3; y = 0; pio = 0 } ∷ []
+-- each pin has a port, and the second one an output enable
+with_ports : port_pins pins
+    ≡ record { place = record { x = 0; y = 12; pio = 1 }; enable = false; outside = false }
+    ∷ record { place = record { x = 3; y = 0; pio = 0 }; enable = true; outside = false }
+    ∷ record { place = record { x = 13; y = 5; pio = 0 }; enable = false; outside = false } ∷ []
 unfolding pins pin_at
-switched = refl
+with_ports = refl
 
 exchanged : port_renaming named pins
     ≡ (codes "io_0_12_1", codes "clk") ∷ (codes "io_3_0_0", codes "data") ∷ (codes "io_3_0_0_en", codes "data_en") ∷ []

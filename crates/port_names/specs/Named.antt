@@ -1,5 +1,5 @@
 -- The names that a pin file gives to the ports of a module that is written for a fabric.
-use Rattle.std.specs.Prelude.{◌≡◌, ℕ, true, List, [], ◌∷◌, map, filter, find, flat_map, Option, Some, None, option_map, if◌then◌else◌}
+use Rattle.std.specs.Prelude.{◌≡◌, ℕ, true, false, List, [], ◌∷◌, map, find, flat_map, Option, Some, None, option_map, if◌then◌else◌}
 use Rattle.vlog_module.specs.declared.modules.Port.{Port}
 use Rattle.vlog_module.specs.Parts.{Parts}
 use Rattle.fabric_model.specs.declared.pin.Pin.{Pin}
@@ -9,6 +9,7 @@ use Rattle.fabric_model.specs.Outputs.{Output}
 use Rattle.fabric_module.specs.Names.{port_name, enable_name}
 use Rattle.fabric_module.specs.Written.{module_of}
 use Rattle.pin_file.specs.declared.place.PinPlace.{PinPlace}
+use Rattle.pin_file.specs.declared.place.PortPin.{PortPin}
 use Rattle.pin_file.specs.declared.pin_name.PinName.{PinName}
 use Rattle.pin_file.specs.PortNames.{is_place, enable_name as enable_name_behind}
 use Rattle.pin_file.specs.Packages.{Package}
@@ -20,16 +21,20 @@ use Rattle.port_names.specs.Renamed.{renamed}
 abbrev pub place_of : Pin → PinPlace
 place_of pin = record { x = pin.x; y = pin.y; pio = pin.n }
 
--- the places of the pins that have a second port, their output enable: the tri-state outputs
-abbrev pub switched_places : List Pin → List PinPlace
-switched_places pins = map place_of (filter is_tri_state pins)
+-- a pin of a design and its ports: a tri-state output has an output enable
+abbrev pub port_pin : Pin → PortPin
+port_pin pin = record { place = place_of pin; enable = is_tri_state pin; outside = false }
+
+-- the pins of a design and their ports; each pin has a port
+abbrev pub port_pins : List Pin → List PortPin
+port_pins pins = map port_pin pins
 
 -- The named ports come from a pin file that has no fault, for the package that was chosen and for these pins.
 pub record AreAccepted (pins : List Pin) (named : List PinName) : Type 0 where
   pub chosen : Package
   pub text : List ℕ
-  pub faultless : pin_fault_of chosen (switched_places pins) text ≡ None
-  pub are : named ≡ ports_of chosen text
+  pub faultless : pin_fault_of chosen text ≡ None
+  pub are : named ≡ ports_of chosen (port_pins pins) text
 
 -- ---- names
 

@@ -12,13 +12,13 @@
 mod law;
 mod named_law;
 mod naming;
-mod places;
+mod pins;
 mod ports;
 mod renamed;
 mod renaming;
 
 pub use law::renaming_keeps_runs;
 pub use named_law::named_module_is_fabric;
-pub use places::switched_places;
+pub use pins::port_pins;
 pub use ports::name_ports;
 pub use renamed::rename_ports;

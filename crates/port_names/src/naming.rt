@@ -3,7 +3,7 @@ ghost use Rattle.std.specs.Prelude.{◌≡◌, ◌++◌, find, option_map, IfOk,
 ghost use Rattle.pin_file.specs.PortNames.{is_place, enable_name as enable_name_behind};
 ghost use Rattle.port_names.specs.Named.{renaming_by, pin_renaming, port_renaming};
 
-use crate::places::{is_tri_state, place_of};
+use crate::pins::{is_tri_state, place_of};
 use fabric_model::Pin;
 use fabric_module::{enable_name, port_name};
 use pin_file::{PinName, PinPlace};

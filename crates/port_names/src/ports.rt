@@ -17,11 +17,11 @@ use std::alloc::{AllocError, Global};
 use vlog_module::Module;
 
 /// The module that is written for a design, with the names of a pin file for its ports. `written` is the module that `vlog_emit::emit`
-/// gives for the design. `named` are the names that `pin_file::pin_names` reads from a pin file, with the places that
-/// [`crate::switched_places`] gives for the same design.
+/// gives for the design. `named` are the names that `pin_file::pin_names` reads from a pin file, for the pins that [`crate::port_pins`]
+/// gives for the same design.
 ///
-/// The port of a pin gets the first name that the pin file has for the pin's place, and its second port that name with `_en` after it. All
-/// other names stay. The module runs as the fabric that the database and the image configure: at the start and after each event the two
+/// The port of a pin gets the name that the pin file gives to the pin, and its output enable that name with `_en` after it. All other names
+/// stay. The module runs as the fabric that the database and the image configure: at the start and after each event the two
 /// hold the same values.
 ///
 /// # Errors
@@ -31,9 +31,9 @@ use vlog_module::Module;
 /// ```ignore
 /// // `pins` are the pins of a package, from a `pin_file::PinReader`; `pcf` is the text of a pin file.
 /// let written = vlog_emit::emit(alloc, &design, b"chip")?;
-/// let places = named_ports::switched_places(alloc, &design)?;
-/// let named = pin_file::pin_names(alloc, pcf, &pins, &places)?;
-/// let module = named_ports::name_ports(alloc, &design, written, &named)?;
+/// let ports = port_names::port_pins(alloc, &design)?;
+/// let named = pin_file::pin_names(alloc, pcf, &pins, &ports)?;
+/// let module = port_names::name_ports(alloc, &design, written, &named)?;
 /// ```
 pub fn name_ports(
     alloc: Global,

@@ -1,6 +1,6 @@
 // The pins of a package, and the names that a pin file gives to ports.
 
-use pin_file::{PackagePins, PinName, PinPlace, PinReader, pin_names};
+use pin_file::{PackagePins, PinName, PinPlace, PinReader, PortPin, pin_names};
 use std::alloc::{AllocError, Global};
 
 /// The pins of a package, from a database that is fed in pieces.
@@ -60,25 +60,36 @@ fn lines_are_cut_in_pieces(rt: HostRuntime) {
 /// A package with three pins, `A`, `B` and `C`; `D` is at the place of `A`.
 const PINS: &[u8] = b".pins p\nA 0 2 1\nB 5 17 0\nC 6 0 1\nD 0 2 1\n";
 
-/// The place of `A`, whose pin has a second port, its output enable.
-const ENABLED: [PinPlace; 1] = [PinPlace { x: 0, y: 2, pio: 1 }];
+/// The place of `A`.
+const PLACE_A: PinPlace = PinPlace { x: 0, y: 2, pio: 1 };
 
+/// The place of `B`.
+const PLACE_B: PinPlace = PinPlace {
+    x: 5,
+    y: 17,
+    pio: 0,
+};
+
+/// A design's pins with a port: `A` has an output enable, and `B` an input beside its output.
+const PORT_PINS: [PortPin; 2] = [
+    PortPin {
+        place: PLACE_A,
+        enable: true,
+        outside: false,
+    },
+    PortPin {
+        place: PLACE_B,
+        enable: false,
+        outside: true,
+    },
+];
+
+/// The pin `C` has no port.
 const TEXT: &[u8] =
-    b"# the board\r\nset_io led[3] B\r\n\r\nset_io --warn-no-port top.clk+ A # 12 MHz\r\nset_frequency clk 12\r\nset_io -pullup yes _a[1][2] C";
+    b"# the board\r\nset_io led[3] B\r\n\r\nset_io -pullup yes top.clk+ C\r\nset_io --warn-no-port top.clk+ A # 12 MHz\r\nset_frequency clk 12\r\nset_io led D";
 
 /// The ports that this text names, in order.
-const PORTS: [(PinPlace, &str); 3] = [
-    (
-        PinPlace {
-            x: 5,
-            y: 17,
-            pio: 0,
-        },
-        "led_3",
-    ),
-    (PinPlace { x: 0, y: 2, pio: 1 }, "top_clk"),
-    (PinPlace { x: 6, y: 0, pio: 1 }, "_a_1__2"),
-];
+const PORTS: [(PinPlace, &str); 2] = [(PLACE_B, "led_3"), (PLACE_A, "top_clk")];
 
 fn is_port(port: &PinName, place: PinPlace, name: &str) -> bool {
     port.place == place && port.name.bytes() == name.as_bytes()
@@ -101,7 +112,7 @@ fn has_ports(alloc: Global, text: &[u8], expected: &[(PinPlace, &str)]) -> bool 
     let Ok(pins) = pins_of(alloc, "p", &[PINS]) else {
         return false;
     };
-    match pin_names(alloc, text, &pins, &ENABLED) {
+    match pin_names(alloc, text, &pins, &PORT_PINS) {
         Ok(ports) => are_ports(&ports, expected),
         Err(_) => false,
     }
@@ -110,4 +121,24 @@ fn has_ports(alloc: Global, text: &[u8], expected: &[(PinPlace, &str)]) -> bool 
 #[test]
 fn names_ports_in_the_order_of_lines(rt: HostRuntime) {
     assert!(rt; has_ports(rt.alloc(), TEXT, &PORTS));
+}
+
+/// Whether a file that names `A` and then `B` gives these names, or leaves the second port unnamed.
+fn gives(alloc: Global, text: &[u8], first: &str, second: Option<&str>) -> bool {
+    match second {
+        Some(second) => has_ports(alloc, text, &[(PLACE_A, first), (PLACE_B, second)]),
+        None => has_ports(alloc, text, &[(PLACE_A, first)]),
+    }
+}
+
+#[test]
+fn makes_names(rt: HostRuntime) {
+    assert!(rt; gives(rt.alloc(), b"set_io n[0] A\nset_io 1a B", "p_n_0", Some("p_1a")));
+    assert!(rt; gives(rt.alloc(), b"set_io [] A\nset_io end B", "p_", Some("p_end")));
+}
+
+#[test]
+fn gives_a_name_once(rt: HostRuntime) {
+    assert!(rt; gives(rt.alloc(), b"set_io bus A\nset_io bus_en B", "bus", None));
+    assert!(rt; gives(rt.alloc(), b"set_io bus A\nset_io bus B\nset_io led B", "bus", None));
 }

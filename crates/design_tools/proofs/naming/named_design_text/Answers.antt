@@ -6,8 +6,8 @@ use Rattle.tool_run.specs.Tasks.{Done}
 use Rattle.design_tools.specs.Vlog.{written_named}
 use Rattle.design_tools.proofs.naming.named_design_text.Goals as goal
 
-pub text_by_pins-requires-clause-places : goal.text_by_pins-requires-clause-places
-text_by_pins-requires-clause-places c = c.deref.ensures.value ∙ c.in_ok-places.ensures
+pub text_by_pins-requires-clause-ports : goal.text_by_pins-requires-clause-ports
+text_by_pins-requires-clause-ports c = c.deref.ensures.value ∙ c.in_ok-ports.ensures
 
 pub returns-clause-bytes : goal.returns-clause-bytes
 returns-clause-bytes c =

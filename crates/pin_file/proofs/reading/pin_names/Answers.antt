@@ -4,7 +4,7 @@ use Rattle.shared_lemmas.proofs.Cuts.{drop_cons}
 use Rattle.text_lines.specs.Lines.{lines_of}
 use Rattle.pin_file.specs.Feeding.{kept_in}
 use Rattle.pin_file.specs.PortNames.{AreSafe}
-use Rattle.pin_file.proofs.Ends.{accepted, answered, cut-end, fit-more, fit-nothing, ports-more, ports-nothing, refused}
+use Rattle.pin_file.proofs.Ends.{accepted, answered, cut-end, fit-more, fit-nothing, holds-more, holds-nothing, refused}
 use Rattle.pin_file.proofs.SafeNames.{safe-ports}
 use Rattle.pin_file.proofs.reading.pin_names.Goals as goal
 
@@ -13,9 +13,8 @@ loop-line-init c = record {
   rest = refl;
   within = omega arith;
   short = omega arith;
-  kept = c.new-ports.ensures.kept c.args.enabled.now;
-  read = ports-nothing (kept_in c.args.pins.now) (lines_of c.args.text.now) c.new-ports.result.list.items c.new-ports.ensures.empty;
-  fit = fit-nothing (kept_in c.args.pins.now) c.args.enabled.now (lines_of c.args.text.now);
+  holds = holds-nothing (kept_in c.args.pins.now) c.args.ports.now (lines_of c.args.text.now) c.new-named.result (c.new-named.ensures c.args.ports.now c.in_ok-of.ensures);
+  fit = fit-nothing (kept_in c.args.pins.now) (lines_of c.args.text.now);
 }
 
 pub returns-in_err-take_line-clause-refused : goal.returns-in_err-take_line-clause-refused
@@ -24,9 +23,9 @@ returns-in_err-take_line-clause-refused c =
     let lines = lines_of c.args.text.now in
     let left : drop c.loop-line.count lines ≡ c.in-Some.line.content.now ∷ lines_of c.in-Some.line.rest.now = sym i.rest ∙ c.in-Some.ensures.lines in
     let found = drop_cons lines c.loop-line.count [] c.in-Some.line.content.now (lines_of c.in-Some.line.rest.now) left in
-    let p = err_from_is_err_and c.from_residual.result c.from_residual.ensures.1 in
-    rw (p.1, p.2) (refused (kept_in c.args.pins.now) c.args.enabled.now c.args.text.now c.loop-line.count c.in-Some.line.content.now c.loop-line.ports.list.items c.in_err-take_line.field-0.0
-    found.0 found.1 i.read i.fit c.in_err-take_line.ensures.refused)
+    let p = err_from_is_err_and c.from_residual-in_err-take_line.result c.from_residual-in_err-take_line.ensures.1 in
+    rw (p.1, p.2) (refused (kept_in c.args.pins.now) c.args.text.now c.loop-line.count c.in-Some.line.content.now c.in_err-take_line.field-0.0
+    found.0 found.1 i.fit c.in_err-take_line.ensures.refused)
 
 pub loop-line-preserved : goal.loop-line-preserved
 loop-line-preserved c =
@@ -38,28 +37,26 @@ loop-line-preserved c =
       rest = found.2;
       within = omega (arith, found.0);
       short = omega (arith, i.short, c.in-Some.ensures.shorter);
-      kept = c.in_ok-take_line.ensures.kept;
-      read = ports-more (kept_in c.args.pins.now) lines c.loop-line.count c.in-Some.line.content.now c.loop-line.ports.list.items c.take_line.new.ports.list.items
-          found.0 found.1 i.read c.in_ok-take_line.ensures.taken;
-      fit = fit-more (kept_in c.args.pins.now) c.args.enabled.now lines c.loop-line.count c.in-Some.line.content.now c.loop-line.ports.list.items found.1 i.read c.in_ok-take_line.ensures.fits i.fit;
+      holds = holds-more (kept_in c.args.pins.now) c.args.ports.now lines c.loop-line.count c.in-Some.line.content.now c.loop-line.named c.take_line.new.named
+          found.0 found.1 i.holds c.in_ok-take_line.ensures.taken;
+      fit = fit-more (kept_in c.args.pins.now) lines c.loop-line.count c.in-Some.line.content.now found.1 c.in_ok-take_line.ensures.fits i.fit;
     }
 
 pub returns-clause-names : goal.returns-clause-names
 returns-clause-names c =
     let i = c.loop-line.invariant in
     let all = cut-end (lines_of c.args.text.now) c.loop-line.count c.loop-line.left.now c.in_default.ensures.lines i.rest i.within in
-    c.finish.ensures ∙ answered (kept_in c.args.pins.now) c.args.text.now c.loop-line.count c.loop-line.ports.list.items all i.read
+    c.finish.ensures ∙ answered (kept_in c.args.pins.now) c.args.ports.now c.args.text.now c.loop-line.count c.loop-line.named.list.items all i.holds.list
 
 pub returns-clause-accepted : goal.returns-clause-accepted
 returns-clause-accepted c =
     let i = c.loop-line.invariant in
     let all = cut-end (lines_of c.args.text.now) c.loop-line.count c.loop-line.left.now c.in_default.ensures.lines i.rest i.within in
-    accepted (kept_in c.args.pins.now) c.args.enabled.now c.args.text.now c.loop-line.count all i.fit
+    accepted (kept_in c.args.pins.now) c.args.text.now c.loop-line.count all i.fit
 
 pub returns-clause-safe : goal.returns-clause-safe
 returns-clause-safe c =
     let i = c.loop-line.invariant in
     let all = cut-end (lines_of c.args.text.now) c.loop-line.count c.loop-line.left.now c.in_default.ensures.lines i.rest i.within in
-    let names = c.finish.ensures ∙ answered (kept_in c.args.pins.now) c.args.text.now c.loop-line.count c.loop-line.ports.list.items all i.read in
-    subst (AreSafe c.args.enabled.now) (sym names)
-    (safe-ports (kept_in c.args.pins.now) c.args.enabled.now c.args.text.now (accepted (kept_in c.args.pins.now) c.args.enabled.now c.args.text.now c.loop-line.count all i.fit))
+    let names = c.finish.ensures ∙ answered (kept_in c.args.pins.now) c.args.ports.now c.args.text.now c.loop-line.count c.loop-line.named.list.items all i.holds.list in
+    subst (AreSafe c.args.ports.now) (sym names) (safe-ports (kept_in c.args.pins.now) c.args.ports.now c.args.text.now)

@@ -133,12 +133,33 @@ fn gives(alloc: Global, text: &[u8], first: &str, second: Option<&str>) -> bool 
 
 #[test]
 fn makes_names(rt: HostRuntime) {
-    assert!(rt; gives(rt.alloc(), b"set_io n[0] A\nset_io 1a B", "p_n_0", Some("p_1a")));
-    assert!(rt; gives(rt.alloc(), b"set_io [] A\nset_io end B", "p_", Some("p_end")));
+    assert!(rt;
+        gives(
+            rt.alloc(),
+            b"set_io n[0] A\nset_io 1a B",
+            "p_n_0",
+            Some("p_1a")
+        )
+    );
+    assert!(rt;
+        gives(
+            rt.alloc(),
+            b"set_io [] A\nset_io end B",
+            "p_",
+            Some("p_end")
+        )
+    );
 }
 
 #[test]
 fn gives_a_name_once(rt: HostRuntime) {
     assert!(rt; gives(rt.alloc(), b"set_io bus A\nset_io bus_en B", "bus", None));
-    assert!(rt; gives(rt.alloc(), b"set_io bus A\nset_io bus B\nset_io led B", "bus", None));
+    assert!(rt;
+        gives(
+            rt.alloc(),
+            b"set_io bus A\nset_io bus B\nset_io led B",
+            "bus",
+            None
+        )
+    );
 }

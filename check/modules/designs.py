@@ -247,7 +247,7 @@ class Clocks(Design):
     def text(self):
         ports = ["input %s" % name for name in self.inputs] + ["output %s" % name for name in self.outputs]
         lines = ["module top (%s);" % ", ".join(ports), "  wire driven, %s;" % ", ".join(self.TABLES),
-                 "  SB_GB global (.USER_SIGNAL_TO_GLOBAL_BUFFER(turned), .GLOBAL_BUFFER_OUTPUT(driven));"]
+                 "  SB_GB buffered (.USER_SIGNAL_TO_GLOBAL_BUFFER(turned), .GLOBAL_BUFFER_OUTPUT(driven));"]
         for name, table in self.tables.items():
             lines += ["  (* keep *) SB_LUT4 #(.LUT_INIT(16'h%s)) lut_%s (.I0(%s), .I1(1'b0), .I2(1'b0), .I3(1'b0), .O(%s));" % (
                 table, name, self.SOURCES[name], name)]

@@ -7,7 +7,7 @@ from modules.programs import CHIPDB
 from modules.routing import PACKAGES, Refused, chosen_pins, output_of, package_pins, placed, write_pins
 
 HERE = pathlib.Path(__file__).resolve().parent
-EQUAL = "crc", "servo", "memories", "rams", "pins", "globals", "passes", "machine"
+EQUAL = "crc", "servo", "memories", "rams", "pins", "globals", "passes", "clocks", "machine"
 # a port that needs a pin which drives a global net, and one that no pin file names
 GLOBAL_PORT, FREE_PORT = "pad", "unused"
 

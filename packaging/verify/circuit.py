@@ -166,6 +166,29 @@ def evaluate(functions: Dict[str, Function], nets: List[str], values: Dict[str, 
         values[net] = form(function)(*[values[name] for name in function.inputs], full)
 
 
+def passed_input(function: Function) -> Optional[Tuple[str, bool]]:
+    """The input whose value, or whose inverse, a function is, and whether it is the inverse. None if the function is neither."""
+    fixed = {place: int(name) for place, name in enumerate(function.inputs) if name in (ZERO, ONE)}
+    entries = [entry for entry in range(1 << len(function.inputs)) if all(entry >> place & 1 == bit for place, bit in fixed.items())]
+    for place, name in enumerate(function.inputs):
+        for is_inverse in (False, True) if place not in fixed else ():
+            if all(function.table >> entry & 1 == (entry >> place & 1) ^ is_inverse for entry in entries):
+                return name, is_inverse
+    return None
+
+
+def clock_source(functions: Dict[str, Function], net: str, edge: str) -> Tuple[str, str]:
+    """The net from which a clock comes, through functions that pass one net on or invert it, and the edge of that net at which the clock acts."""
+    while net in functions:
+        passed = passed_input(functions[net])
+        if passed is None:
+            break
+        net, is_inverse = passed
+        if is_inverse:
+            edge = FALLING if edge == RISING else RISING
+    return net, edge
+
+
 def constants(functions: Dict[str, Function], nets: List[str]) -> Dict[str, int]:
     """Those of the nets, which come in their order, that have one value whatever the variables are, as far as constants show it."""
     known: Dict[str, int] = {}

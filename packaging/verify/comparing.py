@@ -6,7 +6,7 @@ find most differences and need no proof; that the others are equal is proved by 
 from dataclasses import dataclass, field
 from typing import Dict, List, Optional, Set, Tuple
 
-from circuit import Circuit, MemoryPort, order, variables
+from circuit import Circuit, MemoryPort, clock_source, order, variables
 from matching import Partners
 
 MOST_ZEROS = 4
@@ -98,14 +98,22 @@ class Comparison:
         one, two = self.ours.registers[name], self.theirs.registers[other]
         part = "register %s" % one.name
         self.share(one.output, two.output, one.name)
-        self.add(part, one.source, "clock", one.clock, two.clock)
         if one.clock is not None and two.clock is not None:
-            self.same(part, one.source, "edge of the clock", one.edge, two.edge)
+            self.collect_clock(part, one.source, "clock", one, two)
             self.add(part, one.source, "next value", one.next, two.next)
+        else:
+            self.add(part, one.source, "clock", one.clock, two.clock)
         self.add(part, one.source, "condition that sets or resets it without the clock", one.condition, two.condition)
         if one.condition is not None and two.condition is not None:
             self.same(part, one.source, "value that it gets without the clock", one.value, two.value)
         self.same(part, one.source, "value at the start", one.start, two.start)
+
+    def collect_clock(self, part: str, source: str, what: str, one, two) -> None:
+        """What is compared of the clocks of two registers or ports. An edge of a clock is the other edge of its inverse."""
+        (mine, edge), (yours, other) = (clock_source(circuit.functions, user.clock, user.edge)
+                                        for circuit, user in ((self.ours, one), (self.theirs, two)))
+        self.same(part, source, "edge of the %s" % what, edge, other)
+        self.add(part, source, what, mine, yours)
 
     def collect_memory(self, name: str, other: str) -> None:
         """What is compared of a block RAM."""
@@ -127,8 +135,7 @@ class Comparison:
 
     def collect_port(self, part: str, source: str, what: str, one: MemoryPort, two: MemoryPort) -> None:
         """What is compared of a port of a block RAM."""
-        self.same(part, source, "edge of the %s clock" % what, one.edge, two.edge)
-        self.add(part, source, "%s clock" % what, one.clock, two.clock)
+        self.collect_clock(part, source, "%s clock" % what, one, two)
         self.add(part, source, "%s enable" % what, one.enable, two.enable)
         sizes = [16 >> port.mode for port in (one, two)]
         if not self.same(part, source, "bits of a word at the %s port" % what, *sizes):

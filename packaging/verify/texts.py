@@ -49,8 +49,10 @@ def read_package(database: Iterable[str], package: str) -> Dict[str, Place]:
 
 
 def read_pins(text: str, places: Dict[str, Place], package: str) -> Dict[Place, str]:
-    """The name of the port at each place that a pin file names. Raises Stop at its first faulty line."""
+    """The name of the port at each place that a pin file names. A line whose pin or name an earlier line has doesn't count. Raises Stop at its
+    first faulty line."""
     ports: Dict[Place, str] = {}
+    given = set()
     for count, line in enumerate(text.splitlines(), 1):
         words = line.split("#")[0].split()
         if not words or words[0] == "set_frequency":
@@ -63,9 +65,9 @@ def read_pins(text: str, places: Dict[str, Place], package: str) -> Dict[Place, 
             raise Stop(REFUSED, "pin file line %d: the device has no package %s" % (count, package))
         if pin not in places:
             raise Stop(REFUSED, "pin file line %d: the package %s has no pin %s" % (count, package, pin))
-        if places[pin] in ports or name in ports.values():
-            raise Stop(REFUSED, "pin file line %d: an earlier line has the pin or the name" % count)
-        ports[places[pin]] = name
+        if places[pin] not in ports and name not in given:
+            ports[places[pin]] = name
+            given.add(name)
     return ports
 
 

@@ -58,9 +58,9 @@ def read_pins(text: str, places: Dict[str, Place], package: str) -> Dict[Place, 
         if not words or words[0] == "set_frequency":
             continue
         named = named_words(words[1:])
-        if words[0] != "set_io" or len(named) != 2:
+        if words[0] != "set_io" or len(named) < 2:
             raise Stop(REFUSED, "pin file line %d: it isn't `set_io NAME PIN`" % count)
-        name, pin = named
+        name, pin = named[:2]
         if not places:
             raise Stop(REFUSED, "pin file line %d: the device has no package %s" % (count, package))
         if pin not in places:
@@ -72,12 +72,12 @@ def read_pins(text: str, places: Dict[str, Place], package: str) -> Dict[Place, 
 
 
 def named_words(words: List[str]) -> List[str]:
-    """The words after set_io that are no options; -pullup and -pullup_resistor have a value."""
+    """The words after set_io and its options; -pullup and -pullup_resistor have a value."""
     named, is_value = [], False
     for word in words:
         if is_value:
             is_value = False
-        elif word.startswith("-"):
+        elif word.startswith("-") and not named:
             is_value = word in ("-pullup", "-pullup_resistor")
         else:
             named.append(word)

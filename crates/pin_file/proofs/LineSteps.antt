@@ -7,7 +7,7 @@ use Rattle.std.proofs.lemmas.List.{take_all}
 use Rattle.shared_lemmas.proofs.Searches.{position_or_len-none}
 use Rattle.text_lines.specs.declared.words.Separators.TheVariants.{Spaces}
 use Rattle.text_lines.specs.Words.{words_of}
-use Rattle.pin_file.specs.Lines.{Line, Unknown, begins_remark, behind_options, is_option, line_of, line_of_words, plain_line, port_line, takes_word}
+use Rattle.pin_file.specs.Lines.{Line, begins_remark, behind_options, is_option, line_of, line_of_words, plain_line, takes_word}
 
 -- a word that is no option ends the options
 options-end : (word : List ℕ) (words : List (List ℕ)) → is_option word ≡ false → behind_options false (word ∷ words) ≡ word ∷ words
@@ -45,12 +45,6 @@ option-without words belongs none = rw none refl
 
 pub option-alone : (words : List (List ℕ)) (belongs : Bool) → belongs ≡ false → behind_options false words ≡ behind_options belongs words
 option-alone words belongs alone = rw alone refl
-
--- another number of words than two
-pub port_line-other : (all words : List (List ℕ)) (name : List ℕ) → all ≡ name ∷ words → (length words ≡ 1 → ⊥) → port_line all ≡ Unknown
-port_line-other all [] name is many = rw is refl
-port_line-other all (pin ∷ []) name is many = absurd (many refl)
-port_line-other all (pin ∷ (word ∷ words)) name is many = rw is refl
 
 -- ---- remarks
 

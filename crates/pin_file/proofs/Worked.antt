@@ -35,7 +35,7 @@ unfolding line_of plain_line words_of pieces_of behind_options
 short = refl
 
 -- an option after the pin
-late : line_of (codes "set_io led A10 -nowarn") ≡ Unknown
+late : line_of (codes "set_io led A10 -nowarn") ≡ Port (codes "led") (codes "A10")
 unfolding line_of plain_line words_of pieces_of behind_options
 late = refl
 

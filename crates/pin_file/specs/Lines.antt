@@ -1,4 +1,4 @@
--- What a line of a pin file says. The form is that of nextpnr's PCF files (physical constraints), but nothing may follow PIN.
+-- What a line of a pin file says. The form is that of nextpnr's PCF files (physical constraints).
 use Rattle.std.specs.Prelude.{ℕ, Bool, true, false, ◌||◌, List, [], ◌∷◌, map, get_or, codes, bytes_eq, ◌==◌, if◌then◌else◌}
 use Rattle.std.specs.List.{before_first}
 use Rattle.text_lines.specs.Words.{words_of}
@@ -48,9 +48,9 @@ behind_options belongs [] = []
 behind_options true (word ∷ words) = behind_options false words
 behind_options false (word ∷ words) = if is_option word then behind_options (takes_word word) words else word ∷ words
 
--- `NAME PIN`
+-- `NAME PIN`; words after PIN don't count, as in nextpnr
 abbrev pub port_line : List (List ℕ) → Line
-port_line (name ∷ pin ∷ []) = Port name pin
+port_line (name ∷ pin ∷ words) = Port name pin
 port_line words = Unknown
 
 -- a line by its words: `set_io OPTIONS NAME PIN`, or `set_frequency` and anything

@@ -7,7 +7,7 @@ ghost use Rattle.pin_file.specs.Lines.{begins_remark, behind_options, is_blank, 
 ghost use Rattle.pin_file.specs.inside.Reading.{said_by};
 
 use std::alloc::{AllocError, Global};
-use text_lines::{Separators, one_word, split_word};
+use text_lines::{Separators, split_word};
 
 /// What a line is.
 #[derive(Clone, Copy)]
@@ -133,15 +133,15 @@ fn takes_word(option: &[u8]) -> bool
     option == b"-pullup".as_slice() || option == b"-pullup_resistor".as_slice()
 }
 
-/// What a line says after `set_io` and its options.
+/// What a line says after `set_io` and its options. Words after PIN don't count.
 fn port_kind(words: &[u8]) -> LineKind<'_>
     ensures { said_by result ≡ port_line (words_of Spaces words.now) }
 {
     match split_word(Separators::Spaces, words) {
         None => LineKind::Unknown,
-        Some((name, behind)) => match one_word(Separators::Spaces, behind) {
+        Some((name, after)) => match split_word(Separators::Spaces, after) {
             None => LineKind::Unknown,
-            Some(pin) => LineKind::Port { name, pin },
+            Some((pin, _)) => LineKind::Port { name, pin },
         },
     }
 }

@@ -19,7 +19,7 @@ use text_lines::first_line;
 /// Reads a pin file: the names that it gives to ports at the pins of a package, in the order of its lines. `ports` are the design's pins
 /// that have a port.
 ///
-/// A line is `set_io OPTIONS NAME PIN`, and nothing may follow PIN. A line whose first word is `set_frequency` is skipped, and so is an
+/// A line is `set_io OPTIONS NAME PIN`, and words after PIN don't count. A line whose first word is `set_frequency` is skipped, and so is an
 /// empty one. `#` begins a comment. Options begin with `-`; `-pullup` and `-pullup_resistor` take the next word as their value.
 ///
 /// A line gives no name if its pin has no port, or if an earlier line names the same pin, or one at the same place. In the name of a port

@@ -133,3 +133,22 @@ choice_by nets count values (Some src) =
 unfoldable pub choice_of : ℕ → ℕ → List (List ℕ) → Result LinkChoice DbCause
 choice_of nets count (values ∷ src ∷ []) = choice_by nets count values (number_of src)
 choice_of nets count words = Err Number
+
+-- ---- PLLs
+
+-- a line below the statement of a PLL: the name of a part, a place, and a word that says what the part is there; X and Y have one to nine
+-- digits, as all numbers of a database
+pub record PllLine : Type 0 where
+  pub name : List ℕ
+  pub x : ℕ
+  pub y : ℕ
+  pub word : List ℕ
+
+abbrev pub pll_line_of_numbers : List ℕ → List ℕ → Option (List ℕ) → Option PllLine
+pll_line_of_numbers name word (Some (x ∷ y ∷ [])) = Some (record { name = name; x = x; y = y; word = word })
+pll_line_of_numbers name word numbers = None
+
+-- `NAME X Y WORD`; a line of another form is skipped and is no fault
+unfoldable pub pll_line_of : List (List ℕ) → Option PllLine
+pll_line_of (name ∷ x ∷ y ∷ word ∷ []) = pll_line_of_numbers name word (numbers_of (x ∷ y ∷ []))
+pll_line_of words = None

@@ -13,15 +13,16 @@ use Rattle.chipdb_lines.specs.declared.links.ChoiceLine.{ChoiceLine}
 use Rattle.chipdb_lines.specs.declared.functions.FunctionItem.{FunctionItem}
 use Rattle.chipdb_lines.specs.declared.functions.ExtraItem.{ExtraItem}
 use Rattle.chipdb_lines.specs.declared.names.NameItem.{NameItem}
+use Rattle.chipdb_lines.specs.declared.plls.PllItem.{PllItem}
 use Rattle.plane_map.specs.declared.tile.TileKind.{TileKind}
 use Rattle.chipdb_lines.specs.declared.statements.Below.{Below}
-use Rattle.chipdb_lines.specs.declared.statements.Below.TheVariants.{Passed, Device, GlobalInputs, GlobalPins, Functions, ExtraBits, Names, Buffers, Routings}
-use Rattle.chipdb_lines.specs.Statements.{Block, passed, of_device, global_inputs, global_pins, functions, extra_bits, names, buffers, routings, LinkHead}
+use Rattle.chipdb_lines.specs.declared.statements.Below.TheVariants.{Passed, Device, GlobalInputs, GlobalPins, Functions, ExtraBits, Names, Buffers, Routings, Pll}
+use Rattle.chipdb_lines.specs.Statements.{Block, passed, of_device, global_inputs, global_pins, functions, extra_bits, names, buffers, routings, pll, LinkHead}
 use Rattle.text_lines.specs.Lines.{lines_of}
 use Rattle.std.specs.List.{list_all}
 use Rattle.text_lines.specs.Written.{IsPlain}
 use Rattle.chipdb_lines.specs.Words.{bit_of, is_statement, own_words, words_in}
-use Rattle.chipdb_lines.specs.Items.{LinkChoice, choice_of, FunctionLine, ExtraLine, NameLine}
+use Rattle.chipdb_lines.specs.Items.{LinkChoice, choice_of, FunctionLine, ExtraLine, NameLine, PllLine}
 
 -- the bits of a list; empty if the index is past the last list
 abbrev pub bits_named : List (List RowCol) → BitList → List RowCol
@@ -65,6 +66,10 @@ extra_named item = record { name = item.name.now; at = item.at }
 abbrev pub name_named : ℕ → NameItem → NameLine
 name_named net item = record { net = net; x = item.x; y = item.y; name = item.name.now }
 
+-- a line of a PLL
+abbrev pub pll_line_named : PllItem → PllLine
+pll_line_named item = record { name = item.name.now; x = item.x; y = item.y; word = item.word.now }
+
 abbrev pub head_named : List (List RowCol) → KeptHead → LinkHead
 head_named bits head = record { x = head.x; y = head.y; dst = head.dst; bits = bits_named bits head.bits }
 
@@ -79,6 +84,7 @@ block_named bits ExtraBits = extra_bits
 block_named bits (Names net) = names net
 block_named bits (Buffers head) = buffers (head_named bits head)
 block_named bits (Routings head) = routings (head_named bits head)
+block_named bits (Pll x y) = pll x y
 
 -- exactly the list of a statement was added to a table, or nothing if the statement has no list
 abbrev pub AddsBelow : List (List RowCol) → List (List RowCol) → Below → Type 0

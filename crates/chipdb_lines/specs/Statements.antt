@@ -13,7 +13,7 @@ use Rattle.plane_map.specs.declared.tile.RowCol.{RowCol}
 use Rattle.chipdb_lines.specs.declared.cause.DbCause.{DbCause}
 use Rattle.chipdb_lines.specs.declared.cause.DbCause.TheVariants.{NoDevice, Device, Number, TileKind as KindCause, NetRange, BitName, BitRange, CellBits}
 use Rattle.chipdb_lines.specs.declared.keyword.Keyword.{Keyword}
-use Rattle.chipdb_lines.specs.declared.keyword.Keyword.TheVariants.{Device as DeviceWord, GlobalInputs, GlobalPins, Tile, TileBits, ExtraBits, Net, Buffer, Routing}
+use Rattle.chipdb_lines.specs.declared.keyword.Keyword.TheVariants.{Device as DeviceWord, GlobalInputs, GlobalPins, Tile, TileBits, ExtraBits, Net, Buffer, Routing, ExtraCell}
 use Rattle.chipdb_lines.specs.declared.chip.Chip.{Chip}
 use Rattle.chipdb_lines.specs.Words.{bits_of, has_none}
 
@@ -42,6 +42,7 @@ keyword_of word =
     else if bytes_eq word (codes ".gbufin") then Some GlobalInputs
     else if bytes_eq word (codes ".gbufpin") then Some GlobalPins
     else if bytes_eq word (codes ".extra_bits") then Some ExtraBits
+    else if bytes_eq word (codes ".extra_cell") then Some ExtraCell
     else tile_keyword_of word
 
 -- ---- the device
@@ -103,6 +104,8 @@ pub data Block : Type 0 where
   -- `VALUES SRC`
   buffers : LinkHead → Block
   routings : LinkHead → Block
+  -- `NAME X Y WORD` of the PLL at (x, y), which may be outside of the grid
+  pll : ℕ → ℕ → Block
 
 -- a statement of one word
 abbrev pub alone : Block → List (List ℕ) → Result Block DbCause
@@ -154,6 +157,18 @@ unfoldable pub link_of_words : Chip → List (List ℕ) → Result LinkHead DbCa
 link_of_words chip (x ∷ y ∷ dst ∷ bit ∷ bits) = link_of_numbers chip (numbers_of (x ∷ y ∷ dst ∷ [])) (bit ∷ bits)
 link_of_words chip words = Err Number
 
+abbrev pub pll_of_numbers : Option (List ℕ) → Block
+pll_of_numbers (Some (x ∷ y ∷ [])) = pll x y
+pll_of_numbers numbers = passed
+
+abbrev pub cell_of_kind : List ℕ → List ℕ → List ℕ → Block
+cell_of_kind x y kind = if bytes_eq kind (codes "PLL") then pll_of_numbers (numbers_of (x ∷ y ∷ [])) else passed
+
+-- `.extra_cell X Y PLL`; with other words, or numbers that are no decimal numbers, it is skipped and is no fault
+unfoldable pub extra_cell_of : List (List ℕ) → Block
+extra_cell_of (x ∷ y ∷ kind ∷ []) = cell_of_kind x y kind
+extra_cell_of words = passed
+
 abbrev pub names_block : Result ℕ DbCause → Result Block DbCause
 names_block (Ok net) = Ok (names net)
 names_block (Err cause) = Err cause
@@ -177,15 +192,17 @@ block_of chip ExtraBits words = alone extra_bits words
 block_of chip Net words = names_block (net_of_numbers chip.nets (numbers_of words))
 block_of chip Buffer words = buffers_block (link_of_words chip words)
 block_of chip Routing words = routings_block (link_of_words chip words)
+block_of chip ExtraCell words = Ok (extra_cell_of words)
 
 -- what `.device` says if no device was given before
 abbrev pub device_block : Option Chip → Result Block DbCause
 device_block (Some chip) = Ok (of_device chip)
 device_block None = Err Device
 
--- what a statement says if no device was given before
+-- what a statement says if no device was given before; `.extra_cell` is skipped then
 abbrev pub block_without : Keyword → List (List ℕ) → Result Block DbCause
 block_without DeviceWord words = device_block (chip_of_words words)
+block_without ExtraCell words = Ok passed
 block_without keyword words = Err NoDevice
 
 abbrev pub block_by : Option Chip → Option Keyword → List (List ℕ) → Result Block DbCause

@@ -25,6 +25,8 @@ pub enum Keyword {
     Buffer,
     /// `.routing`
     Routing,
+    /// `.extra_cell`
+    ExtraCell,
 }
 
 /// The keyword that a word is. `None` for any other word; such statements are skipped.
@@ -46,6 +48,8 @@ pub(crate) fn keyword_of(word: &[u8]) -> Option<Keyword>
         Some(Keyword::GlobalPins)
     } else if word == b".extra_bits".as_slice() {
         Some(Keyword::ExtraBits)
+    } else if word == b".extra_cell".as_slice() {
+        Some(Keyword::ExtraCell)
     } else {
         tile_keyword_of(word)
     }

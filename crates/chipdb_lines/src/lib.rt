@@ -13,6 +13,7 @@ mod keyword;
 mod kinds;
 mod links;
 mod names;
+mod plls;
 mod statements;
 mod words;
 
@@ -24,5 +25,6 @@ pub use globals::{GlobalInput, GlobalPin, global_input, global_pin};
 pub use links::{Choice, ChoiceLine, LinkHead, choice_item, choice_line};
 pub use names::{NameItem, name_item};
 pub use plane_map::{DeviceName, Place, RowCol, TileKind};
+pub use plls::{PllItem, pll_item};
 pub use statements::{Below, statement};
 pub use words::{is_statement, own_words};

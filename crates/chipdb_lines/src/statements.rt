@@ -12,6 +12,7 @@ use crate::chip::{Chip, chip_of};
 use crate::keyword::{Keyword, keyword_of};
 use crate::kinds::is_kind_at;
 use crate::links::{LinkHead, link_head};
+use crate::plls::extra_cell;
 use crate::words::has_no_word;
 use plane_map::{DeviceName, TileKind, tile_width};
 use text_lines::{Separators, one_number, split_word, two_numbers};
@@ -37,6 +38,8 @@ pub enum Below {
     Buffers(LinkHead),
     /// `VALUES SRC`
     Routings(LinkHead),
+    /// `NAME X Y WORD` of the PLL at (x, y)
+    Pll(u32, u32),
 }
 
 /// Reads a statement. `chip` is the device that was given before it, if one was. Repeats of earlier statements aren't looked for. The list
@@ -93,6 +96,7 @@ fn below_none(keyword: Keyword, words: &[u8]) -> Result<Below, DbLineRefusal>
             None => Err(DbLineRefusal::Cause(DbCause::Device)),
             Some(chip) => Ok(Below::Device(chip)),
         },
+        Keyword::ExtraCell => Ok(Below::Passed),
         _ => Err(DbLineRefusal::Cause(DbCause::NoDevice)),
     }
 }
@@ -126,6 +130,7 @@ fn below_chip(
             Ok(head) => Ok(Below::Routings(head)),
             Err(refusal) => Err(refusal),
         },
+        Keyword::ExtraCell => Ok(extra_cell(words)),
     }
 }
 

@@ -8,7 +8,7 @@ use Rattle.index_search.proofs.Places.{last_below-more, first_below-more, or_els
 use Rattle.chipdb_lines.specs.declared.cause.DbCause.{DbCause}
 use Rattle.chipdb_lines.specs.declared.chip.Chip.{Chip}
 use Rattle.chipdb_lines.specs.declared.keyword.Keyword.{Keyword}
-use Rattle.chipdb_lines.specs.declared.keyword.Keyword.TheVariants.{Device, GlobalInputs, GlobalPins, Tile, TileBits, ExtraBits, Net, Buffer, Routing}
+use Rattle.chipdb_lines.specs.declared.keyword.Keyword.TheVariants.{Device, GlobalInputs, GlobalPins, Tile, TileBits, ExtraBits, Net, Buffer, Routing, ExtraCell}
 use Rattle.chipdb_lines.specs.Words.{is_statement, words_in}
 use Rattle.chipdb_lines.specs.Statements.{Block, passed, of_device, block_by, device_block, chip_of_words, keyword_of, statement_of}
 use Rattle.chipdb_reader.specs.Blocks.{chip_by, chip_in, chip_before, statement_at, statement_over, block_over, block_by as block_at_place}
@@ -75,6 +75,7 @@ device_by (Some ExtraBits) words block says = absurd cc
 device_by (Some Net) words block says = absurd cc
 device_by (Some Buffer) words block says = absurd cc
 device_by (Some Routing) words block says = absurd cc
+device_by (Some ExtraCell) words block says = let same : passed ≡ block = cc in ap device_of same
 
 -- the device is given by a line before, or else by the statement
 pub chip-given : (chip : Option Chip) (line : List ℕ) (block : Block) → is_statement line ≡ true → statement_of chip (words_in line) ≡ Ok block

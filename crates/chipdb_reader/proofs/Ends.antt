@@ -26,6 +26,7 @@ use Rattle.chipdb_reader.specs.Holds.{Holds, HasRead, InRange}
 use Rattle.chipdb_reader.specs.declared.line_reader.LineReader.{LineReader}
 use Rattle.chipdb_reader.specs.Feeding.{HasTaken}
 use Rattle.chipdb_reader.proofs.LineSteps.{Taken, line-taken, line-refused}
+use Rattle.chipdb_reader.proofs.PllSteps.{plls-told, unread-plls}
 
 -- ---- the lines so far
 
@@ -55,6 +56,8 @@ unread-holds reader lines unread =
       extras = ap (extra_lines reader.texts.arena) unread.extras;
       global_inputs = unread.global_inputs;
       global_pins = unread.global_pins;
+      plls = unread-plls reader.plls lines unread.plls unread.no_pll;
+      pll_open = rw below tt;
       few = let none : length reader.texts.arena ≡ 0 = ap length unread.texts in omega arith;
       few_lists = let none : length reader.bits ≡ 0 = ap length unread.bits in omega arith;
     }
@@ -132,6 +135,7 @@ read-database reader lines chip kept holds fits = λ i. record {
   extras = ((λ j. extra_lines (fits.texts j) (fits.extras j)) ∙ holds.extras) i;
   global_inputs = (fits.global_inputs ∙ holds.global_inputs) i;
   global_pins = (fits.global_pins ∙ holds.global_pins) i;
+  plls = (fits.plls ∙ plls-told reader.plls lines (length lines) holds.plls) i;
 }
 
 -- a database that is answered is what the text means

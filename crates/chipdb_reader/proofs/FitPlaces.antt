@@ -2,7 +2,7 @@
 use Rattle.std.proofs.Common.{◌≡◌, ℕ, zero, suc, ◌<◌, ◌≤◌, Bool, true, false, ◌&&◌, cond, List, [], ◌∷◌, length, drop, get_or, map, refl, sym, ap, ◌∙◌, inl, inr, arith, subst}
 use Rattle.index_search.proofs.Gathered.{All-gathered_below}
 use Rattle.plane_map.specs.Layout.{kind_of, columns_of}
-use Rattle.std.specs.Prelude.{◌==◌, Option, Some, None, Result, Ok, Err, All}
+use Rattle.std.specs.Prelude.{◌==◌, bytes_eq, codes, Option, Some, None, Result, Ok, Err, All}
 use Rattle.std.specs.Result.{result_unwrap_or}
 use Rattle.std.proofs.lemmas.Bool.{cases_lt}
 use Rattle.std.proofs.lemmas.List.Elements.{All-nil, All-cons, All-head, All-tail}
@@ -15,9 +15,9 @@ use Rattle.chipdb_lines.specs.declared.cause.DbCause.{DbCause}
 use Rattle.chipdb_lines.specs.declared.cause.DbCause.TheVariants.{TileKind as KindCause}
 use Rattle.chipdb_lines.specs.declared.chip.Chip.{Chip}
 use Rattle.chipdb_lines.specs.declared.keyword.Keyword.{Keyword}
-use Rattle.chipdb_lines.specs.declared.keyword.Keyword.TheVariants.{Device, GlobalInputs, GlobalPins, Tile, TileBits, ExtraBits, Net, Buffer, Routing}
+use Rattle.chipdb_lines.specs.declared.keyword.Keyword.TheVariants.{Device, GlobalInputs, GlobalPins, Tile, TileBits, ExtraBits, Net, Buffer, Routing, ExtraCell}
 use Rattle.chipdb_lines.specs.Words.{has_none, is_statement, words_in}
-use Rattle.chipdb_lines.specs.Statements.{Block, LinkHead, passed, of_device, global_inputs, global_pins, functions, extra_bits, names, buffers, routings, block_by, block_of, block_without, buffers_block, device_block, chip_of_words, is_kind_there, keyword_of, link_of_words, names_block, net_of_numbers, routings_block, statement_of, tile_bits_of_numbers, tile_of_numbers}
+use Rattle.chipdb_lines.specs.Statements.{Block, LinkHead, passed, of_device, global_inputs, global_pins, functions, extra_bits, names, buffers, routings, pll, block_by, block_of, block_without, buffers_block, device_block, chip_of_words, is_kind_there, keyword_of, link_of_words, names_block, net_of_numbers, routings_block, statement_of, tile_bits_of_numbers, tile_of_numbers, extra_cell_of, pll_of_numbers}
 use Rattle.chipdb_lines.specs.Items.{NameLine, LinkChoice}
 use Rattle.chipdb_reader.specs.Blocks.{block_by as block_at_place, block_over, chip_before, chip_in, own_words_at, statement_at, statement_over}
 use Rattle.chipdb_reader.specs.Database.{Said, nothing, item, said_at, said_by, said_for, buffers_at, buffers_in, database_of, is_chosen_before, is_same_choice, link_of, new_choices, routings_at, routings_in}
@@ -60,6 +60,25 @@ tile_bits-fit chip kind (Some (x ∷ [])) = tt
 tile_bits-fit chip kind (Some (x ∷ y ∷ [])) = ok-cond (BlockFits chip) ((x == columns_of kind) && (y == 16)) (Ok (functions kind)) (Err KindCause) (λ same. tt) (λ other. tt)
 tile_bits-fit chip kind (Some (x ∷ y ∷ more ∷ numbers)) = tt
 
+pll-fit : (chip : Chip) (numbers : Option (List ℕ)) → BlockFits chip (pll_of_numbers numbers)
+pll-fit chip None = tt
+pll-fit chip (Some []) = tt
+pll-fit chip (Some (x ∷ [])) = tt
+pll-fit chip (Some (x ∷ y ∷ [])) = tt
+pll-fit chip (Some (x ∷ y ∷ more ∷ numbers)) = tt
+
+kind-fit : (chip : Chip) (is_pll : Bool) (numbers : Option (List ℕ)) → BlockFits chip (cond is_pll (pll_of_numbers numbers) passed)
+kind-fit chip true numbers = pll-fit chip numbers
+kind-fit chip false numbers = tt
+
+extra_cell-fit : (chip : Chip) (words : List (List ℕ)) → BlockFits chip (extra_cell_of words)
+unfolding extra_cell_of
+extra_cell-fit chip [] = tt
+extra_cell-fit chip (x ∷ []) = tt
+extra_cell-fit chip (x ∷ y ∷ []) = tt
+extra_cell-fit chip (x ∷ y ∷ kind ∷ []) = kind-fit chip (bytes_eq kind (codes "PLL")) (numbers_of (x ∷ y ∷ []))
+extra_cell-fit chip (x ∷ y ∷ kind ∷ more ∷ words) = tt
+
 block-fit : (chip : Chip) (keyword : Keyword) (words : List (List ℕ)) → OkAll (BlockFits chip) (block_of chip keyword words)
 unfolding block_of
 block-fit chip Device words = tt
@@ -71,6 +90,7 @@ block-fit chip ExtraBits words = ok-cond (BlockFits chip) (has_none words) _ _ (
 block-fit chip Net words = names-fit chip (net_of_numbers chip.nets (numbers_of words)) (net-fit chip.nets (numbers_of words))
 block-fit chip Buffer words = buffers-fit chip (link_of_words chip words) (link-fit chip words)
 block-fit chip Routing words = routings-fit chip (link_of_words chip words) (link-fit chip words)
+block-fit chip ExtraCell words = extra_cell-fit chip words
 
 -- a block that isn't after a device has no lines that say anything
 abbrev IsEmpty : Block → Type 0
@@ -97,6 +117,7 @@ without-fit ExtraBits words = tt
 without-fit Net words = tt
 without-fit Buffer words = tt
 without-fit Routing words = tt
+without-fit ExtraCell words = tt
 
 by-fit : (chip : Option Chip) (keyword : Option Keyword) (words : List (List ℕ)) → OkAll (Fits chip) (block_by chip keyword words)
 by-fit None None words = tt
@@ -143,6 +164,7 @@ later-fit None after extra_bits stays fits chip is = tt
 later-fit None after (names net) stays fits chip is = absurd fits
 later-fit None after (buffers head) stays fits chip is = absurd fits
 later-fit None after (routings head) stays fits chip is = absurd fits
+later-fit None after (pll x y) stays fits chip is = absurd fits
 later-fit (Some given) after block stays fits chip is =
     let both : Some given ≡ Some chip = sym (stays given refl) ∙ is in
     let same : given ≡ chip = cc in
@@ -199,6 +221,7 @@ said-fit chip extra_bits words fits = record { names_fit = All-nil _; functions_
 said-fit chip (names net) words fits = record { names_fit = item-all (IsNameLine chip) _ (name-of-fit chip net _ fits (name-fit chip net words)); functions_fit = All-nil _; extras_fit = All-nil _; inputs_fit = All-nil _; pins_fit = All-nil _; choices_fit = All-nil _ }
 said-fit chip (buffers head) words fits = record { names_fit = All-nil _; functions_fit = All-nil _; extras_fit = All-nil _; inputs_fit = All-nil _; pins_fit = All-nil _; choices_fit = item-all (λ (c : LinkChoice). c.src < chip.nets) _ (choice-fit chip.nets (length head.bits) words) }
 said-fit chip (routings head) words fits = record { names_fit = All-nil _; functions_fit = All-nil _; extras_fit = All-nil _; inputs_fit = All-nil _; pins_fit = All-nil _; choices_fit = item-all (λ (c : LinkChoice). c.src < chip.nets) _ (choice-fit chip.nets (length head.bits) words) }
+said-fit chip (pll x y) words fits = record { names_fit = All-nil _; functions_fit = All-nil _; extras_fit = All-nil _; inputs_fit = All-nil _; pins_fit = All-nil _; choices_fit = All-nil _ }
 
 said-by-fit : (chip : Chip) (given : Option Chip) (block : Block) (words : List (List ℕ)) → ((c : Chip) → given ≡ Some c → (c ≡ chip) × BlockFits c block) → SaidFits chip (said_by words given block)
 said-by-fit chip given block [] fits = nothing-fits chip
@@ -242,6 +265,7 @@ buffers-in-fit chip (functions kind) choices fits all = All-nil _
 buffers-in-fit chip extra_bits choices fits all = All-nil _
 buffers-in-fit chip (names net) choices fits all = All-nil _
 buffers-in-fit chip (routings head) choices fits all = All-nil _
+buffers-in-fit chip (pll x y) choices fits all = All-nil _
 
 routings-in-fit : (chip : Chip) (block : Block) (choices : List LinkChoice) → BlockFits chip block → All (λ c. c.src < chip.nets) choices → All (IsLink chip) (routings_in block choices)
 routings-in-fit chip (routings head) choices fits all = map-all (λ (c : LinkChoice). c.src < chip.nets) (IsLink chip) (link_of head) choices (λ c lt. link-fits chip head c fits lt) all
@@ -253,6 +277,7 @@ routings-in-fit chip (functions kind) choices fits all = All-nil _
 routings-in-fit chip extra_bits choices fits all = All-nil _
 routings-in-fit chip (names net) choices fits all = All-nil _
 routings-in-fit chip (buffers head) choices fits all = All-nil _
+routings-in-fit chip (pll x y) choices fits all = All-nil _
 
 -- if no device is given yet, a line has no choice
 no-choices : (words : List (List ℕ)) (block : Block) → (said_by words None block).choices ≡ []

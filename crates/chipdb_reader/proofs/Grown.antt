@@ -9,7 +9,7 @@ use Rattle.chipdb_lines.specs.declared.bits.BitList.{BitList}
 use Rattle.chipdb_lines.specs.declared.links.Choice.{Choice}
 use Rattle.chipdb_lines.specs.declared.links.LinkHead.{LinkHead as KeptHead}
 use Rattle.chipdb_lines.specs.declared.statements.Below.{Below}
-use Rattle.chipdb_lines.specs.declared.statements.Below.TheVariants.{Passed, Device, GlobalInputs, GlobalPins, Functions, ExtraBits, Names, Buffers, Routings}
+use Rattle.chipdb_lines.specs.declared.statements.Below.TheVariants.{Passed, Device, GlobalInputs, GlobalPins, Functions, ExtraBits, Names, Buffers, Routings, Pll}
 use Rattle.bit_plane.specs.BitList.{word_bits}
 use Rattle.chipdb_lines.specs.Kept.{bits_named, head_named, AddsBelow, AddsHead, AddsList}
 use Rattle.chipdb_reader.specs.declared.items.NetName.{NetName}
@@ -94,6 +94,7 @@ below-grown old new GlobalPins same = Lengthens-same old new same
 below-grown old new (Functions kind) same = Lengthens-same old new same
 below-grown old new ExtraBits same = Lengthens-same old new same
 below-grown old new (Names net) same = Lengthens-same old new same
+below-grown old new (Pll x y) same = Lengthens-same old new same
 
 pub head-grown : (bits more : List (List RowCol)) (head : KeptHead) → IsHeadOf bits head → head_named (bits ++ more) head ≡ head_named bits head
 head-grown bits more head is = let same = bits-grown bits more head.bits is.bits_in in λ i. record { x = head.x; y = head.y; dst = head.dst; bits = same i }

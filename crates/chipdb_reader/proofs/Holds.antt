@@ -9,9 +9,9 @@ use Rattle.text_lines.specs.Lines.{line_at}
 use Rattle.index_search.specs.Places.{gathered_below}
 use Rattle.index_search.proofs.Places.{any_below-more, last_below-place, gathered_below-more}
 use Rattle.chipdb_lines.specs.declared.statements.Below.{Below}
-use Rattle.chipdb_lines.specs.declared.statements.Below.TheVariants.{Passed, Device, GlobalInputs, GlobalPins, Functions, ExtraBits, Names, Buffers, Routings}
+use Rattle.chipdb_lines.specs.declared.statements.Below.TheVariants.{Passed, Device, GlobalInputs, GlobalPins, Functions, ExtraBits, Names, Buffers, Routings, Pll}
 use Rattle.chipdb_lines.specs.Words.{is_statement}
-use Rattle.chipdb_lines.specs.Statements.{Block, passed, of_device, global_inputs, global_pins, functions, extra_bits, names, buffers, routings}
+use Rattle.chipdb_lines.specs.Statements.{Block, passed, of_device, global_inputs, global_pins, functions, extra_bits, names, buffers, routings, pll}
 use Rattle.chipdb_lines.specs.Items.{LinkChoice}
 use Rattle.chipdb_lines.specs.Kept.{block_named}
 use Rattle.chipdb_reader.specs.declared.reading.DatabaseState.{DatabaseState}
@@ -20,9 +20,11 @@ use Rattle.chipdb_reader.specs.Database.{Said, nothing, said_at, any_since, is_c
 use Rattle.chipdb_reader.specs.Faults.{is_net_before}
 use Rattle.chipdb_reader.specs.Kept.{name_lines, link_lines, function_lines, extra_lines}
 use Rattle.chipdb_reader.specs.Nets.{net_names, has_net}
+use Rattle.chipdb_reader.specs.Plls.{OpenHolds, PllsHold}
 use Rattle.chipdb_reader.specs.Reading.{IsReady}
 use Rattle.chipdb_reader.specs.Holds.{InRange, ChoicesHold, Holds}
 use Rattle.chipdb_reader.proofs.BlockSteps.{chip-own, over-own, block-own}
+use Rattle.chipdb_reader.proofs.PllSteps.{plls-own, pll_open-own}
 
 -- ---- lists, one line further
 
@@ -68,10 +70,11 @@ pub own-step : (old new : DatabaseState) (lines : List (List ℕ)) (n : ℕ) (sa
     → extra_lines new.texts.arena new.extras.items ≡ extra_lines old.texts.arena old.extras.items ++ said.extras
     → new.global_inputs.items ≡ old.global_inputs.items ++ said.global_inputs
     → new.global_pins.items ≡ old.global_pins.items ++ said.global_pins
+    → PllsHold new.plls lines (n + 1) → OpenHolds new.plls lines (n + 1) new.below
     → length new.texts.arena ≤ n + 1
     → length new.bits ≤ n + 1
     → Holds new lines (n + 1)
-own-step old new lines n said own says holds ready in_range choices chip block nets more_names more_buffers more_routings more_functions more_extras more_inputs more_pins few few_lists = record {
+own-step old new lines n said own says holds ready in_range choices chip block nets more_names more_buffers more_routings more_functions more_extras more_inputs more_pins plls pll_open few few_lists = record {
   ready = ready;
   in_range = in_range;
   choices = choices;
@@ -85,6 +88,8 @@ own-step old new lines n said own says holds ready in_range choices chip block n
   extras = list-step _ _ said.extras n (λ k. (said_at lines k).extras) more_extras holds.extras (ap (λ s. s.extras) says);
   global_inputs = list-step _ _ said.global_inputs n (λ k. (said_at lines k).global_inputs) more_inputs holds.global_inputs (ap (λ s. s.global_inputs) says);
   global_pins = list-step _ _ said.global_pins n (λ k. (said_at lines k).global_pins) more_pins holds.global_pins (ap (λ s. s.global_pins) says);
+  plls = plls;
+  pll_open = pll_open;
   few = few;
   few_lists = few_lists;
 }
@@ -100,6 +105,7 @@ buffers_in-nothing (functions kind) = refl
 buffers_in-nothing extra_bits = refl
 buffers_in-nothing (names net) = refl
 buffers_in-nothing (routings head) = refl
+buffers_in-nothing (pll x y) = refl
 
 pub routings_in-nothing : (block : Block) → routings_in block [] ≡ []
 routings_in-nothing (routings head) = refl
@@ -111,6 +117,7 @@ routings_in-nothing (functions kind) = refl
 routings_in-nothing extra_bits = refl
 routings_in-nothing (names net) = refl
 routings_in-nothing (buffers head) = refl
+routings_in-nothing (pll x y) = refl
 
 -- a line without a choice gives no link
 pub buffers_at-nothing : (lines : List (List ℕ)) (n : ℕ) → (said_at lines n).choices ≡ [] → buffers_at lines n ≡ []
@@ -136,12 +143,22 @@ choices-kept reader lines n (Functions kind) own none holds = tt
 choices-kept reader lines n ExtraBits own none holds = tt
 choices-kept reader lines n (Names net) own none holds = tt
 choices-kept reader lines n (Routings head) own none holds = tt
+choices-kept reader lines n (Pll x y) own none holds = tt
+
+-- the PLLs stay if the line says nothing for one
+pub plls-kept : (reader : DatabaseState) (lines : List (List ℕ)) (n : ℕ) (said : Said) → is_statement (line_at lines n) ≡ false → said_at lines n ≡ said → said.pll_lines ≡ [] → Holds reader lines n → PllsHold reader.plls lines (n + 1)
+plls-kept reader lines n said own says none holds = plls-own reader.plls lines n own (ap (λ s. s.pll_lines) says ∙ none) holds.plls
+
+pub pll_open-kept : (reader : DatabaseState) (lines : List (List ℕ)) (n : ℕ) (said : Said) → is_statement (line_at lines n) ≡ false → said_at lines n ≡ said → said.pll_lines ≡ [] → Holds reader lines n → OpenHolds reader.plls lines (n + 1) reader.below
+pll_open-kept reader lines n said own says none holds = pll_open-own reader.plls lines n reader.below own (ap (λ s. s.pll_lines) says ∙ none) holds.pll_open
 
 -- a line that says nothing
 pub nothing-step : (reader : DatabaseState) (lines : List (List ℕ)) (n : ℕ) → is_statement (line_at lines n) ≡ false → said_at lines n ≡ nothing → Holds reader lines n → Holds reader lines (n + 1)
 nothing-step reader lines n own says holds =
     let none : (said_at lines n).choices ≡ [] = ap (λ s. s.choices) says in
+    let no_line : (said_at lines n).pll_lines ≡ [] = ap (λ s. s.pll_lines) says in
     let few : length reader.texts.arena ≤ n = holds.few in
     let few_lists : length reader.bits ≤ n = holds.few_lists in
     own-step reader reader lines n nothing own says holds holds.ready holds.in_range (choices-kept reader lines n reader.below own none holds.choices) refl refl (λ net. refl)
-    (sym (append-nil _)) (append-nothing _ _ (buffers_at-nothing lines n none)) (append-nothing _ _ (routings_at-nothing lines n none)) (sym (append-nil _)) (sym (append-nil _)) (sym (append-nil _)) (sym (append-nil _)) (omega arith) (omega arith)
+    (sym (append-nil _)) (append-nothing _ _ (buffers_at-nothing lines n none)) (append-nothing _ _ (routings_at-nothing lines n none)) (sym (append-nil _)) (sym (append-nil _)) (sym (append-nil _)) (sym (append-nil _))
+    (plls-own reader.plls lines n own no_line holds.plls) (pll_open-own reader.plls lines n reader.below own no_line holds.pll_open) (omega arith) (omega arith)

@@ -14,29 +14,32 @@ use Rattle.chipdb_lines.specs.declared.chip.Chip.{Chip}
 use Rattle.chipdb_lines.specs.declared.globals.GlobalInput.{GlobalInput}
 use Rattle.chipdb_lines.specs.declared.globals.GlobalPin.{GlobalPin}
 use Rattle.chipdb_lines.specs.declared.statements.Below.{Below}
-use Rattle.chipdb_lines.specs.declared.statements.Below.TheVariants.{GlobalInputs, GlobalPins, Functions, ExtraBits}
+use Rattle.chipdb_lines.specs.declared.statements.Below.TheVariants.{GlobalInputs, GlobalPins, Functions, ExtraBits, Pll}
 use Rattle.chipdb_lines.specs.Words.{is_statement}
 use Rattle.chipdb_lines.specs.Statements.{Block}
-use Rattle.chipdb_lines.specs.Items.{FunctionLine, ExtraLine, global_input_of, global_pin_of}
+use Rattle.chipdb_lines.specs.Items.{FunctionLine, ExtraLine, PllLine, global_input_of, global_pin_of, pll_line_of}
 use Rattle.chipdb_lines.specs.Kept.{block_named, bits_named}
 use Rattle.chipdb_reader.specs.declared.items.Function.{Function}
 use Rattle.chipdb_reader.specs.declared.items.Extra.{Extra}
 use Rattle.chipdb_reader.specs.declared.items.NetName.{NetName}
 use Rattle.chipdb_reader.specs.declared.items.LinkLine.{LinkLine}
+use Rattle.chipdb_reader.specs.declared.plls.Plls.{Plls}
 use Rattle.chipdb_reader.specs.declared.texts.Texts.{Texts}
 use Rattle.chipdb_reader.specs.declared.reading.DatabaseState.{DatabaseState}
 use Rattle.chipdb_reader.specs.Blocks.{chip_before, block_over, own_words_at}
-use Rattle.chipdb_reader.specs.Database.{Said, nothing, item, said_at, said_for}
+use Rattle.chipdb_reader.specs.Database.{Said, nothing, item, pll_item, said_at, said_for}
 use Rattle.chipdb_reader.specs.Faults.{cause_at, item_cause}
 use Rattle.chipdb_reader.specs.Kept.{name_lines, link_lines, function_line, function_lines, extra_line, extra_lines}
 use Rattle.chipdb_reader.specs.Nets.{net_names}
 use Rattle.chipdb_reader.specs.Texts.{Interns}
 use Rattle.chipdb_reader.specs.Reading.{Pushes, PushesFunction, PushesExtra}
+use Rattle.chipdb_reader.specs.Plls.{AddsPllLine, IsOpen, OpenHolds}
 use Rattle.chipdb_reader.specs.Sound.{IsLinkIn}
 use Rattle.chipdb_reader.proofs.Grown.{names-grown, extras-grown, functions-grown, links-grown, list-added, Lengthens-list, IsLinkIn-grown}
 use Rattle.chipdb_reader.proofs.TextSteps.{text-found}
 use Rattle.chipdb_reader.specs.Holds.{Holds, InRange}
-use Rattle.chipdb_reader.proofs.Holds.{own-step, buffers_at-nothing, routings_at-nothing}
+use Rattle.chipdb_reader.proofs.PllSteps.{open-line, plls-line}
+use Rattle.chipdb_reader.proofs.Holds.{own-step, buffers_at-nothing, routings_at-nothing, plls-kept, pll_open-kept}
 
 -- what the words of a line say
 pub said-is : (lines : List (List ℕ)) (n : ℕ) (word : List ℕ) (words : List (List ℕ)) (chip : Chip) (block : Block)
@@ -92,6 +95,7 @@ input-step old inputs lines n chip word words at pushed =
     (record { texts = at.holds.ready.texts; nets = at.holds.ready.nets; buffers = at.holds.ready.buffers; below = at.holds.ready.below })
     (record { names = at.holds.in_range.names; functions = at.holds.in_range.functions; function_bits = at.holds.in_range.function_bits; extras = at.holds.in_range.extras; buffers = at.holds.in_range.buffers; routings = at.holds.in_range.routings })
     (rw under tt) refl refl (λ net. refl) (sym (append-nil _)) (append-nothing _ _ (buffers_at-nothing lines n none)) (append-nothing _ _ (routings_at-nothing lines n none)) (sym (append-nil _)) (sym (append-nil _)) pushed.added (sym (append-nil _))
+    (plls-kept old lines n said at.own says refl at.holds) (pll_open-kept old lines n said at.own says refl at.holds)
     (few-more n _ at.holds.few) (few-more n _ at.holds.few_lists)
 
 -- a `.gbufpin` line
@@ -106,6 +110,26 @@ pin-step old pins lines n chip word words at pushed =
     (record { texts = at.holds.ready.texts; nets = at.holds.ready.nets; buffers = at.holds.ready.buffers; below = at.holds.ready.below })
     (record { names = at.holds.in_range.names; functions = at.holds.in_range.functions; function_bits = at.holds.in_range.function_bits; extras = at.holds.in_range.extras; buffers = at.holds.in_range.buffers; routings = at.holds.in_range.routings })
     (rw under tt) refl refl (λ net. refl) (sym (append-nil _)) (append-nothing _ _ (buffers_at-nothing lines n none)) (append-nothing _ _ (routings_at-nothing lines n none)) (sym (append-nil _)) (sym (append-nil _)) (sym (append-nil _)) pushed.added
+    (plls-kept old lines n said at.own says refl at.holds) (pll_open-kept old lines n said at.own says refl at.holds)
+    (few-more n _ at.holds.few) (few-more n _ at.holds.few_lists)
+
+-- a line of a PLL
+pub pll-step : (old : DatabaseState) (plls : Plls) (lines : List (List ℕ)) (n : ℕ) (chip : Chip) (x y : ℕ) (word : List ℕ) (words : List (List ℕ)) (line : PllLine) → At old lines n chip (Pll x y) word words
+    → pll_line_of (word ∷ words) ≡ Some line → AddsPllLine old.plls plls line → Holds (record old { plls = plls }) lines (n + 1)
+pll-step old plls lines n chip x y word words line at is added =
+    let said : Said = record nothing { pll_lines = line ∷ [] } in
+    let says : said_at lines n ≡ said = said-at old lines n chip (Pll x y) word words at ∙ ap (λ l. record nothing { pll_lines = pll_item l }) is in
+    let none : (said_at lines n).choices ≡ [] = ap (λ s. s.choices) says in
+    let one : (said_at lines n).pll_lines ≡ line ∷ [] = ap (λ s. s.pll_lines) says in
+    let over = block-at old lines n chip (Pll x y) word words at in
+    let open_before : IsOpen old.plls lines n x y = subst (OpenHolds old.plls lines n) at.under at.holds.pll_open in
+    let open_after : OpenHolds plls lines (n + 1) old.below = subst (OpenHolds plls lines (n + 1)) (sym at.under) (open-line old.plls plls lines n x y line at.own one open_before added) in
+    let under = at.under in
+    own-step old (record old { plls = plls }) lines n said at.own says at.holds
+    (record { texts = at.holds.ready.texts; nets = at.holds.ready.nets; buffers = at.holds.ready.buffers; below = at.holds.ready.below })
+    (record { names = at.holds.in_range.names; functions = at.holds.in_range.functions; function_bits = at.holds.in_range.function_bits; extras = at.holds.in_range.extras; buffers = at.holds.in_range.buffers; routings = at.holds.in_range.routings })
+    (rw under tt) refl refl (λ net. refl) (sym (append-nil _)) (append-nothing _ _ (buffers_at-nothing lines n none)) (append-nothing _ _ (routings_at-nothing lines n none)) (sym (append-nil _)) (sym (append-nil _)) (sym (append-nil _)) (sym (append-nil _))
+    (plls-line old.plls plls lines n x y line at.own over one at.holds.plls open_before added) open_after
     (few-more n _ at.holds.few) (few-more n _ at.holds.few_lists)
 
 -- ---- names and bits that grow
@@ -193,7 +217,9 @@ function-step old new lines n chip kind word words at pushed =
     (links-kept old.bits new.bits grown.more old.routings.items grown.table range.routings ∙ append-nothing _ _ (routings_at-nothing lines n none))
     listed
     (extras-kept old new.texts pushed.interned.more pushed.interned.grown range ∙ sym (append-nil _))
-    (sym (append-nil _)) (sym (append-nil _)) (omega arith) (omega arith))
+    (sym (append-nil _)) (sym (append-nil _))
+    (plls-kept old lines n said at.own says refl at.holds) (pll_open-kept old lines n said at.own says refl at.holds)
+    (omega arith) (omega arith))
 
 -- a line of extra bits
 pub extra-step : (old new : DatabaseState) (lines : List (List ℕ)) (n : ℕ) (chip : Chip) (word : List ℕ) (words : List (List ℕ)) → At old lines n chip ExtraBits word words
@@ -227,4 +253,6 @@ extra-step old new lines n chip word words at pushed =
     (names-kept old new.texts pushed.interned.more pushed.interned.grown range ∙ sym (append-nil _))
     (append-nothing _ _ (buffers_at-nothing lines n none)) (append-nothing _ _ (routings_at-nothing lines n none))
     (functions-kept old new.texts old.bits pushed.interned.more [] pushed.interned.grown (sym (append-nil old.bits)) range ∙ sym (append-nil _))
-    listed (sym (append-nil _)) (sym (append-nil _)) (omega arith) (few-more n _ at.holds.few_lists))
+    listed (sym (append-nil _)) (sym (append-nil _))
+    (plls-kept old lines n said at.own says refl at.holds) (pll_open-kept old lines n said at.own says refl at.holds)
+    (omega arith) (few-more n _ at.holds.few_lists))

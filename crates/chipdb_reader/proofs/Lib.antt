@@ -14,6 +14,12 @@ pub mod BufferSteps
 pub mod NetSteps
 -- nets after a change
 pub mod NetChanges
+-- PLLs after a change
+pub mod PllChanges
+-- tiles of PLLs in their order
+pub mod PllTiles
+-- PLLs, one line further
+pub mod PllSteps
 -- devices, statements and blocks, one line further
 pub mod BlockSteps
 -- what is kept says the same when more names and more bits are kept

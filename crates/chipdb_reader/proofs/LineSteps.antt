@@ -9,19 +9,19 @@ use Rattle.chipdb_lines.specs.declared.cause.DbCause.TheVariants.{NameTwice}
 use Rattle.chipdb_lines.specs.declared.chip.Chip.{Chip}
 use Rattle.chipdb_lines.specs.declared.links.LinkHead.{LinkHead as KeptHead}
 use Rattle.chipdb_lines.specs.declared.statements.Below.{Below}
-use Rattle.chipdb_lines.specs.declared.statements.Below.TheVariants.{Passed, Device, GlobalInputs, GlobalPins, Functions, ExtraBits, Names, Buffers, Routings}
+use Rattle.chipdb_lines.specs.declared.statements.Below.TheVariants.{Passed, Device, GlobalInputs, GlobalPins, Functions, ExtraBits, Names, Buffers, Routings, Pll}
 use Rattle.chipdb_lines.specs.Words.{is_statement}
 use Rattle.chipdb_lines.specs.Statements.{Block}
-use Rattle.chipdb_lines.specs.Items.{choice_of}
+use Rattle.chipdb_lines.specs.Items.{PllLine, choice_of, pll_line_of}
 use Rattle.chipdb_reader.specs.declared.reading.DatabaseState.{DatabaseState}
 use Rattle.chipdb_reader.specs.Blocks.{chip_before, block_over, own_words_at}
-use Rattle.chipdb_reader.specs.Database.{nothing, said_at, said_by}
+use Rattle.chipdb_reader.specs.Database.{nothing, pll_item, said_at, said_by}
 use Rattle.chipdb_reader.specs.Faults.{cause_at, cause_if, choice_cause, name_cause, own_cause}
-use Rattle.chipdb_reader.specs.Reading.{IsReady, IsHeadOf, IsBelowReady, TakesItem, TakesWords, TakesLine, RefusesItem, RefusesWords, RefusesLine, NameRefusal, BufferRefusal, name_own, name_twice, buffer_own, buffer_twice}
+use Rattle.chipdb_reader.specs.Reading.{IsReady, IsHeadOf, IsBelowReady, TakesItem, TakesPllLine, TakesWords, TakesLine, RefusesItem, RefusesWords, RefusesLine, NameRefusal, BufferRefusal, name_own, name_twice, buffer_own, buffer_twice}
 use Rattle.chipdb_reader.proofs.Grown.{length-bits_named}
 use Rattle.chipdb_reader.specs.Holds.{Holds}
 use Rattle.chipdb_reader.proofs.Holds.{nothing-step}
-use Rattle.chipdb_reader.proofs.ItemSteps.{At, said-at, cause-at, input-step, pin-step, function-step, extra-step}
+use Rattle.chipdb_reader.proofs.ItemSteps.{At, said-at, cause-at, input-step, pin-step, function-step, extra-step, pll-step}
 use Rattle.chipdb_reader.proofs.LinkSteps.{routing-step, buffer-step, buffer-cause_is}
 use Rattle.chipdb_reader.proofs.NameSteps.{name-step, name-cause}
 use Rattle.chipdb_reader.proofs.StatementSteps.{statement-step, statement-accepted, statement-refused}
@@ -70,6 +70,20 @@ taken-wordless old lines n lt own_line holds none = record {
 
 -- ---- lines with words
 
+-- a line of a PLL, or none
+taken-pll_line : (old new : DatabaseState) (lines : List (List ℕ)) (n : ℕ) (chip : Chip) (x y : ℕ) (word : List ℕ) (words : List (List ℕ)) (line : Option PllLine) → At old lines n chip (Pll x y) word words
+    → pll_line_of (word ∷ words) ≡ line → TakesPllLine old line new → Taken new lines n
+taken-pll_line old new lines n chip x y word words None at is same =
+    subst (λ r. Taken r lines n) (sym same) (record {
+      holds = nothing-step old lines n at.own (said-at old lines n chip (Pll x y) word words at ∙ ap (λ l. record nothing { pll_lines = pll_item l }) is) at.holds;
+      sound = cause-at old lines n chip (Pll x y) word words at;
+    })
+taken-pll_line old new lines n chip x y word words (Some line) at is taken =
+    subst (λ r. Taken r lines n) (sym taken.1) (record {
+      holds = pll-step old new.plls lines n chip x y word words line at is taken.0;
+      sound = cause-at old lines n chip (Pll x y) word words at;
+    })
+
 list-of : (old : DatabaseState) (below : Below) → IsReady old → old.below ≡ below → IsBelowReady old.bits old.nets.last below
 list-of old below ready under = subst (IsBelowReady old.bits old.nets.last) under ready.below
 
@@ -115,6 +129,7 @@ taken-item old new lines n chip (Routings head) word words at taken =
       sound = cause-at old lines n chip (Routings head) word words at
           ∙ ap (λ count. result_err (choice_of chip.nets count (word ∷ words))) (length-bits_named old.bits head is) ∙ ap result_err taken.0.chosen.says;
     })
+taken-item old new lines n chip (Pll x y) word words at taken = taken-pll_line old new lines n chip x y word words (pll_line_of (word ∷ words)) at refl taken
 
 taken-words : (old new : DatabaseState) (lines : List (List ℕ)) (n : ℕ) (chip : Option Chip) (words : List (List ℕ)) → n < length lines → is_statement (line_at lines n) ≡ false → Holds old lines n → old.chip ≡ chip → own_words_at lines n ≡ words
     → TakesWords old chip words new → Taken new lines n
@@ -164,6 +179,7 @@ refused-item old lines n chip (Buffers head) word words cause at told =
 refused-item old lines n chip (Routings head) word words cause at told =
     cause-at old lines n chip (Routings head) word words at
     ∙ ap (λ count. result_err (choice_of chip.nets count (word ∷ words))) (length-bits_named old.bits head (list-of old (Routings head) at.holds.ready at.under)) ∙ told
+refused-item old lines n chip (Pll x y) word words cause at none = absurd none
 
 refused-words : (old : DatabaseState) (lines : List (List ℕ)) (n : ℕ) (chip : Option Chip) (words : List (List ℕ)) (cause : DbCause) → n < length lines → is_statement (line_at lines n) ≡ false → Holds old lines n → old.chip ≡ chip → own_words_at lines n ≡ words
     → RefusesWords old chip words cause → cause_at lines n ≡ Some cause

@@ -36,7 +36,7 @@ use Rattle.std.proofs.lemmas.List.Folds.{list_any-append}
 use Rattle.index_search.specs.Places.{or_else}
 use Rattle.chipdb_reader.proofs.Grown.{length-bits_named, link-in}
 use Rattle.chipdb_reader.specs.Holds.{Holds, ChoicesHold, LastHolds, IsLastLine, kept_choice, last_lines}
-use Rattle.chipdb_reader.proofs.Holds.{chosen-own, own-step}
+use Rattle.chipdb_reader.proofs.Holds.{chosen-own, own-step, plls-kept, pll_open-kept}
 use Rattle.chipdb_reader.proofs.ItemSteps.{At, block-at, said-at, cause-at, few-more}
 use Rattle.chipdb_reader.proofs.Searches.{lookup-push}
 
@@ -116,6 +116,7 @@ routing-step old lines_kept lines n chip head word words at is pushed =
     (record { texts = at.holds.ready.texts; nets = at.holds.ready.nets; buffers = at.holds.ready.buffers; below = at.holds.ready.below })
     (record { names = range.names; functions = range.functions; function_bits = range.function_bits; extras = range.extras; buffers = range.buffers; routings = lists })
     (rw under tt) refl refl (λ net. refl) (sym (append-nil _)) (append-nothing _ _ none) added (sym (append-nil _)) (sym (append-nil _)) (sym (append-nil _)) (sym (append-nil _))
+    (plls-kept old lines n said at.own says refl at.holds) (pll_open-kept old lines n said at.own says refl at.holds)
     (few-more n _ at.holds.few) (few-more n _ at.holds.few_lists)
 
 -- ---- buffers
@@ -385,7 +386,8 @@ pub buffer-step : (old new : DatabaseState) (lines : List (List ℕ)) (n : ℕ) 
     → IsHeadOf old.bits head → PushesBuffer chip.nets head (word ∷ words) old new → Holds new lines (n + 1)
 buffer-step old new lines n chip head word words at is pushed =
     let choice = pushed.choice in
-    let says = buffer-said old lines n chip head word words choice at is pushed.chosen in
+    let said : Said = record nothing { choices = choice_named head.count choice ∷ [] } in
+    let says : said_at lines n ≡ said = buffer-said old lines n chip head word words choice at is pushed.chosen in
     let grown = grows old new lines n chip head word words choice (chosen_src old.buffers choice.values) at is pushed.chosen pushed.added refl pushed.fits in
     let over = block-at old lines n chip (Buffers head) word words at in
     let none : routings_at lines n ≡ [] = no_routing old lines n head over in
@@ -394,9 +396,10 @@ buffer-step old new lines n chip head word words at is pushed =
     let last : ChoicesHold (record old { buffers = new.buffers }) lines (n + 1) (Buffers head) =
     record { own = λ k d lt. let o = grown.last.own k d lt in record { bits = o.bits; small = o.small; chosen = o.chosen }; seen = grown.last.seen } in
     subst (λ r. Holds r lines (n + 1)) (sym pushed.rest)
-    (own-step old (record old { buffers = new.buffers }) lines n (record nothing { choices = choice_named head.count choice ∷ [] }) at.own says at.holds
+    (own-step old (record old { buffers = new.buffers }) lines n said at.own says at.holds
     (record { texts = at.holds.ready.texts; nets = at.holds.ready.nets; buffers = pushed.added.indexed; below = at.holds.ready.below })
     (record { names = range.names; functions = range.functions; function_bits = range.function_bits; extras = range.extras; buffers = grown.lists; routings = range.routings })
     (subst (ChoicesHold (record old { buffers = new.buffers }) lines (n + 1)) (sym under) last)
     refl refl (λ net. refl) (sym (append-nil _)) grown.links (append-nothing _ _ none) (sym (append-nil _)) (sym (append-nil _)) (sym (append-nil _)) (sym (append-nil _))
+    (plls-kept old lines n said at.own says refl at.holds) (pll_open-kept old lines n said at.own says refl at.holds)
     (few-more n _ at.holds.few) (few-more n _ at.holds.few_lists))

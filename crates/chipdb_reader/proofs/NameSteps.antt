@@ -26,7 +26,7 @@ use Rattle.chipdb_reader.specs.Texts.{Interns, text_at}
 use Rattle.chipdb_reader.specs.Reading.{PushesName}
 use Rattle.chipdb_reader.proofs.Grown.{text-grown}
 use Rattle.chipdb_reader.specs.Holds.{Holds}
-use Rattle.chipdb_reader.proofs.Holds.{own-step, buffers_at-nothing, routings_at-nothing}
+use Rattle.chipdb_reader.proofs.Holds.{own-step, buffers_at-nothing, routings_at-nothing, plls-kept, pll_open-kept}
 use Rattle.chipdb_reader.proofs.ItemSteps.{At, said-at, cause-at, interned-counts, in_range-grown, names-kept, extras-kept, functions-kept, few-more}
 use Rattle.chipdb_reader.proofs.Searches.{bytes_eq-same}
 use Rattle.chipdb_reader.proofs.TextSteps.{text-found}
@@ -145,4 +145,6 @@ name-step old new lines n chip net word words at pushed =
     (append-nothing _ _ (buffers_at-nothing lines n none)) (append-nothing _ _ (routings_at-nothing lines n none))
     (functions-kept old new.texts old.bits pushed.interned.more [] pushed.interned.grown (sym (append-nil old.bits)) range ∙ sym (append-nil _))
     (extras-kept old new.texts pushed.interned.more pushed.interned.grown range ∙ sym (append-nil _))
-    (sym (append-nil _)) (sym (append-nil _)) (omega arith) (few-more n _ at.holds.few_lists))
+    (sym (append-nil _)) (sym (append-nil _))
+    (plls-kept old lines n said at.own says refl at.holds) (pll_open-kept old lines n said at.own says refl at.holds)
+    (omega arith) (few-more n _ at.holds.few_lists))

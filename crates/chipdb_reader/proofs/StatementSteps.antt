@@ -15,26 +15,29 @@ use Rattle.chipdb_lines.specs.declared.cause.DbCause.{DbCause}
 use Rattle.chipdb_lines.specs.declared.cause.DbCause.TheVariants.{NetTwice}
 use Rattle.chipdb_lines.specs.declared.chip.Chip.{Chip}
 use Rattle.chipdb_lines.specs.declared.statements.Below.{Below}
-use Rattle.chipdb_lines.specs.declared.statements.Below.TheVariants.{Passed, Device, GlobalInputs, GlobalPins, Functions, ExtraBits, Names, Buffers, Routings}
+use Rattle.chipdb_lines.specs.declared.statements.Below.TheVariants.{Passed, Device, GlobalInputs, GlobalPins, Functions, ExtraBits, Names, Buffers, Routings, Pll}
 use Rattle.chipdb_lines.specs.Words.{is_statement, own_words, words_in}
-use Rattle.chipdb_lines.specs.Statements.{Block, statement_of}
+use Rattle.chipdb_lines.specs.Statements.{Block, pll, statement_of}
 use Rattle.chipdb_lines.specs.Items.{LinkChoice}
 use Rattle.chipdb_lines.specs.Kept.{block_named, AddsBelow}
 use Rattle.chipdb_reader.specs.declared.nets.Nets.{Nets}
+use Rattle.chipdb_reader.specs.declared.plls.Plls.{Plls}
 use Rattle.chipdb_reader.specs.declared.buffers.Buffers.{Buffers as KeptBuffers}
 use Rattle.chipdb_reader.specs.declared.reading.DatabaseState.{DatabaseState}
 use Rattle.chipdb_reader.specs.Blocks.{chip_in, statement_at, own_words_at}
 use Rattle.chipdb_reader.specs.Buffers.{BeginsBuffers}
-use Rattle.chipdb_reader.specs.Database.{nothing, said_at, any_since, is_chosen_before, buffers_at, routings_at}
+use Rattle.chipdb_reader.specs.Database.{nothing, said_at, any_since, begun_at, is_chosen_before, buffers_at, routings_at, tile_in}
 use Rattle.chipdb_reader.specs.Faults.{cause_at, cause_if, is_net, is_net_before, net_in, statement_cause}
 use Rattle.chipdb_reader.specs.Kept.{name_lines, link_lines}
 use Rattle.chipdb_reader.specs.Nets.{IsNetIndex, has_net, net_names}
+use Rattle.chipdb_reader.specs.Plls.{OpenHolds, PllsHold}
 use Rattle.chipdb_reader.specs.Reading.{IsBelowReady, ChangesAt, begin_cause, TakesStatement, StatementRefusal, statement_own, statement_twice}
 use Rattle.chipdb_reader.proofs.BlockSteps.{chip-statement, chip-given, over-statement, block-statement, device_of}
 use Rattle.chipdb_reader.proofs.Grown.{below-grown, head-added, Lengthens}
 use Rattle.chipdb_reader.specs.Holds.{Holds, ChoicesHold, last_lines}
 use Rattle.chipdb_reader.proofs.Holds.{list-step, buffers_at-nothing, routings_at-nothing}
 use Rattle.chipdb_reader.proofs.ItemSteps.{in_range-grown, functions-kept, links-kept}
+use Rattle.chipdb_reader.proofs.PllSteps.{begun-statement, plls-begun, plls-statement, pll_open-begun}
 
 -- ---- causes
 
@@ -65,6 +68,7 @@ begin-cause old lines n bits (Functions kind) holds = refl
 begin-cause old lines n bits ExtraBits holds = refl
 begin-cause old lines n bits (Buffers head) holds = refl
 begin-cause old lines n bits (Routings head) holds = refl
+begin-cause old lines n bits (Pll x y) holds = refl
 
 told-own : (lines : List (List ℕ)) (n : ℕ) (said : Result Block DbCause) (cause : DbCause) → result_err said ≡ Some cause → statement_cause lines n said ≡ Some cause
 told-own lines n (Ok block) cause told = absurd cc
@@ -101,7 +105,7 @@ chosen-none lines n test dot =
     ∙ any_below-none (n + 1) (λ k. nat_lt n k && list_any test (said_at lines k).choices) (λ k lt. let before : nat_lt n k ≡ false = le-ltb n k (omega arith) in rw before refl)
 
 -- What a statement changes, with what it says.
-pub record Begun (old : DatabaseState) (lines : List (List ℕ)) (n : ℕ) (bits : List (List RowCol)) (chip : Option Chip) (below : Below) (nets : Nets) (buffers : KeptBuffers) : Type 0 where
+pub record Begun (old : DatabaseState) (lines : List (List ℕ)) (n : ℕ) (bits : List (List RowCol)) (chip : Option Chip) (below : Below) (nets : Nets) (buffers : KeptBuffers) (plls : Plls) : Type 0 where
   pub dot : is_statement (line_at lines n) ≡ true
   pub holds : Holds old lines n
   pub says : statement_of old.chip (words_in (line_at lines n)) ≡ Ok (block_named bits below)
@@ -112,6 +116,14 @@ pub record Begun (old : DatabaseState) (lines : List (List ℕ)) (n : ℕ) (bits
   pub names : net_names nets ≡ net_names old.nets
   pub indexed : IsNetIndex nets
   pub ready : IsBelowReady bits nets.last below
+  pub plls_hold : PllsHold plls lines (n + 1)
+  pub pll_open : OpenHolds plls lines (n + 1) below
+
+-- a statement of no PLL changes none
+plls-passed : (old : DatabaseState) (lines : List (List ℕ)) (n : ℕ) (bits : List (List RowCol)) (below : Below) → is_statement (line_at lines n) ≡ true → Holds old lines n
+    → statement_of old.chip (words_in (line_at lines n)) ≡ Ok (block_named bits below) → tile_in lines n (block_named bits below) ≡ [] → PllsHold old.plls lines (n + 1)
+plls-passed old lines n bits below dot holds says no_tile =
+    plls-statement old.plls lines n (block_named bits below) (begun-statement lines n (block_named bits below) dot (statement-is old lines n holds ∙ says)) no_tile (ap (λ s. s.pll_lines) (nothing-said lines n dot)) holds.plls
 
 choices-begun : (reader : DatabaseState) (lines : List (List ℕ)) (n : ℕ) (below : Below) → is_statement (line_at lines n) ≡ true → last_lines reader ≡ [] → ChoicesHold reader lines (n + 1) below
 choices-begun reader lines n (Buffers head) dot none = record {
@@ -126,11 +138,12 @@ choices-begun reader lines n (Functions kind) dot none = tt
 choices-begun reader lines n ExtraBits dot none = tt
 choices-begun reader lines n (Names net) dot none = tt
 choices-begun reader lines n (Routings head) dot none = tt
+choices-begun reader lines n (Pll x y) dot none = tt
 
-begun-step : (old : DatabaseState) (lines : List (List ℕ)) (n : ℕ) (bits : List (List RowCol)) (chip : Option Chip) (below : Below) (nets : Nets) (buffers : KeptBuffers)
-    → Begun old lines n bits chip below nets buffers → Holds (record old { chip = chip; below = below; bits = bits; nets = nets; buffers = buffers }) lines (n + 1)
+begun-step : (old : DatabaseState) (lines : List (List ℕ)) (n : ℕ) (bits : List (List RowCol)) (chip : Option Chip) (below : Below) (nets : Nets) (buffers : KeptBuffers) (plls : Plls)
+    → Begun old lines n bits chip below nets buffers plls → Holds (record old { chip = chip; below = below; bits = bits; nets = nets; buffers = buffers; plls = plls }) lines (n + 1)
 unfolding is_net_before
-begun-step old lines n bits chip below nets buffers begun =
+begun-step old lines n bits chip below nets buffers plls begun =
     let line = line_at lines n in
     let holds = begun.holds in
     let block = block_named bits below in
@@ -144,7 +157,7 @@ begun-step old lines n bits chip below nets buffers begun =
     let few : length old.texts.arena ≤ n = holds.few in
     let few_lists : length old.bits ≤ n = holds.few_lists in
     let one_list : length bits ≤ length old.bits + 1 = begun.grown.few in
-    let reader : DatabaseState = record old { chip = chip; below = below; bits = bits; nets = nets; buffers = buffers } in
+    let reader : DatabaseState = record old { chip = chip; below = below; bits = bits; nets = nets; buffers = buffers; plls = plls } in
     record {
       ready = record { texts = holds.ready.texts; nets = begun.indexed; buffers = begun.buffers_begin.indexed; below = begun.ready };
       in_range = record {
@@ -168,6 +181,8 @@ begun-step old lines n bits chip below nets buffers begun =
       extras = list-step _ _ [] n (λ k. (said_at lines k).extras) (sym (append-nil _)) holds.extras (ap (λ s. s.extras) said);
       global_inputs = list-step _ _ [] n (λ k. (said_at lines k).global_inputs) (sym (append-nil _)) holds.global_inputs (ap (λ s. s.global_inputs) said);
       global_pins = list-step _ _ [] n (λ k. (said_at lines k).global_pins) (sym (append-nil _)) holds.global_pins (ap (λ s. s.global_pins) said);
+      plls = begun.plls_hold;
+      pll_open = begun.pll_open;
       few = omega arith;
       few_lists = omega arith;
     }
@@ -176,9 +191,10 @@ begun-step old lines n bits chip below nets buffers begun =
 plain-begun : (old : DatabaseState) (lines : List (List ℕ)) (n : ℕ) (bits : List (List RowCol)) (below : Below) (buffers : KeptBuffers)
     → is_statement (line_at lines n) ≡ true → Holds old lines n → statement_of old.chip (words_in (line_at lines n)) ≡ Ok (block_named bits below) → AddsBelow old.bits bits below
     → BeginsBuffers old.buffers buffers → device_of (block_named bits below) ≡ None → net_in (Ok (block_named bits below)) ≡ None → IsBelowReady bits old.nets.last below
+    → tile_in lines n (block_named bits below) ≡ [] → OpenHolds old.plls lines (n + 1) below
     → Holds (record old { below = below; bits = bits; buffers = buffers }) lines (n + 1)
-plain-begun old lines n bits below buffers dot holds says added begin no_device no_net ready =
-    begun-step old lines n bits old.chip below old.nets buffers (record {
+plain-begun old lines n bits below buffers dot holds says added begin no_device no_net ready no_tile pll_open =
+    begun-step old lines n bits old.chip below old.nets buffers old.plls (record {
       dot = dot;
       holds = holds;
       says = says;
@@ -189,13 +205,15 @@ plain-begun old lines n bits below buffers dot holds says added begin no_device 
       names = refl;
       indexed = holds.ready.nets;
       ready = ready;
+      plls_hold = plls-passed old lines n bits below dot holds says no_tile;
+      pll_open = pll_open;
     })
 
 begun-by : (old new : DatabaseState) (lines : List (List ℕ)) (n : ℕ) (bits : List (List RowCol)) (below : Below)
     → is_statement (line_at lines n) ≡ true → Holds old lines n → statement_of old.chip (words_in (line_at lines n)) ≡ Ok (block_named bits below) → AddsBelow old.bits bits below
     → BeginsBuffers old.buffers new.buffers → ChangesAt (record old { bits = bits }) below new → Holds new lines (n + 1)
 begun-by old new lines n bits (Device chip) dot holds says added begin changes =
-    subst (λ r. Holds r lines (n + 1)) (sym changes) (begun-step old lines n bits (or_else old.chip (Some chip)) (Device chip) old.nets new.buffers (record {
+    subst (λ r. Holds r lines (n + 1)) (sym changes) (begun-step old lines n bits (or_else old.chip (Some chip)) (Device chip) old.nets new.buffers old.plls (record {
       dot = dot;
       holds = holds;
       says = says;
@@ -206,9 +224,11 @@ begun-by old new lines n bits (Device chip) dot holds says added begin changes =
       names = refl;
       indexed = holds.ready.nets;
       ready = tt;
+      plls_hold = plls-passed old lines n bits (Device chip) dot holds says refl;
+      pll_open = tt;
     }))
 begun-by old new lines n bits (Names net) dot holds says added begin changes =
-    subst (λ r. Holds r lines (n + 1)) (sym changes.1) (begun-step old lines n bits old.chip (Names net) new.nets new.buffers (record {
+    subst (λ r. Holds r lines (n + 1)) (sym changes.1) (begun-step old lines n bits old.chip (Names net) new.nets new.buffers old.plls (record {
       dot = dot;
       holds = holds;
       says = says;
@@ -219,14 +239,33 @@ begun-by old new lines n bits (Names net) dot holds says added begin changes =
       names = changes.0.names;
       indexed = changes.0.indexed;
       ready = changes.0.last;
+      plls_hold = plls-passed old lines n bits (Names net) dot holds says refl;
+      pll_open = tt;
     }))
-begun-by old new lines n bits Passed dot holds says added begin changes = subst (λ r. Holds r lines (n + 1)) (sym changes) (plain-begun old lines n bits Passed new.buffers dot holds says added begin refl refl tt)
-begun-by old new lines n bits GlobalInputs dot holds says added begin changes = subst (λ r. Holds r lines (n + 1)) (sym changes) (plain-begun old lines n bits GlobalInputs new.buffers dot holds says added begin refl refl tt)
-begun-by old new lines n bits GlobalPins dot holds says added begin changes = subst (λ r. Holds r lines (n + 1)) (sym changes) (plain-begun old lines n bits GlobalPins new.buffers dot holds says added begin refl refl tt)
-begun-by old new lines n bits (Functions kind) dot holds says added begin changes = subst (λ r. Holds r lines (n + 1)) (sym changes) (plain-begun old lines n bits (Functions kind) new.buffers dot holds says added begin refl refl tt)
-begun-by old new lines n bits ExtraBits dot holds says added begin changes = subst (λ r. Holds r lines (n + 1)) (sym changes) (plain-begun old lines n bits ExtraBits new.buffers dot holds says added begin refl refl tt)
-begun-by old new lines n bits (Buffers head) dot holds says added begin changes = subst (λ r. Holds r lines (n + 1)) (sym changes) (plain-begun old lines n bits (Buffers head) new.buffers dot holds says added begin refl refl (head-added old.bits bits head added))
-begun-by old new lines n bits (Routings head) dot holds says added begin changes = subst (λ r. Holds r lines (n + 1)) (sym changes) (plain-begun old lines n bits (Routings head) new.buffers dot holds says added begin refl refl (head-added old.bits bits head added))
+begun-by old new lines n bits (Pll x y) dot holds says added begin changes =
+    let at : begun_at lines n ≡ pll x y = begun-statement lines n (pll x y) dot (statement-is old lines n holds ∙ says) in
+    let none : (said_at lines n).pll_lines ≡ [] = ap (λ s. s.pll_lines) (nothing-said lines n dot) in
+    subst (λ r. Holds r lines (n + 1)) (sym changes.1) (begun-step old lines n bits old.chip (Pll x y) old.nets new.buffers new.plls (record {
+      dot = dot;
+      holds = holds;
+      says = says;
+      grown = below-grown old.bits bits (Pll x y) added;
+      buffers_begin = begin;
+      chip_is = sym (or_else-none old.chip);
+      nets_are = λ net. sym (or-false (has_net old.nets net));
+      names = refl;
+      indexed = holds.ready.nets;
+      ready = tt;
+      plls_hold = plls-begun old.plls new.plls lines n x y at none holds.plls changes.0;
+      pll_open = pll_open-begun old.plls new.plls lines n x y dot at holds.plls changes.0;
+    }))
+begun-by old new lines n bits Passed dot holds says added begin changes = subst (λ r. Holds r lines (n + 1)) (sym changes) (plain-begun old lines n bits Passed new.buffers dot holds says added begin refl refl tt refl tt)
+begun-by old new lines n bits GlobalInputs dot holds says added begin changes = subst (λ r. Holds r lines (n + 1)) (sym changes) (plain-begun old lines n bits GlobalInputs new.buffers dot holds says added begin refl refl tt refl tt)
+begun-by old new lines n bits GlobalPins dot holds says added begin changes = subst (λ r. Holds r lines (n + 1)) (sym changes) (plain-begun old lines n bits GlobalPins new.buffers dot holds says added begin refl refl tt refl tt)
+begun-by old new lines n bits (Functions kind) dot holds says added begin changes = subst (λ r. Holds r lines (n + 1)) (sym changes) (plain-begun old lines n bits (Functions kind) new.buffers dot holds says added begin refl refl tt refl tt)
+begun-by old new lines n bits ExtraBits dot holds says added begin changes = subst (λ r. Holds r lines (n + 1)) (sym changes) (plain-begun old lines n bits ExtraBits new.buffers dot holds says added begin refl refl tt refl tt)
+begun-by old new lines n bits (Buffers head) dot holds says added begin changes = subst (λ r. Holds r lines (n + 1)) (sym changes) (plain-begun old lines n bits (Buffers head) new.buffers dot holds says added begin refl refl (head-added old.bits bits head added) refl tt)
+begun-by old new lines n bits (Routings head) dot holds says added begin changes = subst (λ r. Holds r lines (n + 1)) (sym changes) (plain-begun old lines n bits (Routings head) new.buffers dot holds says added begin refl refl (head-added old.bits bits head added) refl tt)
 
 -- what holds after a statement
 pub statement-step : (old new : DatabaseState) (lines : List (List ℕ)) (n : ℕ) → is_statement (line_at lines n) ≡ true → Holds old lines n → TakesStatement old (line_at lines n) new → Holds new lines (n + 1)

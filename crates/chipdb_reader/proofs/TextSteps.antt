@@ -1,14 +1,12 @@
 -- Names with one more.
-use Rattle.std.proofs.Common.{◌≡◌, ℕ, ◌+◌, ◌-◌, ◌<◌, cond, List, [], ◌∷◌, ◌++◌, length, length-append, refl, sym, ap, ◌∙◌, inl, inr, arith}
+use Rattle.std.proofs.Common.{◌≡◌, ℕ, ◌+◌, ◌-◌, ◌<◌, List, [], ◌∷◌, ◌++◌, length, length-append, refl, sym, ap, ◌∙◌, inl, inr, arith}
 use Rattle.std.specs.Prelude.{Some, None, position, bytes_eq}
-use Rattle.std.specs.Map.{lookup}
 use Rattle.std.proofs.lemmas.Bool.{cases_lt}
 use Rattle.std.proofs.lemmas.List.{get_or_append_left, get_or-append_right}
 use Rattle.std.proofs.lemmas.List.Quantifiers.{position-Some}
 use Rattle.shared_lemmas.proofs.Bytes.{same_bytes}
-use Rattle.index_search.specs.Places.{or_else}
 use Rattle.chipdb_reader.specs.Texts.{text_at}
-use Rattle.chipdb_reader.proofs.Searches.{lookup-push, position-push, bytes_eq-same}
+use Rattle.chipdb_reader.proofs.Searches.{position-push, bytes_eq-same}
 
 -- a new name is found at the end
 pub position-new : (texts : List (List ℕ)) (text : List ℕ) → position (bytes_eq text) texts ≡ None → position (bytes_eq text) (texts ++ text ∷ []) ≡ Some (length texts)

@@ -1,16 +1,17 @@
 -- The definitions at small texts, worked out by hand.
-use Rattle.std.proofs.Common.{◌≡◌, refl}
+use Rattle.std.proofs.Common.{◌≡◌, [], ◌∷◌, refl}
 use Rattle.std.specs.Prelude.{codes, Some, None}
 use Rattle.text_lines.specs.Lines.{lines_of}
 use Rattle.text_lines.specs.Words.{words_of, pieces_of, number_of, numbers_of}
 use Rattle.index_search.specs.Places.{any_below, last_below, first_below, gathered_below}
 use Rattle.plane_map.specs.Layout.{kind_of}
+use Rattle.plane_map.specs.declared.device.DeviceName.TheVariants.{Hx1k}
 use Rattle.chipdb_lines.specs.declared.cause.DbCause.TheVariants.{NoDevice, Device, Number, TileKind, NetRange, NetTwice, NameTwice, BitName, BitRange, CellBits, ValueLength, ValuesTwice}
 use Rattle.chipdb_lines.specs.Words.{own_words, bit_of, bits_of}
-use Rattle.chipdb_lines.specs.Statements.{keyword_of, chip_of_words, tile_bits_of, link_of_words, block_of, statement_of}
-use Rattle.chipdb_lines.specs.Items.{global_input_of, global_pin_of, function_of, extra_of, name_of, choice_of}
+use Rattle.chipdb_lines.specs.Statements.{keyword_of, chip_of_words, tile_bits_of, link_of_words, block_of, extra_cell_of, statement_of}
+use Rattle.chipdb_lines.specs.Items.{global_input_of, global_pin_of, function_of, extra_of, name_of, choice_of, pll_line_of}
 use Rattle.chipdb_reader.specs.Blocks.{chip_in, chip_before, statement_at, statement_over, block_over}
-use Rattle.chipdb_reader.specs.Database.{said_at, is_chosen_before, buffers_at, routings_at, database_of}
+use Rattle.chipdb_reader.specs.Database.{begun_at, by_tile, is_pll_before, is_pll_named_before, pll_line_at, pll_tile_at, said_at, is_chosen_before, buffers_at, routings_at, database_of}
 use Rattle.chipdb_reader.specs.Faults.{is_net_before, is_named_before, cause_at, fault_of_lines, db_fault_of}
 
 -- an empty text has no device
@@ -152,3 +153,15 @@ values_twice = refl
 sound : db_fault_of (codes ".device 1k 14 18 6\n.routing 1 1 1 B0[0]\n1 0\n1 2\n.buffer 1 1 1 B0[0] B1[2]\n10 0\n01 2\n10 0\n\n# x\n.pins\nx y\n.gbufin\n0 7 1\r\n") ≡ None
 unfolding lines_of words_of pieces_of number_of numbers_of any_below last_below first_below gathered_below kind_of own_words bit_of bits_of keyword_of chip_of_words tile_bits_of link_of_words block_of statement_of global_input_of global_pin_of function_of extra_of name_of choice_of chip_in chip_before statement_at statement_over block_over said_at is_chosen_before buffers_at routings_at database_of is_net_before is_named_before cause_at fault_of_lines db_fault_of
 sound = refl
+
+-- PLLs are in the order of their tiles. A second statement of one tile, a second line of one name, lines of another form and statements of
+-- other cells say nothing
+plls : (database_of (record { device = Hx1k; nets = 6 }) (lines_of (codes ".device 1k 14 18 6\n.extra_cell 6 9 PLL\nA 0 3 p\n.extra_cell 7 0 PLL\nB 99 2 q\nB 0 2 r\nLOCKED c\nC x 2 r\n.extra_cell 06 9 PLL\nD 0 3 p\n.extra_cell 0 0 WARMBOOT\nE 0 3 p\n"))).plls
+    ≡ record { x = 7; y = 0; lines = record { name = codes "B"; x = 99; y = 2; word = codes "q" } ∷ [] } ∷ record { x = 6; y = 9; lines = record { name = codes "A"; x = 0; y = 3; word = codes "p" } ∷ [] } ∷ []
+unfolding lines_of words_of pieces_of number_of numbers_of any_below last_below first_below gathered_below kind_of own_words bit_of bits_of keyword_of chip_of_words tile_bits_of link_of_words extra_cell_of block_of statement_of global_input_of global_pin_of function_of extra_of name_of choice_of pll_line_of chip_in chip_before statement_at statement_over block_over said_at is_chosen_before buffers_at routings_at begun_at is_pll_before pll_tile_at by_tile is_pll_named_before pll_line_at database_of
+plls = refl
+
+-- a cell before the device is passed over
+early_cell : db_fault_of (codes ".extra_cell 6 9 PLL\nA 0 3 p\n.device 1k 14 18 6\n.extra_cell 6 x PLL\n.extra_cell\n.extra_cell 6 9 PLL\nA 0 x p\nA") ≡ None
+unfolding lines_of words_of pieces_of number_of numbers_of any_below last_below first_below gathered_below kind_of own_words bit_of bits_of keyword_of chip_of_words tile_bits_of link_of_words extra_cell_of block_of statement_of global_input_of global_pin_of function_of extra_of name_of choice_of pll_line_of chip_in chip_before statement_at statement_over block_over said_at is_chosen_before buffers_at routings_at begun_at is_pll_before pll_tile_at by_tile is_pll_named_before pll_line_at database_of is_net_before is_named_before cause_at fault_of_lines db_fault_of
+early_cell = refl

@@ -8,7 +8,7 @@ use Rattle.chipdb_lines.specs.declared.cause.DbCause.{DbCause}
 use Rattle.chipdb_lines.specs.declared.cause.DbCause.TheVariants.{NoDevice, NetTwice, NameTwice, ValuesTwice}
 use Rattle.chipdb_lines.specs.declared.chip.Chip.{Chip}
 use Rattle.chipdb_lines.specs.Words.{is_statement}
-use Rattle.chipdb_lines.specs.Statements.{Block, passed, of_device, global_inputs, global_pins, functions, extra_bits, names, buffers, routings}
+use Rattle.chipdb_lines.specs.Statements.{Block, passed, of_device, global_inputs, global_pins, functions, extra_bits, names, buffers, routings, pll}
 use Rattle.chipdb_lines.specs.Items.{NameLine, LinkChoice, name_of, function_of, extra_of, global_input_of, global_pin_of, choice_of}
 use Rattle.chipdb_reader.specs.declared.fault.DbFault.{DbFault}
 use Rattle.chipdb_reader.specs.declared.fault.DbFault.TheVariants.{At, Memory}
@@ -69,6 +69,7 @@ item_cause lines n chip extra_bits words = result_err (extra_of chip.device word
 item_cause lines n chip (names net) words = name_cause lines n (name_of chip.device net words)
 item_cause lines n chip (buffers head) words = choice_cause lines n (choice_of chip.nets (length head.bits) words)
 item_cause lines n chip (routings head) words = result_err (choice_of chip.nets (length head.bits) words)
+item_cause lines n chip (pll x y) words = None
 
 -- what is wrong with a line that isn't a statement
 abbrev pub own_cause : List (List ℕ) → ℕ → Option Chip → Block → List (List ℕ) → Option DbCause

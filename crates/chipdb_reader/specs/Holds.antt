@@ -16,6 +16,7 @@ use Rattle.chipdb_reader.specs.Database.{said_at, is_chosen_before, buffers_at, 
 use Rattle.chipdb_reader.specs.Faults.{cause_at, is_net_before}
 use Rattle.chipdb_reader.specs.Kept.{name_lines, link_lines, function_lines, extra_lines}
 use Rattle.chipdb_reader.specs.Nets.{net_names, has_net}
+use Rattle.chipdb_reader.specs.Plls.{OpenHolds, PllsHold}
 use Rattle.chipdb_reader.specs.Reading.{IsReady}
 use Rattle.chipdb_reader.specs.Sound.{IsLinkIn}
 
@@ -65,6 +66,8 @@ pub record Holds (reader : DatabaseState) (lines : List (List ℕ)) (n : ℕ) : 
   pub extras : extra_lines reader.texts.arena reader.extras.items ≡ gathered_below n (λ k. (said_at lines k).extras)
   pub global_inputs : reader.global_inputs.items ≡ gathered_below n (λ k. (said_at lines k).global_inputs)
   pub global_pins : reader.global_pins.items ≡ gathered_below n (λ k. (said_at lines k).global_pins)
+  pub plls : PllsHold reader.plls lines n
+  pub pll_open : OpenHolds reader.plls lines n reader.below
   pub few : length reader.texts.arena ≤ n
   pub few_lists : length reader.bits ≤ n
 

@@ -1,7 +1,8 @@
 -- The fields of a database, and what contracts know of them.
+use Rattle.std.specs.Prelude.{map}
 use Rattle.chipdb_reader.specs.declared.chip_db.ChipDb.TheInside.{Inside}
 use Rattle.chipdb_reader.specs.Fit.{IsFit}
-use Rattle.chipdb_reader.specs.Kept.{Kept, database_in}
+use Rattle.chipdb_reader.specs.Kept.{Kept, database_in, pll_of}
 use Rattle.chipdb_reader.specs.Nets.{net_names}
 use Rattle.chipdb_reader.specs.Sound.{AreIndexed, IsSound}
 
@@ -18,6 +19,7 @@ kept_of db = record {
   extras = db.extras.items;
   global_inputs = db.global_inputs.items;
   global_pins = db.global_pins.items;
+  plls = map pll_of db.plls.items;
 }
 
 -- the kept lists are consistent, and their lines name only what the device has

@@ -4,17 +4,19 @@ use Rattle.plane_map.specs.declared.tile.RowCol.{RowCol}
 use Rattle.chipdb_lines.specs.declared.chip.Chip.{Chip}
 use Rattle.chipdb_lines.specs.declared.globals.GlobalInput.{GlobalInput}
 use Rattle.chipdb_lines.specs.declared.globals.GlobalPin.{GlobalPin}
-use Rattle.chipdb_lines.specs.Items.{NameLine, FunctionLine, ExtraLine}
+use Rattle.chipdb_lines.specs.Items.{NameLine, FunctionLine, ExtraLine, PllLine}
 use Rattle.bit_plane.specs.BitList.{word_bits}
 use Rattle.chipdb_lines.specs.Kept.{bits_named}
 use Rattle.chipdb_reader.specs.declared.items.NetName.{NetName}
 use Rattle.chipdb_reader.specs.declared.items.LinkLine.{LinkLine}
 use Rattle.chipdb_reader.specs.declared.items.Function.{Function}
 use Rattle.chipdb_reader.specs.declared.items.Extra.{Extra}
-use Rattle.chipdb_reader.specs.Database.{Database, Link}
+use Rattle.chipdb_reader.specs.declared.items.PllCell.{PllCell}
+use Rattle.chipdb_reader.specs.declared.items.PllLine.{PllLine as KeptPllLine}
+use Rattle.chipdb_reader.specs.Database.{Database, Link, Pll}
 use Rattle.chipdb_reader.specs.Texts.{text_at}
 
--- what is kept: names and lists of bits by their indexes, and the lines of each kind in the order of the text
+-- what is kept: names and lists of bits by their indexes, the lines of each kind in the order of the text, and the PLLs
 pub record Kept : Type 0 where
   pub chip : Chip
   pub texts : List (List ℕ)
@@ -26,6 +28,7 @@ pub record Kept : Type 0 where
   pub extras : List Extra
   pub global_inputs : List GlobalInput
   pub global_pins : List GlobalPin
+  pub plls : List Pll
 
 -- a name of a net with its bytes
 abbrev pub name_line : List (List ℕ) → NetName × ℕ → NameLine
@@ -62,6 +65,14 @@ extra_line texts extra = record { name = text_at texts extra.name; at = extra.at
 abbrev pub extra_lines : List (List ℕ) → List Extra → List ExtraLine
 extra_lines texts extras = map (extra_line texts) extras
 
+-- a line of a PLL
+abbrev pub pll_line : KeptPllLine → PllLine
+pll_line line = record { name = line.name.items; x = line.x; y = line.y; word = line.word.items }
+
+-- a PLL with its lines
+abbrev pub pll_of : PllCell → Pll
+pll_of cell = record { x = cell.x; y = cell.y; lines = map pll_line cell.lines.items }
+
 -- what a kept database says
 abbrev pub database_in : Kept → Database
 database_in kept = record {
@@ -73,4 +84,5 @@ database_in kept = record {
   extras = extra_lines kept.texts kept.extras;
   global_inputs = kept.global_inputs;
   global_pins = kept.global_pins;
+  plls = kept.plls;
 }

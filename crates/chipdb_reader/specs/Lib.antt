@@ -5,6 +5,7 @@ pub mod Texts
 pub mod Nets
 pub mod Buffers
 pub mod Kept
+pub mod Plls
 pub mod Reading
 pub mod Holds
 pub mod Lookups

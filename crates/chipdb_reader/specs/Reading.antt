@@ -1,8 +1,9 @@
 -- What the reader keeps between the lines of a database, and how a line changes it. Only contracts within this crate use this; `Database`
 -- and `Faults` say what a text means.
 use Rattle.std.specs.Bool.{MatchBool}
-use Rattle.std.specs.Prelude.{◌≡◌, ℕ, ◌<◌, ◌≤◌, true, false, List, [], ◌∷◌, ◌++◌, length, is_some, if◌then◌else◌, Option, Some, None, Result, Ok, Err}
+use Rattle.std.specs.Prelude.{◌≡◌, ℕ, ◌<◌, ◌≤◌, true, false, List, [], ◌∷◌, ◌++◌, length, map, is_some, if◌then◌else◌, Option, Some, None, Result, Ok, Err}
 use Rattle.std.specs.Result.{result_err, MatchResult}
+use Rattle.std.specs.Map.{values_of}
 use Rattle.index_search.specs.Places.{or_else}
 use Rattle.plane_map.specs.declared.device.DeviceName.{DeviceName}
 use Rattle.plane_map.specs.declared.tile.TileKind.{TileKind}
@@ -15,8 +16,8 @@ use Rattle.chipdb_lines.specs.declared.chip.Chip.{Chip}
 use Rattle.chipdb_lines.specs.declared.links.LinkHead.{LinkHead}
 use Rattle.chipdb_lines.specs.declared.links.Choice.{Choice}
 use Rattle.chipdb_lines.specs.declared.statements.Below.{Below}
-use Rattle.chipdb_lines.specs.declared.statements.Below.TheVariants.{Passed, Device, GlobalInputs, GlobalPins, Functions, ExtraBits, Names, Buffers, Routings}
-use Rattle.chipdb_lines.specs.Items.{name_of, function_of, extra_of, global_input_of, global_pin_of, choice_of}
+use Rattle.chipdb_lines.specs.declared.statements.Below.TheVariants.{Passed, Device, GlobalInputs, GlobalPins, Functions, ExtraBits, Names, Buffers, Routings, Pll}
+use Rattle.chipdb_lines.specs.Items.{PllLine, name_of, function_of, extra_of, global_input_of, global_pin_of, choice_of, pll_line_of}
 use Rattle.text_lines.specs.Lines.{lines_of}
 use Rattle.chipdb_lines.specs.Kept.{bits_named, block_named, AddsBelow, AddsList, Chooses}
 use Rattle.chipdb_lines.specs.Statements.{statement_of}
@@ -29,7 +30,8 @@ use Rattle.chipdb_reader.specs.declared.nets.Nets.{Nets}
 use Rattle.chipdb_reader.specs.declared.reading.DatabaseState.{DatabaseState}
 use Rattle.chipdb_reader.specs.declared.fault.DbFault.{DbFault}
 use Rattle.chipdb_reader.specs.declared.fault.DbFault.TheVariants.{At, Memory as OutOfMemory}
-use Rattle.chipdb_reader.specs.Kept.{Kept}
+use Rattle.chipdb_reader.specs.Kept.{Kept, pll_of}
+use Rattle.chipdb_reader.specs.Plls.{AddsPllLine, BeginsPll, all_plls}
 use Rattle.chipdb_reader.specs.Texts.{IsIndexed, Interns}
 use Rattle.chipdb_reader.specs.Nets.{IsNetIndex, BeginsNet, AddsName, has_net, named_net, net_names}
 use Rattle.chipdb_reader.specs.Buffers.{IsChosen, BeginsBuffers, AddsBuffer, buffer_cause}
@@ -105,6 +107,11 @@ pub record PushesExtra (device : DeviceName) (words : List (List ℕ)) (old new 
   pub added : new.extras.items ≡ old.extras.items ++ extra ∷ []
   pub rest : new ≡ record old { texts = new.texts; extras = new.extras }
 
+-- a line of a PLL is taken; words that are none change nothing
+abbrev pub TakesPllLine : DatabaseState → Option PllLine → DatabaseState → Type 0
+TakesPllLine old None new = new ≡ old
+TakesPllLine old (Some line) new = AddsPllLine old.plls new.plls line × (new ≡ record old { plls = new.plls })
+
 -- what the words of a line change
 abbrev pub TakesItem : DatabaseState → Chip → Below → List (List ℕ) → DatabaseState → Type 0
 TakesItem old chip Passed words new = new ≡ old
@@ -116,6 +123,7 @@ TakesItem old chip ExtraBits words new = PushesExtra chip.device words old new
 TakesItem old chip (Names net) words new = PushesName chip.device net words old new
 TakesItem old chip (Buffers head) words new = PushesBuffer chip.nets head words old new
 TakesItem old chip (Routings head) words new = PushesRouting chip.nets head words old.routings.items new.routings.items × (new ≡ record old { routings = new.routings })
+TakesItem old chip (Pll x y) words new = TakesPllLine old (pll_line_of words) new
 
 -- the tile has that name already
 pub record IsNamedTwice (device : DeviceName) (net : ℕ) (words : List (List ℕ)) (old : DatabaseState) : Type 0 where
@@ -154,6 +162,7 @@ RefusesItem old chip ExtraBits words cause = result_err (extra_of chip.device wo
 RefusesItem old chip (Names net) words cause = NameRefusal chip.device net words old cause
 RefusesItem old chip (Buffers head) words cause = BufferRefusal chip.nets head words old cause
 RefusesItem old chip (Routings head) words cause = result_err (choice_of chip.nets head.count words) ≡ Some cause
+RefusesItem old chip (Pll x y) words cause = ⊥
 
 -- the reported cause is one of these; out of memory may come in place of any answer
 abbrev pub ForCause : (DbCause → Type 0) → DbLineRefusal → Type 0
@@ -177,6 +186,7 @@ RefusesWords old (Some chip) (word ∷ words) cause = RefusesItem old chip old.b
 abbrev pub ChangesAt : DatabaseState → Below → DatabaseState → Type 0
 ChangesAt old (Device chip) new = new ≡ record old { chip = or_else old.chip (Some chip); below = Device chip; buffers = new.buffers }
 ChangesAt old (Names net) new = BeginsNet old.nets new.nets net × (new ≡ record old { below = Names net; nets = new.nets; buffers = new.buffers })
+ChangesAt old (Pll x y) new = BeginsPll old.plls new.plls x y × (new ≡ record old { below = Pll x y; buffers = new.buffers; plls = new.plls })
 ChangesAt old below new = new ≡ record old { below = below; buffers = new.buffers }
 
 -- the lines below a statement begin
@@ -248,6 +258,8 @@ pub record IsUnread (reader : DatabaseState) : Type 0 where
   pub extras : reader.extras.items ≡ []
   pub global_inputs : reader.global_inputs.items ≡ []
   pub global_pins : reader.global_pins.items ≡ []
+  pub plls : all_plls reader.plls ≡ []
+  pub no_pll : reader.plls.last ≡ None
 
 -- ---- the end
 
@@ -263,6 +275,7 @@ pub record FitsReader (chip : Chip) (reader : DatabaseState) (kept : Kept) : Typ
   pub extras : kept.extras ≡ reader.extras.items
   pub global_inputs : kept.global_inputs ≡ reader.global_inputs.items
   pub global_pins : kept.global_pins ≡ reader.global_pins.items
+  pub plls : kept.plls ≡ map pll_of (values_of (all_plls reader.plls))
 
 abbrev pub IsOutOfMemory : DbFault → Type 0
 IsOutOfMemory (OutOfMemory e) = Unit {0}

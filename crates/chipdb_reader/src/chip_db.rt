@@ -2,7 +2,7 @@
 ghost use Rattle.std.specs.Prelude.{◌≡◌, IfOk, IfErr};
 
 use crate::fault::DbFault;
-use crate::items::{Extra, Function, LinkLine};
+use crate::items::{Extra, Function, LinkLine, PllCell};
 use crate::nets::Nets;
 use crate::reading::DatabaseState;
 use crate::texts::Texts;
@@ -23,6 +23,7 @@ pub struct ChipDb {
     pub(crate) extras: Vec<Extra>,
     pub(crate) global_inputs: Vec<GlobalInput>,
     pub(crate) global_pins: Vec<GlobalPin>,
+    pub(crate) plls: Vec<PllCell>,
 }
 
 impl Model for ChipDb {
@@ -53,6 +54,7 @@ impl ChipDb {
     {
         let mut nets = reader.nets;
         nets.close()?;
+        let plls = reader.plls.into_cells()?;
         Ok(ChipDb {
             chip,
             texts: reader.texts,
@@ -64,6 +66,7 @@ impl ChipDb {
             extras: reader.extras,
             global_inputs: reader.global_inputs,
             global_pins: reader.global_pins,
+            plls,
         })
     }
 }

@@ -38,6 +38,23 @@ pub struct Extra {
     pub at: Place,
 }
 
+/// The PLL at (x, y), and the first line of each name below its statement, in the order of the text. The place may be outside of the grid.
+#[derive(Debug, Drop)]
+pub struct PllCell {
+    pub x: u32,
+    pub y: u32,
+    pub lines: Vec<PllLine>,
+}
+
+/// A line of a PLL: the name of a part, a place, which may be outside of the grid, and a word that says what the part is there.
+#[derive(Debug, Drop)]
+pub struct PllLine {
+    pub name: Vec<u8>,
+    pub x: u32,
+    pub y: u32,
+    pub word: Vec<u8>,
+}
+
 /// A tile, by its place in the grid.
 #[derive(Clone, Copy, Debug, PartialEq, Eq)]
 pub struct TileXy8 {

@@ -1,17 +1,17 @@
 // Look-ups in a database. They take no memory.
-ghost use Rattle.std.specs.Prelude.{◌≡◌, ◌≤◌, ◌&&◌, ◌==◌, length, position, find};
+ghost use Rattle.std.specs.Prelude.{◌≡◌, ◌≤◌, ◌&&◌, ◌==◌, length, map, position, find};
 ghost use Rattle.std.specs.Option.{option_map};
 ghost use Rattle.chipdb_lines.specs.Kept.{bits_named};
 ghost use Rattle.chipdb_lines.specs.Statements.{is_same_kind};
 ghost use Rattle.chipdb_reader.specs.Fit.{IsFit};
-ghost use Rattle.chipdb_reader.specs.Kept.{database_in, name_lines};
+ghost use Rattle.chipdb_reader.specs.Kept.{database_in, name_lines, pll_of};
 ghost use Rattle.chipdb_reader.specs.Lookups.{extra_place, function_place, input_of, names_of_net, net_at, pad_of};
 ghost use Rattle.chipdb_reader.specs.Nets.{names_with};
 ghost use Rattle.chipdb_reader.specs.Sound.{IsSound};
 ghost use Rattle.chipdb_reader.specs.Texts.{text_at};
 
 use crate::chip_db::ChipDb;
-use crate::items::{Extra, Function, LinkLine, NetName, PinXy, TileXy8};
+use crate::items::{Extra, Function, LinkLine, NetName, PinXy, PllCell, TileXy8};
 use chipdb_lines::{BitList, GlobalInput, GlobalPin};
 use name_arena::NameId;
 use plane_map::{DeviceName, Place, RowCol, TileKind};
@@ -133,6 +133,13 @@ impl ChipDb {
         ensures { result ≡ pad_of g self.now.global_pins }
     {
         first_pin(&self.global_pins, g)
+    }
+
+    /// The PLLs in the order of their tiles, by y and then by x.
+    pub fn plls(&self) -> &[PllCell]
+        ensures { map pll_of result.now ≡ (database_in self.now).plls }
+    {
+        &self.plls
     }
 }
 

@@ -8,11 +8,12 @@ ghost use Rattle.chipdb_lines.specs.Kept.{BeginsWithPair, Reports};
 use crate::buffers::Buffers;
 use crate::items::{Extra, Function, LinkLine, NetName};
 use crate::nets::Nets;
+use crate::plls::Plls;
 use crate::texts::Texts;
 use chipdb_lines::{
     Below, BitTable, Chip, Choice, DbLineRefusal, GlobalInput, GlobalPin, LinkHead, choice_item,
     choice_line, extra_item, function_item, global_input, global_pin, is_statement, name_item,
-    own_words, statement,
+    own_words, pll_item, statement,
 };
 use plane_map::{DeviceName, TileKind};
 use std::alloc::{AllocError, Global};
@@ -31,13 +32,14 @@ pub(crate) struct DatabaseState {
     pub(crate) extras: Vec<Extra>,
     pub(crate) global_inputs: Vec<GlobalInput>,
     pub(crate) global_pins: Vec<GlobalPin>,
+    pub(crate) plls: Plls,
 }
 
 impl DatabaseState {
     ghost use Rattle.chipdb_reader.specs.Nets.{IsNetIndex};
     ghost use Rattle.chipdb_reader.specs.Texts.{IsIndexed};
     ghost use Rattle.chipdb_reader.specs.Buffers.{IsChosen};
-    ghost use Rattle.chipdb_reader.specs.Reading.{BeginsBlock, BufferRefusal, ForCause, IsReady, IsUnread, NameRefusal, PushesBuffer, PushesExtra, PushesFunction, PushesName, RefusesFirst, RefusesItem, RefusesLine, RefusesWords, StatementRefusal, TakesFirst, TakesItem, TakesLine, TakesStatement, TakesWords, begin_cause};
+    ghost use Rattle.chipdb_reader.specs.Reading.{BeginsBlock, BufferRefusal, ForCause, IsReady, IsUnread, NameRefusal, PushesBuffer, PushesExtra, PushesFunction, PushesName, RefusesFirst, RefusesItem, RefusesLine, RefusesWords, StatementRefusal, TakesFirst, TakesItem, TakesLine, TakesPllLine, TakesStatement, TakesWords, begin_cause};
 
     /// A reader that has read no line. It takes no memory yet.
     pub(crate) fn new(alloc: Global) -> DatabaseState
@@ -55,6 +57,7 @@ impl DatabaseState {
             extras: Vec::new(alloc),
             global_inputs: Vec::new(alloc),
             global_pins: Vec::new(alloc),
+            plls: Plls::new(alloc),
         }
     }
 
@@ -160,6 +163,7 @@ impl DatabaseState {
                 Ok(())
             }
             Below::Names(net) => self.nets.begin(net),
+            Below::Pll(x, y) => begin_pll(&mut self.plls, x, y),
             _ => Ok(()),
         }
     }
@@ -196,6 +200,21 @@ impl DatabaseState {
             Below::Names(net) => self.accept_name(chip.device, net, words),
             Below::Buffers(head) => self.accept_buffer(chip.nets, head, words),
             Below::Routings(head) => push_routing(&mut self.routings, chip.nets, head, words),
+            Below::Pll(_, _) => self.accept_pll_line(words),
+        }
+    }
+
+    /// Takes a line of a PLL. A line of another form is skipped.
+    fn accept_pll_line(&mut self, words: &[u8]) -> Result<(), DbLineRefusal>
+        ensures taken { IfOk result (λ _. TakesPllLine self.old (pll_line_of (words_in words.now)) self.new) }
+        ensures refused { IfErr result (Reports None) }
+    {
+        match pll_item(words) {
+            None => Ok(()),
+            Some(item) => match self.plls.add(item) {
+                Ok(()) => Ok(()),
+                Err(e) => Err(DbLineRefusal::Memory(e)),
+            },
         }
     }
 
@@ -289,7 +308,8 @@ impl DatabaseState {
 
 ghost use Rattle.std.specs.Prelude.{Some};
 ghost use Rattle.index_search.specs.Places.{or_else};
-ghost use Rattle.chipdb_lines.specs.Items.{extra_of, function_of};
+ghost use Rattle.chipdb_lines.specs.Items.{extra_of, function_of, pll_line_of};
+ghost use Rattle.chipdb_reader.specs.Plls.{BeginsPll};
 ghost use Rattle.chipdb_reader.specs.Reading.{Pushes, PushesRouting, link_with};
 
 /// The device that was given before, or this one if none was.
@@ -300,6 +320,15 @@ fn first_chip(earlier: Option<Chip>, chip: Chip) -> Option<Chip>
         Some(earlier) => Some(earlier),
         None => Some(chip),
     }
+}
+
+/// Begins the lines of the PLL at (x, y).
+fn begin_pll(plls: &mut Plls, x: u32, y: u32) -> Result<(), DbLineRefusal>
+    ensures begun { IfOk result (λ _. BeginsPll plls.old plls.new x y) }
+    ensures refused { IfErr result (Reports None) }
+{
+    plls.begin(x, y)?;
+    Ok(())
 }
 
 /// The link that a line of a statement gives.

@@ -104,6 +104,7 @@ database_a = record {
   extras = [];
   global_inputs = [];
   global_pins = [];
+  plls = [];
 }
 
 -- ---- the same with a clock
@@ -142,6 +143,7 @@ database_c = record database_b {
   extras = record { name = codes "padin_glb_netwk.2"; at = record { bank = 0; px = 330; py = 143 } } ∷ [];
   global_inputs = record { x = 0; y = 7; global = 2 } ∷ [];
   global_pins = record { x = 0; y = 1; pad = 0; global = 2 } ∷ [];
+  plls = [];
 }
 
 -- ---- the second, with a reset that comes from the register itself

@@ -68,6 +68,7 @@ few-in line = by_case (is_statement line) (keyword_of (get_or (words_in line) 0 
     by_word (Some keyword.Net) = tt
     by_word (Some keyword.Buffer) = tt
     by_word (Some keyword.Routing) = tt
+    by_word (Some keyword.ExtraCell) = tt
 
     by_case : (states : Bool) (word : Option Keyword) → IfSome (if states then chip_by word (drop 1 (words_in line)) else None) HasFew
     by_case true word = by_word word

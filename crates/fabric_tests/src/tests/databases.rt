@@ -2,7 +2,8 @@
 ghost use Rattle.std.specs.Prelude.{◌<◌, ◌^◌};
 
 use chipdb_reader::{
-    ChipDb, DbCause, DbFault, PinXy, SourceDbFault, TileXy8, read, read_file, read_from,
+    ChipDb, DbCause, DbFault, PinXy, PllCell, PllLine, SourceDbFault, TileXy8, read, read_file,
+    read_from,
 };
 use ice_io::{MemFiles, MemSource, NamedFile};
 use plane_map::{DeviceName, Place, RowCol, TileKind};
@@ -29,6 +30,26 @@ padin 1 0 0
 .routing 1 1 0 B0[0] B1[2]
 11 1
 11 1
+";
+
+/// PLLs that aren't in the order of their tiles, one of them twice, and lines of other forms.
+const PLLS: &[u8] = b".extra_cell 1 1 PLL
+A 1 1 early
+.device 1k 14 18 6
+.extra_cell 6 17 PLL
+PLLTYPE_0 0 3 PLLCONFIG_5
+LOCKED cb81 vq100
+.extra_cell 99 0 PLL
+PLLOUT_A\t6 0  1
+LOCK 1 x neigh_op_bnl_1
+PLLOUT_A 7 0 0
+LOCK 100000000 1 neigh_op_bnl_1
+.extra_cell 06 17 PLL
+PLLTYPE_1 0 4 PLLCONFIG_1
+.extra_cell 0 0 WARMBOOT
+BOOT 0 0 wire
+.extra_cell 1 PLL
+A 0 0 b
 ";
 
 /// What a text says, if it isn't too long.
@@ -97,10 +118,47 @@ fn has_links(db: &ChipDb) -> bool {
     }
 }
 
+/// Whether a line of a PLL has that name, place and word.
+fn is_line(line: &PllLine, name: &[u8], x: u32, y: u32, word: &[u8]) -> bool {
+    line.name.as_slice() == name && line.x == x && line.y == y && line.word.as_slice() == word
+}
+
+/// Whether the first PLL has the first line of each name.
+fn has_first_pll(cell: &PllCell) -> bool {
+    match cell.lines.as_slice() {
+        [out, lock] => {
+            cell.x == 99
+                && cell.y == 0
+                && is_line(out, b"PLLOUT_A", 6, 0, b"1")
+                && is_line(lock, b"LOCK", 100_000_000, 1, b"neigh_op_bnl_1")
+        }
+        _ => false,
+    }
+}
+
+/// Whether the second PLL has the lines of its first statement alone.
+fn has_second_pll(cell: &PllCell) -> bool {
+    match cell.lines.as_slice() {
+        [line] => {
+            cell.x == 6 && cell.y == 17 && is_line(line, b"PLLTYPE_0", 0, 3, b"PLLCONFIG_5")
+        }
+        _ => false,
+    }
+}
+
+/// Whether the PLLs are in the order of their tiles.
+fn has_plls(db: &ChipDb) -> bool {
+    match db.plls() {
+        [first, second] => has_first_pll(first) && has_second_pll(second),
+        _ => false,
+    }
+}
+
 #[test]
 fn looks_up_what_it_read(rt: HostRuntime) {
     assert!(rt; small_is_read(rt.alloc()) == Ok(true));
     assert!(rt; other_is_read(rt.alloc()) == Ok(true));
+    assert!(rt; plls_are_read(rt.alloc()) == Ok(true));
 }
 
 fn small_is_read(alloc: Global) -> Result<bool, DbFault> {
@@ -111,6 +169,11 @@ fn small_is_read(alloc: Global) -> Result<bool, DbFault> {
 fn other_is_read(alloc: Global) -> Result<bool, DbFault> {
     let db = read_short(alloc, OTHER)?;
     Ok(has_firsts(&db) && has_links(&db))
+}
+
+fn plls_are_read(alloc: Global) -> Result<bool, DbFault> {
+    let db = read_short(alloc, PLLS)?;
+    Ok(has_plls(&db))
 }
 
 /// The small database, from a source that gives one byte a call; the listed reads fail.

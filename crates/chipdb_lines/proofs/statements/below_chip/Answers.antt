@@ -33,3 +33,6 @@ returns-in-TileBits-clause-added c = c.functions.ensures.added c.args.bits.now
 
 pub returns-in-Net-clause-added : goal.returns-in-Net-clause-added
 returns-in-Net-clause-added c = c.net.ensures.added c.args.bits.now
+
+pub returns-in-ExtraCell-clause-added : goal.returns-in-ExtraCell-clause-added
+returns-in-ExtraCell-clause-added c = c.extra_cell.ensures.added c.args.bits.now

@@ -1,11 +1,10 @@
-use Rattle.std.proofs.Common.{[], sym, ◌∙◌, ap}
-use Rattle.std.specs.Prelude.{Ok, Err}
+use Rattle.std.proofs.Common.{[]}
 use Rattle.chipdb_reader.specs.Faults.{DbMeans, Tells, db_fault_of}
 use Rattle.chipdb_reader.specs.Feeding.{StandsFor}
 use Rattle.chipdb_reader.specs.Kept.{database_in}
 use Rattle.ice_io.specs.Files.{HasFile}
 use Rattle.chipdb_reader.proofs.Outcomes.{err-at, ok-at}
-use Rattle.chipdb_reader.proofs.Sources.{answered-failed, answered-long, answered-means, answered-refused, untaken-db, untaken-failed, untaken-long}
+use Rattle.chipdb_reader.proofs.Sources.{answered-failed, answered-long, answered-means, answered-refused, untaken-db}
 use Rattle.chipdb_reader.proofs.source.read_file.Goals as goal
 
 pub returns-in-Ok-clause-means : goal.returns-in-Ok-clause-means

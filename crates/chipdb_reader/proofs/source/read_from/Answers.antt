@@ -1,5 +1,5 @@
 use Rattle.std.proofs.Common.{◌≡◌, [], sym, ◌∙◌, ap}
-use Rattle.std.specs.Prelude.{Ok, Err}
+use Rattle.std.specs.Prelude.{Err}
 use Rattle.ice_io.specs.declared.source.TakeFault.TheVariants.{TooLong as TooMany}
 use Rattle.chipdb_reader.specs.declared.source.SourceDbFault.TheVariants.{TooLong}
 use Rattle.chipdb_reader.specs.Sources.{untaken}
@@ -8,7 +8,7 @@ use Rattle.chipdb_reader.specs.Feeding.{StandsFor}
 use Rattle.chipdb_reader.specs.Kept.{database_in}
 use Rattle.ice_io.specs.Taken.{TakesAll}
 use Rattle.chipdb_reader.proofs.Outcomes.{err-at, ok-at}
-use Rattle.chipdb_reader.proofs.Sources.{answered-failed, answered-long, answered-means, answered-refused, untaken-db, untaken-failed, untaken-long}
+use Rattle.chipdb_reader.proofs.Sources.{answered-failed, answered-long, answered-means, answered-refused, untaken-db, untaken-long}
 use Rattle.chipdb_reader.proofs.source.read_from.Goals as goal
 
 pub returns-in-Ok-clause-means : goal.returns-in-Ok-clause-means

@@ -1,5 +1,6 @@
 use Rattle.std.proofs.Common.{refl, ap}
-use Rattle.chipdb_reader.specs.Kept.{Kept}
+use Rattle.std.specs.Prelude.{map}
+use Rattle.chipdb_reader.specs.Kept.{Kept, pll_of}
 use Rattle.chipdb_reader.specs.Nets.{net_names}
 use Rattle.chipdb_reader.specs.Reading.{FitsReader}
 use Rattle.chipdb_reader.proofs.chip_db.ChipDb.of.Goals as goal
@@ -20,6 +21,7 @@ invariant_of-result c =
       extras = reader.extras.items;
       global_inputs = reader.global_inputs.items;
       global_pins = reader.global_pins.items;
+      plls = map pll_of c.in_ok-plls.plls.items;
     } in
     let fits : FitsReader c.args.chip reader kept = record {
       chip_is = refl;
@@ -32,6 +34,7 @@ invariant_of-result c =
       extras = refl;
       global_inputs = refl;
       global_pins = refl;
+      plls = ap (map pll_of) c.in_ok-plls.ensures;
     } in
     record {
       indexed = record { texts_indexed = c.requires.ready.texts; nets_indexed = closes.indexed; closed = closes.last };

@@ -1,13 +1,11 @@
 -- Fabrics that are alike: whichever inputs LUTs read, the values of nets, the runs and the clocks are the same.
-use Rattle.std.proofs.Common.{◌≡◌, ℕ, zero, suc, Bool, false, List, [], ◌∷◌, length, map, get_or, replicate, refl, sym, ap, ap₂, ◌∙◌, subst, inl, inr}
-use Rattle.std.specs.Prelude.{filter, find, flat_map, not, ◌==◌, Option, Some, None, if◌then◌else◌}
+use Rattle.std.proofs.Common.{◌≡◌, ℕ, zero, suc, Bool, false, List, [], ◌∷◌, length, map, get_or, replicate, refl, sym, ap, ap₂, ◌∙◌, subst}
+use Rattle.std.specs.Prelude.{filter, flat_map, not, ◌==◌, Option, Some, None, if◌then◌else◌}
 use Rattle.std.specs.List.{AllZip}
-use Rattle.std.proofs.lemmas.Bool.{cases_Bool}
 use Rattle.ice_image.specs.Configuration.{Configuration}
 use Rattle.chipdb_reader.specs.Database.{Database}
 use Rattle.chipdb_reader.specs.Fit.{IsFit}
 use Rattle.fabric_model.specs.declared.cell.LogicCell.{LogicCell}
-use Rattle.fabric_model.specs.declared.pin.Pin.{Pin}
 use Rattle.fabric_model.specs.declared.lut_inputs.LutInputs.{LutInputs}
 use Rattle.fabric_model.specs.declared.lut_inputs.LutInputs.TheVariants as read
 use Rattle.fabric_model.specs.declared.driver.Driver.{Driver}
@@ -18,18 +16,18 @@ use Rattle.fabric_model.specs.declared.register.LutTable.{LutTable}
 use Rattle.fabric_model.specs.Unique.{ExactlyOne}
 use Rattle.fabric_model.specs.Joins.{class_of}
 use Rattle.fabric_model.specs.Cells.{cells_of}
-use Rattle.fabric_model.specs.Pins.{pins_of, is_registered}
+use Rattle.fabric_model.specs.Pins.{pins_of}
 use Rattle.fabric_model.specs.Registers.{table_of, register_of, registers_of, pin_registers_of}
 use Rattle.fabric_model.specs.Fabric.{Fabric, numbered, inputs_of, fabric_with, fabric_of}
-use Rattle.fabric_model.specs.Outputs.{Output, enable_outputs, pin_outputs, outputs_of}
-use Rattle.fabric_model.specs.Drivers.{Rule, Drive, drives_if, drives_by, pin_drives, is_output_register, register_rule, output_rule, back_drives, lut_drives, flip_driver, lout_drives, carry_drives, set_drives, ram_drives, global_drives, buffer_drives, pin_register_driver, drives_of, is_driver_of, drivers_of, is_driven}
-use Rattle.fabric_model.specs.Drivers.Rule.{input, table_entry, register_bit, constant}
-use Rattle.fabric_model.specs.Values.{State, lut_value, settled_bit, value_of, bit_in, is_connected, IsConsistent}
+use Rattle.fabric_model.specs.Outputs.{outputs_of}
+use Rattle.fabric_model.specs.Drivers.{Rule, Drive, drives_if, drives_by, pin_drives, back_drives, lut_drives, flip_driver, lout_drives, carry_drives, set_drives, ram_drives, global_drives, buffer_drives, pin_register_driver, drives_of, is_driver_of, drivers_of, is_driven}
+use Rattle.fabric_model.specs.Drivers.Rule.{table_entry, register_bit}
+use Rattle.fabric_model.specs.Values.{State, signal_value, lut_value, settled_bit, value_of, bit_in, is_connected, IsConsistent}
 use Rattle.fabric_model.specs.Steps.{next_bit, bit_after, words_after, read_after, has_edge, state_after, settled_state, start_state, output_values, Event, Entry, IsEntry, Follows, FollowEach, IsFirst, IsRun}
 use Rattle.fabric_model.specs.Clocks.{ClockEnd, Turn, turn_through, turn_by, turn_of, turn_at, LeadsTo, end_by, end_within, clock_end}
 use Rattle.fabric_model.specs.Clocks.LeadsTo.{ends_here, goes_on}
 use Rattle.fabric_model.specs.Faults.{design_fault}
-use Rattle.fabric_model.proofs.Paired.{pairs-same, pairs-append, pairs-made, pairs-flat_map, pairs-each, pairs-numbered, pairs-give, pairs-length, pairs-any, pairs-filter, pairs-find, pairs-first, pairs-flip}
+use Rattle.fabric_model.proofs.Paired.{pairs-same, pairs-append, pairs-made, pairs-flat_map, pairs-each, pairs-numbered, pairs-give, pairs-length, pairs-any, pairs-filter, pairs-first, pairs-flip}
 use Rattle.fabric_model.proofs.UsedInputs.{read-value}
 use Rattle.fabric_model.proofs.ClockLuts.{read-pass}
 use Rattle.fabric_model.proofs.Within.{fabric-within}
@@ -41,7 +39,8 @@ use Rattle.fabric_model.proofs.Runs.{taken-run, fabric-placed}
 -- two registers differ in their tables alone, and these have the same value
 pub record RegistersAlike (one two : Register) : Type 0 where
   pub rest : record one { table = two.table } ≡ two
-  pub value : (connected : ℕ → Bool) (pins : List Bool) (bit : ℕ → Bool) → lut_value connected pins bit one.table ≡ lut_value connected pins bit two.table
+  pub value : (connected : ℕ → Bool) (state : State) (pins : List Bool) (bit : ℕ → Bool)
+      → lut_value connected state pins bit one.table ≡ lut_value connected state pins bit two.table
 
 -- two rules have the same value, and a clock chain does the same at them
 pub record RulesAlike (one two : Rule) : Type 0 where
@@ -50,11 +49,6 @@ pub record RulesAlike (one two : Rule) : Type 0 where
 
 pub record DrivesAlike (one two : Drive) : Type 0 where
   pub net : one.net ≡ two.net
-  pub rule : RulesAlike one.rule two.rule
-
-pub record OutputsAlike (one two : Output) : Type 0 where
-  pub pin : one.pin ≡ two.pin
-  pub enable : one.enable ≡ two.enable
   pub rule : RulesAlike one.rule two.rule
 
 rule-itself : (rule : Rule) → RulesAlike rule rule
@@ -74,9 +68,10 @@ module _ (one two : Register) (alike : RegistersAlike one two) where
   unfolding settled_bit
   settled_bit-alike connected bit old = register-field (λ r. settled_bit connected bit r old) refl
 
-  next_bit-alike : (connected : ℕ → Bool) (pins : List Bool) (bit : ℕ → Bool) (old : Bool) → next_bit connected pins bit one old ≡ next_bit connected pins bit two old
+  next_bit-alike : (connected : ℕ → Bool) (state : State) (pins : List Bool) (bit : ℕ → Bool) (old : Bool)
+      → next_bit connected state pins bit one old ≡ next_bit connected state pins bit two old
   unfolding next_bit
-  next_bit-alike connected pins bit old = register-field (λ r. next_bit connected pins bit r old) (rw (alike.value connected pins bit) refl)
+  next_bit-alike connected state pins bit old = register-field (λ r. next_bit connected state pins bit r old) (rw (alike.value connected state pins bit) refl)
 
 -- two places among the registers
 abbrev PlacesAlike : ℕ × Register → ℕ × Register → Type 0
@@ -131,7 +126,7 @@ pin_register-kept register table user = refl
 table-alike : (one two : LutInputs) (lc : LogicCell) → RulesAlike (table_entry (table_of one lc)) (table_entry (table_of two lc))
 unfolding value_of
 table-alike one two lc = record {
-  value = λ connected state pins bit. read-value connected pins bit one lc ∙ sym (read-value connected pins bit two lc);
+  value = λ connected state pins bit. read-value connected state pins bit one lc ∙ sym (read-value connected state pins bit two lc);
   turn = λ connected. ap turn_through (read-pass connected lc one ∙ sym (read-pass connected lc two));
 }
 
@@ -141,29 +136,13 @@ module _ (fabric : Fabric) (inputs : LutInputs) (registers : List Register) (ali
   abbrev other : Fabric
   other = record fabric { lut_inputs = inputs; registers = registers }
 
-  is_output_register-alike : (pin : Pin) (one two : ℕ × Register) → PlacesAlike one two → is_output_register pin one ≡ is_output_register pin two
-  is_output_register-alike pin one two same =
-      register-field one.1 two.1 same.1 (λ r. is_output_register pin (one.0, r)) refl
-
-  output_rule-alike : (pin : Pin) → RulesAlike (output_rule fabric.registers pin) (output_rule registers pin)
-  output_rule-alike pin =
-      let found : RulesAlike (register_rule (find (is_output_register pin) (numbered fabric.registers))) (register_rule (find (is_output_register pin) (numbered registers))) =
-      pairs-find PlacesAlike (is_output_register pin) (is_output_register pin) (is_output_register-alike pin)
-      (λ (one two : Option (ℕ × Register)). RulesAlike (register_rule one) (register_rule two)) (rule-itself (constant false)) register_bit-alike
-      (numbered fabric.registers) (numbered registers) (pairs-numbered RegistersAlike 0 fabric.registers registers alike) in
-      elim (cases_Bool (is_registered pin)) [
-        | inl registered ↦ rw registered found
-        | inr free ↦ rw free (rule-itself (input false pin.dout))
-      ]
-
   drives-alike : AllZip DrivesAlike (drives_of fabric) (drives_of other)
   unfolding drives_of
   drives-alike =
       let join = pairs-append DrivesAlike in
       let same = pairs-same DrivesAlike drive-itself in
       join _ _ _ _ (same (flat_map pin_drives (numbered (inputs_of fabric))))
-      (join _ _ _ _ (pairs-each DrivesAlike (back_drives fabric.registers) (back_drives registers)
-      (λ pin. drives_if-alike _ (output_rule fabric.registers pin) (output_rule registers pin) pin.din (output_rule-alike pin)) (filter (λ pin. pin.back) fabric.pins))
+      (join _ _ _ _ (same (flat_map (back_drives fabric) (filter (λ pin. pin.back) fabric.pins)))
       (join _ _ _ _ (pairs-each DrivesAlike (lut_drives fabric.lut_inputs) (lut_drives inputs)
       (λ lc. drives_if-alike _ _ _ lc.out (table-alike fabric.lut_inputs inputs lc)) (filter (λ lc. not lc.flip) fabric.lcs))
       (join _ _ _ _ (registers-drive flip_driver flip-kept fabric.registers registers alike)
@@ -188,23 +167,15 @@ module _ (fabric : Fabric) (inputs : LutInputs) (registers : List Register) (ali
 
   -- ---- values of nets
 
-  pub outputs-alike : AllZip OutputsAlike (outputs_of fabric) (outputs_of other)
+  pub outputs-alike : outputs_of fabric ≡ outputs_of other
   unfolding outputs_of
-  outputs-alike =
-      pairs-each OutputsAlike (pin_outputs fabric.registers) (pin_outputs registers)
-      (λ pin. (
-        record { pin = refl; enable = refl; rule = output_rule-alike pin },
-        pairs-same OutputsAlike (λ output. record { pin = refl; enable = refl; rule = rule-itself output.rule }) (enable_outputs pin),
-      ))
-      (filter (λ pin. pin.output) fabric.pins)
+  outputs-alike = refl
 
   output_values-alike : (state : State) (pins v : List Bool) → output_values fabric state pins v ≡ output_values other state pins v
   unfolding output_values
   output_values-alike state pins v =
-      pairs-give OutputsAlike
-      (λ output. value_of (is_connected fabric) state pins (bit_in v) output.rule) (λ output. value_of (is_connected other) state pins (bit_in v) output.rule)
-      (λ one two same. same.rule.value (is_connected fabric) state pins (bit_in v) ∙ ap (λ connected. value_of connected state pins (bit_in v) two.rule) connected-alike)
-      (outputs_of fabric) (outputs_of other) outputs-alike
+      ap (map (λ output. signal_value (is_connected fabric) state pins (bit_in v) output.source)) outputs-alike
+      ∙ ap (λ connected. map (λ output. signal_value connected state pins (bit_in v) output.source) (outputs_of other)) connected-alike
 
   -- a list of values that is consistent with the one is consistent with the other
   consistent-other : (state : State) (pins v : List Bool) → IsConsistent fabric state pins v → IsConsistent other state pins v
@@ -249,16 +220,17 @@ module _ (fabric : Fabric) (inputs : LutInputs) (registers : List Register) (ali
       ∙ ap (λ connected. settled_bit connected bit two.1 (get_or state.bits two.0 false)) connected-alike)
       (numbered fabric.registers) (numbered registers) (pairs-numbered RegistersAlike 0 fabric.registers registers alike))
 
-  bit_after-alike : (pins : List Bool) (before after : ℕ → Bool) (bits : List Bool) (one two : ℕ × Register) → PlacesAlike one two
-      → bit_after (is_connected fabric) pins before after bits one ≡ bit_after (is_connected other) pins before after bits two
-  bit_after-alike pins before after bits one two same =
+  bit_after-alike : (pins : List Bool) (before after : ℕ → Bool) (state : State) (one two : ℕ × Register) → PlacesAlike one two
+      → bit_after (is_connected fabric) pins before after state one ≡ bit_after (is_connected other) pins before after state two
+  bit_after-alike pins before after state one two same =
+      let bits = state.bits in
       let edge : has_edge one.1.neg one.1.clk before after ≡ has_edge two.1.neg two.1.clk before after =
       register-field one.1 two.1 same.1 (λ r. has_edge r.neg r.clk before after) refl in
-      let next = next_bit-alike one.1 two.1 same.1 (is_connected fabric) pins before (get_or bits one.0 false) in
-      ap (λ edge. if edge then next_bit (is_connected fabric) pins before one.1 (get_or bits one.0 false) else get_or bits one.0 false) edge
+      let next = next_bit-alike one.1 two.1 same.1 (is_connected fabric) state pins before (get_or bits one.0 false) in
+      ap (λ edge. if edge then next_bit (is_connected fabric) state pins before one.1 (get_or bits one.0 false) else get_or bits one.0 false) edge
       ∙ ap (λ next. if has_edge two.1.neg two.1.clk before after then next else get_or bits one.0 false) next
-      ∙ ap (λ place. if has_edge two.1.neg two.1.clk before after then next_bit (is_connected fabric) pins before two.1 (get_or bits place false) else get_or bits place false) same.0
-      ∙ ap (λ connected. if has_edge two.1.neg two.1.clk before after then next_bit connected pins before two.1 (get_or bits two.0 false) else get_or bits two.0 false) connected-alike
+      ∙ ap (λ place. if has_edge two.1.neg two.1.clk before after then next_bit (is_connected fabric) state pins before two.1 (get_or bits place false) else get_or bits place false) same.0
+      ∙ ap (λ connected. if has_edge two.1.neg two.1.clk before after then next_bit connected state pins before two.1 (get_or bits two.0 false) else get_or bits two.0 false) connected-alike
 
   abbrev rams_after : State → (ℕ → Bool) → (ℕ → Bool) → List Bool → (ℕ → Bool) → State
   rams_after state before after bits connected = record {
@@ -270,8 +242,8 @@ module _ (fabric : Fabric) (inputs : LutInputs) (registers : List Register) (ali
   state_after-alike : (pins : List Bool) (state : State) (before after : ℕ → Bool) → state_after fabric pins state before after ≡ state_after other pins state before after
   unfolding state_after
   state_after-alike pins state before after =
-      let bits = pairs-give PlacesAlike (bit_after (is_connected fabric) pins before after state.bits) (bit_after (is_connected other) pins before after state.bits)
-      (bit_after-alike pins before after state.bits)
+      let bits = pairs-give PlacesAlike (bit_after (is_connected fabric) pins before after state) (bit_after (is_connected other) pins before after state)
+      (bit_after-alike pins before after state)
       (numbered fabric.registers) (numbered registers) (pairs-numbered RegistersAlike 0 fabric.registers registers alike) in
       ap₂ (rams_after state before after) bits connected-alike
 
@@ -381,11 +353,11 @@ module _ (fabric : Fabric) (inputs : LutInputs) (registers : List Register) (ali
 -- ---- the fabrics of a database and an image
 
 register-itself : (register : Register) → RegistersAlike register register
-register-itself register = record { rest = refl; value = λ connected pins bit. refl }
+register-itself register = record { rest = refl; value = λ connected state pins bit. refl }
 
 register_of-alike : (inputs : LutInputs) (lc : LogicCell) → RegistersAlike (register_of inputs lc) (register_of read.All lc)
 unfolding register_of
-register_of-alike inputs lc = record { rest = refl; value = λ connected pins bit. read-value connected pins bit inputs lc }
+register_of-alike inputs lc = record { rest = refl; value = λ connected state pins bit. read-value connected state pins bit inputs lc }
 
 module _ (inputs : LutInputs) (db : Database) (image : Configuration) where
   pub registers-alike : AllZip RegistersAlike (fabric_with inputs db image).registers (fabric_of db image).registers
@@ -433,9 +405,9 @@ module _ (inputs : LutInputs) (db : Database) (image : Configuration) where
       in-all (λ all. is_driven (fabric_with inputs db image) class ≡ is_driven all class)
       (driven-alike (fabric_with inputs db image) read.All (fabric_of db image).registers registers-alike class)
 
-  pub outputs-with : AllZip OutputsAlike (outputs_of (fabric_with inputs db image)) (outputs_of (fabric_of db image))
+  pub outputs-with : outputs_of (fabric_with inputs db image) ≡ outputs_of (fabric_of db image)
   outputs-with =
-      in-all (λ all. AllZip OutputsAlike (outputs_of (fabric_with inputs db image)) (outputs_of all))
+      in-all (λ all. outputs_of (fabric_with inputs db image) ≡ outputs_of all)
       (outputs-alike (fabric_with inputs db image) read.All (fabric_of db image).registers registers-alike)
 
   -- Where a database and an image aren't refused, whichever inputs their LUTs read, their fabric has exactly one list of values for each

@@ -48,7 +48,7 @@ pub goes-reads-by : (connected : ℕ → Bool) (rule : Rule) (turned : Bool) (ne
 unfolding nets_read
 goes-reads-by connected (pin_bit place) turned net is = absurd cc
 goes-reads-by connected (constant it) turned net is = absurd cc
-goes-reads-by connected (input stated source) turned net is = absurd cc
+goes-reads-by connected (input source) turned net is = absurd cc
 goes-reads-by connected (table_entry table) turned net is = through-reads connected table (pass_of connected table) refl turned net is
 goes-reads-by connected (majority_of a b c) turned net is = absurd cc
 goes-reads-by connected (register_bit place register) turned net is = absurd cc
@@ -193,9 +193,9 @@ module _ (fabric : Fabric) (within : IsWithin fabric) (state : State) (pins v : 
   unfolding value_of
   rule-end (pin_bit place) end turn = let at : at_pin place false ≡ end = cc in subst (λ e. HasEndValue pins e (value (pin_bit place))) at refl
   rule-end (constant it) end turn = at-logic end (value (constant it)) turn
-  rule-end (input stated source) end turn = at-logic end (value (input stated source)) turn
+  rule-end (input source) end turn = at-logic end (value (input source)) turn
   rule-end (table_entry table) end turn =
-      pass-end table (pass_of (is_connected fabric) table) end turn (pass-value (is_connected fabric) pins (bit_in v) table)
+      pass-end table (pass_of (is_connected fabric) table) end turn (pass-value (is_connected fabric) state pins (bit_in v) table)
   rule-end (majority_of a b c) end turn = at-logic end (value (majority_of a b c)) turn
   rule-end (register_bit place register) end turn = at-logic end (value (register_bit place register)) turn
   rule-end (read_bit ram place) end turn = at-logic end (value (read_bit ram place)) turn
@@ -215,9 +215,9 @@ module _ (fabric : Fabric) (within : IsWithin fabric) (state : State) (pins v : 
   unfolding value_of
   rule-goes (pin_bit place) turned net turn = absurd cc
   rule-goes (constant it) turned net turn = absurd cc
-  rule-goes (input stated source) turned net turn = absurd cc
+  rule-goes (input source) turned net turn = absurd cc
   rule-goes (table_entry table) turned net turn =
-      pass-goes table (pass_of (is_connected fabric) table) turned net turn (pass-value (is_connected fabric) pins (bit_in v) table)
+      pass-goes table (pass_of (is_connected fabric) table) turned net turn (pass-value (is_connected fabric) state pins (bit_in v) table)
   rule-goes (majority_of a b c) turned net turn = absurd cc
   rule-goes (register_bit place register) turned net turn = absurd cc
   rule-goes (read_bit ram place) turned net turn = absurd cc

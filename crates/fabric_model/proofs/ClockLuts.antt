@@ -10,15 +10,15 @@ use Rattle.index_search.proofs.Found.{any_below-clear}
 use Rattle.fabric_model.specs.declared.cell.LogicCell.{LogicCell}
 use Rattle.fabric_model.specs.declared.lut_inputs.LutInputs.{LutInputs}
 use Rattle.fabric_model.specs.declared.lut_inputs.LutInputs.TheVariants as read
-use Rattle.fabric_model.specs.declared.register.LutSource.{LutSource}
-use Rattle.fabric_model.specs.declared.register.LutSource.TheVariants.{Net, Pin as SourcePin}
+use Rattle.fabric_model.specs.declared.signal.Signal.{Signal}
+use Rattle.fabric_model.specs.declared.signal.Signal.TheVariants as signal
 use Rattle.fabric_model.specs.declared.register.LutTable.{LutTable}
 use Rattle.fabric_model.specs.Luts.{entry_of, uses_input, used_input}
 use Rattle.fabric_model.specs.Registers.{table_of}
-use Rattle.fabric_model.specs.Values.{source_value, table_input, entry_number, lut_value}
+use Rattle.fabric_model.specs.Signals.{net_or_0, signal_nets}
+use Rattle.fabric_model.specs.Values.{State, signal_value, table_input, entry_number, lut_value}
 use Rattle.fabric_model.specs.ClockLuts.{LutPass, turned_bit, can_be_1, input_at, is_input_open, is_open, is_open_otherwise, is_at_open, is_held, is_following, pass_along, pass_by, pass_of}
 use Rattle.fabric_model.specs.ClockLuts.LutPass.{holds, follows, mixes}
-use Rattle.fabric_model.specs.Drivers.{source_nets}
 use Rattle.fabric_model.specs.Clocks.{turn_through}
 use Rattle.fabric_model.specs.Clocks.ClockEnd.{at_pin}
 use Rattle.fabric_model.specs.Clocks.Turn.{ends}
@@ -114,12 +114,12 @@ HasPassValue bit (holds it) value = value ≡ it
 HasPassValue bit (follows turned net) value = value ≡ turned_bit turned (bit net)
 HasPassValue bit mixes value = Unit {0}
 
-module _ (connected : ℕ → Bool) (pins : List Bool) (bit : ℕ → Bool) (table : LutTable) where
+module _ (connected : ℕ → Bool) (state : State) (pins : List Bool) (bit : ℕ → Bool) (table : LutTable) where
   abbrev input : ℕ → Bool
-  input k = table_input connected pins bit table k
+  input k = table_input connected state pins bit table k
 
   abbrev taken : ℕ
-  taken = entry_number connected pins bit table
+  taken = entry_number connected state pins bit table
 
   taken-few : taken < 16
   taken-few = number-few (input 0) (input 1) (input 2) (input 3)
@@ -127,17 +127,20 @@ module _ (connected : ℕ → Bool) (pins : List Bool) (bit : ℕ → Bool) (tab
   taken-bits : (input_at 0 taken ≡ input 0) × (input_at 1 taken ≡ input 1) × (input_at 2 taken ≡ input 2) × (input_at 3 taken ≡ input 3)
   taken-bits = number-bits (input 0) (input 1) (input 2) (input 3)
 
-  source-open : (source : LutSource) → (not (source_value connected pins bit source) || can_be_1 connected source) ≡ true
-  source-open (Net None) = refl
-  source-open (Net (Some net)) =
+  source-open : (source : Signal) → (not (signal_value connected state pins bit source) || can_be_1 connected source) ≡ true
+  source-open (signal.Net None true) = refl
+  source-open (signal.Net None false) = refl
+  source-open (signal.Net (Some net) true) = or_right _ true refl
+  source-open (signal.Net (Some net) false) =
       elim (cases_Bool (connected net)) [
         | inl is ↦ or_right _ (connected net) is
         | inr away ↦ rw away refl
       ]
-  source-open (SourcePin place) = or_right _ true refl
+  source-open (signal.Input place) = or_right _ true refl
+  source-open (signal.Register place) = or_right _ true refl
 
   input-open : (k : ℕ) → input_at k taken ≡ input k → is_input_open connected table k taken ≡ true
-  input-open k is = ap (λ b. not b || can_be_1 connected (get_or table.ins k (Net None))) is ∙ source-open (get_or table.ins k (Net None))
+  input-open k is = ap (λ b. not b || can_be_1 connected (get_or table.ins k (net_or_0 None))) is ∙ source-open (get_or table.ins k (net_or_0 None))
 
   -- the entry that is taken can occur
   taken-open : is_open connected table taken ≡ true
@@ -145,23 +148,25 @@ module _ (connected : ℕ → Bool) (pins : List Bool) (bit : ℕ → Bool) (tab
       and_from _ _ (input-open 0 taken-bits.0)
       (and_from _ _ (input-open 1 taken-bits.1) (and_from _ _ (input-open 2 taken-bits.2) (input-open 3 taken-bits.3)))
 
-  value-open : (value : ℕ → Bool) → is_at_open connected table value ≡ true → lut_value connected pins bit table ≡ value taken
+  value-open : (value : ℕ → Bool) → is_at_open connected table value ≡ true → lut_value connected state pins bit table ≡ value taken
   unfolding lut_value
   value-open value all = at-open connected table value all taken taken-few taken-open
 
-  held-value : (it : Bool) → is_held connected table it ≡ true → lut_value connected pins bit table ≡ it
+  held-value : (it : Bool) → is_held connected table it ≡ true → lut_value connected state pins bit table ≡ it
   held-value it held = value-open (λ n. it) held
 
   follow-value : (turned : Bool) (k : ℕ) → input_at k taken ≡ input k → is_following connected table turned k ≡ true
-      → lut_value connected pins bit table ≡ turned_bit turned (input k)
+      → lut_value connected state pins bit table ≡ turned_bit turned (input k)
   follow-value turned k is following = value-open (λ n. turned_bit turned (input_at k n)) following ∙ ap (turned_bit turned) is
 
   -- the pass through in_k, or another one with its value
-  along-value : (k : ℕ) → input_at k taken ≡ input k → (otherwise : LutPass) → HasPassValue bit otherwise (lut_value connected pins bit table)
-      → (source : LutSource) → get_or table.ins k (Net None) ≡ source → HasPassValue bit (pass_along connected table k otherwise source) (lut_value connected pins bit table)
-  along-value k is otherwise other (Net None) at = other
-  along-value k is otherwise other (SourcePin place) at = other
-  along-value k is otherwise other (Net (Some net)) at =
+  along-value : (k : ℕ) → input_at k taken ≡ input k → (otherwise : LutPass) → HasPassValue bit otherwise (lut_value connected state pins bit table)
+      → (source : Signal) → get_or table.ins k (net_or_0 None) ≡ source → HasPassValue bit (pass_along connected table k otherwise source) (lut_value connected state pins bit table)
+  along-value k is otherwise other (signal.Net None stated) at = other
+  along-value k is otherwise other (signal.Net (Some net) true) at = other
+  along-value k is otherwise other (signal.Input place) at = other
+  along-value k is otherwise other (signal.Register place) at = other
+  along-value k is otherwise other (signal.Net (Some net) false) at =
       elim (cases_Bool (connected net && is_following connected table false k)) [
         | inl upright ↦
             let parts = and_parts (connected net) (is_following connected table false k) upright in
@@ -176,14 +181,14 @@ module _ (connected : ℕ → Bool) (pins : List Bool) (bit : ℕ → Bool) (tab
       ]
     where
       read-net : connected net ≡ true → input k ≡ bit net
-      read-net joined = ap (source_value connected pins bit) at ∙ rw joined refl
+      read-net joined = ap (signal_value connected state pins bit) at ∙ rw joined refl
 
-  by-value : (k : ℕ) → input_at k taken ≡ input k → (otherwise : LutPass) → HasPassValue bit otherwise (lut_value connected pins bit table)
-      → HasPassValue bit (pass_by connected table k otherwise) (lut_value connected pins bit table)
-  by-value k is otherwise other = along-value k is otherwise other (get_or table.ins k (Net None)) refl
+  by-value : (k : ℕ) → input_at k taken ≡ input k → (otherwise : LutPass) → HasPassValue bit otherwise (lut_value connected state pins bit table)
+      → HasPassValue bit (pass_by connected table k otherwise) (lut_value connected state pins bit table)
+  by-value k is otherwise other = along-value k is otherwise other (get_or table.ins k (net_or_0 None)) refl
 
   -- a LUT has the value of what it does
-  pub pass-value : HasPassValue bit (pass_of connected table) (lut_value connected pins bit table)
+  pub pass-value : HasPassValue bit (pass_of connected table) (lut_value connected state pins bit table)
   unfolding pass_of
   pass-value =
       elim (cases_Bool (is_held connected table false)) [
@@ -201,11 +206,13 @@ module _ (connected : ℕ → Bool) (pins : List Bool) (bit : ℕ → Bool) (tab
 
 module _ (connected : ℕ → Bool) (table : LutTable) where
   -- a LUT follows a net that one of its inputs reads
-  along-reads : (k : ℕ) (otherwise : LutPass) (source : LutSource) → get_or table.ins k (Net None) ≡ source → (turned : Bool) (net : ℕ)
-      → pass_along connected table k otherwise source ≡ follows turned net → (otherwise ≡ follows turned net) ⊎ (get_or table.ins k (Net None) ≡ Net (Some net))
-  along-reads k otherwise (Net None) at turned net is = inl is
-  along-reads k otherwise (SourcePin place) at turned net is = inl is
-  along-reads k otherwise (Net (Some source)) at turned net is =
+  along-reads : (k : ℕ) (otherwise : LutPass) (source : Signal) → get_or table.ins k (net_or_0 None) ≡ source → (turned : Bool) (net : ℕ)
+      → pass_along connected table k otherwise source ≡ follows turned net → (otherwise ≡ follows turned net) ⊎ (get_or table.ins k (net_or_0 None) ≡ net_or_0 (Some net))
+  along-reads k otherwise (signal.Net None stated) at turned net is = inl is
+  along-reads k otherwise (signal.Net (Some source) true) at turned net is = inl is
+  along-reads k otherwise (signal.Input place) at turned net is = inl is
+  along-reads k otherwise (signal.Register place) at turned net is = inl is
+  along-reads k otherwise (signal.Net (Some source) false) at turned net is =
       elim (cases_Bool (connected source && is_following connected table false k)) [
         | inl upright ↦ let same : follows false source ≡ follows turned net = sym (rw upright refl) ∙ is in inr (at ∙ cc)
         | inr not_upright ↦
@@ -216,13 +223,13 @@ module _ (connected : ℕ → Bool) (table : LutTable) where
       ]
 
   HasSource : ℕ → Type 0
-  HasSource net = (k : ℕ) × (get_or table.ins k (Net None) ≡ Net (Some net))
+  HasSource net = (k : ℕ) × (get_or table.ins k (net_or_0 None) ≡ net_or_0 (Some net))
 
   by-reads : (k : ℕ) (otherwise : LutPass) (turned : Bool) (net : ℕ) → (otherwise ≡ follows turned net → HasSource net)
       → pass_by connected table k otherwise ≡ follows turned net → HasSource net
   unfolding HasSource
   by-reads k otherwise turned net later is =
-      elim (along-reads k otherwise (get_or table.ins k (Net None)) refl turned net is) [
+      elim (along-reads k otherwise (get_or table.ins k (net_or_0 None)) refl turned net is) [
         | inl other ↦ later other
         | inr here ↦ (k, here)
       ]
@@ -241,13 +248,13 @@ module _ (connected : ℕ → Bool) (table : LutTable) where
             ]
       ]
 
-  source-read : (ins : List LutSource) (k net : ℕ) → get_or ins k (Net None) ≡ Net (Some net) → has (flat_map source_nets ins) net ≡ true
+  source-read : (ins : List Signal) (k net : ℕ) → get_or ins k (net_or_0 None) ≡ net_or_0 (Some net) → has (flat_map signal_nets ins) net ≡ true
   source-read [] k net is = absurd cc
-  source-read (source ∷ ins) zero net is = subst (λ s. has (source_nets s ++ flat_map source_nets ins) net ≡ true) (sym is) (has-first net (flat_map source_nets ins))
-  source-read (source ∷ ins) (suc k) net is = has-right (source_nets source) (flat_map source_nets ins) net (source-read ins k net is)
+  source-read (source ∷ ins) zero net is = subst (λ s. has (signal_nets s ++ flat_map signal_nets ins) net ≡ true) (sym is) (has-first net (flat_map signal_nets ins))
+  source-read (source ∷ ins) (suc k) net is = has-right (signal_nets source) (flat_map signal_nets ins) net (source-read ins k net is)
 
   -- the LUT reads the net that it follows
-  pub pass-reads : (turned : Bool) (net : ℕ) → pass_of connected table ≡ follows turned net → has (flat_map source_nets table.ins) net ≡ true
+  pub pass-reads : (turned : Bool) (net : ℕ) → pass_of connected table ≡ follows turned net → has (flat_map signal_nets table.ins) net ≡ true
   unfolding HasSource
   pass-reads turned net is = let found = pass-source turned net is in source-read table.ins found.0 net found.1
 
@@ -278,7 +285,7 @@ module _ (connected : ℕ → Bool) (lc : LogicCell) where
 
   -- what is known of an input: where it reads, its bit in numbers, and the entries that differ in its bit alone
   record IsInput (k : ℕ) : Type 0 where
-    source : get_or part.ins k (Net None) ≡ Net (used_input word lc.ins k)
+    source : get_or part.ins k (net_or_0 None) ≡ net_or_0 (used_input word lc.ins k)
     bit : (n : ℕ) → input_at k (lower n) ≡ read_bit word k (input_at k n)
     low : input_at k 0 ≡ false
     high : input_at k (2 ^ k) ≡ true
@@ -336,13 +343,13 @@ module _ (connected : ℕ → Bool) (lc : LogicCell) where
 
   -- ---- entries that can occur in one and in the other
 
-  lower-part : (used x : Bool) (net : Option ℕ) → (not x || can_be_1 connected (Net net)) ≡ true
-      → (not (if used then x else false) || can_be_1 connected (Net (if used then net else None))) ≡ true
+  lower-part : (used x : Bool) (net : Option ℕ) → (not x || can_be_1 connected (net_or_0 net)) ≡ true
+      → (not (if used then x else false) || can_be_1 connected (net_or_0 (if used then net else None))) ≡ true
   lower-part true x net is = is
   lower-part false x net is = refl
 
-  upper-part : (used x : Bool) (net : Option ℕ) → (not x || can_be_1 connected (Net (if used then net else None))) ≡ true
-      → (not x || can_be_1 connected (Net net)) ≡ true
+  upper-part : (used x : Bool) (net : Option ℕ) → (not x || can_be_1 connected (net_or_0 (if used then net else None))) ≡ true
+      → (not x || can_be_1 connected (net_or_0 net)) ≡ true
   upper-part true x net is = is
   upper-part false true net is = absurd cc
   upper-part false false net is = refl
@@ -350,7 +357,7 @@ module _ (connected : ℕ → Bool) (lc : LogicCell) where
   input-lower : (k : ℕ) → IsInput k → (n : ℕ) → is_input_open connected whole k n ≡ true → is_input_open connected part k (lower n) ≡ true
   input-lower k is n can =
       ap (λ source. not (input_at k (lower n)) || can_be_1 connected source) is.source
-      ∙ (ap (λ b. not b || can_be_1 connected (Net (used_input word lc.ins k))) (is.bit n)
+      ∙ (ap (λ b. not b || can_be_1 connected (net_or_0 (used_input word lc.ins k))) (is.bit n)
       ∙ lower-part (uses_input word k) (input_at k n) (net_of k)
       (ap (λ source. not (input_at k n) || can_be_1 connected source) (sym (net-input lc.ins k)) ∙ can))
 
@@ -404,7 +411,7 @@ module _ (connected : ℕ → Bool) (lc : LogicCell) where
 
   can-open : (k : ℕ) (net : ℕ) → net_of k ≡ Some net → connected net ≡ true → is_input_open connected whole k (2 ^ k) ≡ true
   can-open k net at joined =
-      ap (λ source. not (input_at k (2 ^ k)) || can_be_1 connected source) (net-input lc.ins k ∙ ap Net at) ∙ or_right _ (connected net) joined
+      ap (λ source. not (input_at k (2 ^ k)) || can_be_1 connected source) (net-input lc.ins k ∙ ap net_or_0 at) ∙ or_right _ (connected net) joined
 
   following-none : (k : ℕ) → IsInput k → (net : ℕ) → net_of k ≡ Some net → connected net ≡ true → uses_input word k ≡ false
       → (turned : Bool) → is_following connected whole turned k ≡ false
@@ -419,12 +426,12 @@ module _ (connected : ℕ → Bool) (lc : LogicCell) where
   -- ---- what the LUT does in one and in the other
 
   along-used : (k : ℕ) → IsInput k → uses_input word k ≡ true → (otherwise : LutPass) (net : Option ℕ)
-      → pass_along connected part k otherwise (Net net) ≡ pass_along connected whole k otherwise (Net net)
+      → pass_along connected part k otherwise (net_or_0 net) ≡ pass_along connected whole k otherwise (net_or_0 net)
   along-used k is used otherwise None = refl
   along-used k is used otherwise (Some net) = rw (following-same k is used false, following-same k is used true) refl
 
   along-unused : (k : ℕ) → IsInput k → uses_input word k ≡ false → (otherwise : LutPass) (net : Option ℕ) → net_of k ≡ net
-      → otherwise ≡ pass_along connected whole k otherwise (Net net)
+      → otherwise ≡ pass_along connected whole k otherwise (net_or_0 net)
   along-unused k is unused otherwise None at = refl
   along-unused k is unused otherwise (Some net) at =
       elim (cases_Bool (connected net)) [
@@ -433,7 +440,7 @@ module _ (connected : ℕ → Bool) (lc : LogicCell) where
       ]
 
   along-same : (k : ℕ) → IsInput k → (otherwise : LutPass)
-      → pass_along connected part k otherwise (Net (used_input word lc.ins k)) ≡ pass_along connected whole k otherwise (Net (net_of k))
+      → pass_along connected part k otherwise (net_or_0 (used_input word lc.ins k)) ≡ pass_along connected whole k otherwise (net_or_0 (net_of k))
   along-same k is otherwise =
       elim (cases_Bool (uses_input word k)) [
         | inl used ↦ rw used (along-used k is used otherwise (net_of k))
@@ -443,7 +450,7 @@ module _ (connected : ℕ → Bool) (lc : LogicCell) where
   by-same : (k : ℕ) → IsInput k → (one two : LutPass) → one ≡ two → pass_by connected part k one ≡ pass_by connected whole k two
   by-same k is one two same =
       ap (pass_along connected part k one) is.source
-      ∙ (ap (λ otherwise. pass_along connected part k otherwise (Net (used_input word lc.ins k))) same
+      ∙ (ap (λ otherwise. pass_along connected part k otherwise (net_or_0 (used_input word lc.ins k))) same
       ∙ (along-same k is two ∙ ap (pass_along connected whole k two) (sym (net-input lc.ins k))))
 
   used-pass : pass_of connected part ≡ pass_of connected whole

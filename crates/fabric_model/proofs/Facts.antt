@@ -1,14 +1,15 @@
 -- The value of each driver looks at no other nets than those that it reads.
-use Rattle.std.proofs.Common.{◌≡◌, ℕ, zero, suc, Bool, true, false, List, [], ◌∷◌, ◌++◌, map, get_or, refl, sym, ap, subst, inl, inr}
+use Rattle.std.proofs.Common.{◌≡◌, ℕ, zero, suc, Bool, true, false, List, [], ◌∷◌, ◌++◌, map, get_or, refl, subst, inl, inr}
 use Rattle.std.specs.Prelude.{flat_map, option_to_list, Option, Some, None}
 use Rattle.std.proofs.lemmas.Bool.{cases_Bool}
-use Rattle.fabric_model.specs.declared.register.LutSource.{LutSource}
-use Rattle.fabric_model.specs.declared.register.LutSource.TheVariants.{Net, Pin as SourcePin}
+use Rattle.fabric_model.specs.declared.signal.Signal.{Signal}
+use Rattle.fabric_model.specs.declared.signal.Signal.TheVariants as signal
 use Rattle.fabric_model.specs.declared.register.LutTable.{LutTable}
 use Rattle.fabric_model.specs.declared.register.Register.{Register}
-use Rattle.fabric_model.specs.Drivers.{Rule, source_nets, nets_read}
+use Rattle.fabric_model.specs.Signals.{net_or_0, signal_nets}
+use Rattle.fabric_model.specs.Drivers.{Rule, nets_read}
 use Rattle.fabric_model.specs.Drivers.Rule.{pin_bit, constant, input, table_entry, majority_of, register_bit, read_bit, copied}
-use Rattle.fabric_model.specs.Values.{State, input_value, source_value, table_input, lut_value, settled_bit, value_of}
+use Rattle.fabric_model.specs.Values.{State, input_value, signal_value, table_input, lut_value, settled_bit, value_of}
 use Rattle.graph_order.specs.Wiring.{has}
 use Rattle.graph_order.proofs.OneOrder.{has-first, has-behind, has-cases, has-none}
 
@@ -45,11 +46,10 @@ has-input (net ∷ ins) zero n is = has-left (option_to_list net) (flat_map opti
 has-input (net ∷ ins) (suc k) n is = has-right (option_to_list net) (flat_map option_to_list ins) n (has-input ins k n is)
 
 -- a net that an input of a table reads
-pub has-source : (ins : List LutSource) (k n : ℕ) → get_or ins k (Net None) ≡ Net (Some n) → has (flat_map source_nets ins) n ≡ true
-has-source [] k n is = absurd cc
-has-source (source ∷ ins) zero n is =
-    has-left (source_nets source) (flat_map source_nets ins) n (subst (λ s. has (source_nets s) n ≡ true) (sym is) (has-first n []))
-has-source (source ∷ ins) (suc k) n is = has-right (source_nets source) (flat_map source_nets ins) n (has-source ins k n is)
+pub has-source : (ins : List Signal) (k n : ℕ) → has (signal_nets (get_or ins k (net_or_0 None))) n ≡ true → has (flat_map signal_nets ins) n ≡ true
+has-source [] k n is = absurd (has-none n is)
+has-source (source ∷ ins) zero n is = has-left (signal_nets source) (flat_map signal_nets ins) n is
+has-source (source ∷ ins) (suc k) n is = has-right (signal_nets source) (flat_map signal_nets ins) n (has-source ins k n is)
 
 -- ---- inputs
 
@@ -59,24 +59,25 @@ module _ (connected bit other : ℕ → Bool) where
   input-same stated None same = refl
   input-same stated (Some n) same = rw (same n refl) refl
 
-  source-same : (pins : List Bool) (source : LutSource) → ((n : ℕ) → source ≡ Net (Some n) → bit n ≡ other n)
-      → source_value connected pins bit source ≡ source_value connected pins other source
-  source-same pins (Net net) same = input-same false net (λ n is. same n (ap Net is))
-  source-same pins (SourcePin place) same = refl
+  signal-same : (state : State) (pins : List Bool) (source : Signal) → ((n : ℕ) → has (signal_nets source) n ≡ true → bit n ≡ other n)
+      → signal_value connected state pins bit source ≡ signal_value connected state pins other source
+  signal-same state pins (signal.Net net otherwise) same = input-same otherwise net (λ n is. same n (has-some net n is))
+  signal-same state pins (signal.Input place) same = refl
+  signal-same state pins (signal.Register place) same = refl
 
-  table_input-same : (pins : List Bool) (table : LutTable) (k : ℕ) → ((n : ℕ) → has (flat_map source_nets table.ins) n ≡ true → bit n ≡ other n)
-      → table_input connected pins bit table k ≡ table_input connected pins other table k
-  table_input-same pins table k same = source-same pins (get_or table.ins k (Net None)) (λ n is. same n (has-source table.ins k n is))
+  table_input-same : (state : State) (pins : List Bool) (table : LutTable) (k : ℕ) → ((n : ℕ) → has (flat_map signal_nets table.ins) n ≡ true → bit n ≡ other n)
+      → table_input connected state pins bit table k ≡ table_input connected state pins other table k
+  table_input-same state pins table k same = signal-same state pins (get_or table.ins k (net_or_0 None)) (λ n is. same n (has-source table.ins k n is))
 
-  lut_value-same : (pins : List Bool) (table : LutTable) → ((n : ℕ) → has (flat_map source_nets table.ins) n ≡ true → bit n ≡ other n)
-      → lut_value connected pins bit table ≡ lut_value connected pins other table
+  lut_value-same : (state : State) (pins : List Bool) (table : LutTable) → ((n : ℕ) → has (flat_map signal_nets table.ins) n ≡ true → bit n ≡ other n)
+      → lut_value connected state pins bit table ≡ lut_value connected state pins other table
   unfolding lut_value
-  lut_value-same pins table same =
+  lut_value-same state pins table same =
       rw (
-        table_input-same pins table 0 same,
-        table_input-same pins table 1 same,
-        table_input-same pins table 2 same,
-        table_input-same pins table 3 same,
+        table_input-same state pins table 0 same,
+        table_input-same state pins table 1 same,
+        table_input-same state pins table 2 same,
+        table_input-same state pins table 3 same,
       ) refl
 
   majority-same : (state : State) (pins : List Bool) (a b c : Option ℕ) → ((n : ℕ) → has (nets_read (majority_of a b c)) n ≡ true → bit n ≡ other n)
@@ -107,8 +108,8 @@ module _ (connected bit other : ℕ → Bool) where
   unfolding value_of nets_read
   value-same state pins (pin_bit place) same = refl
   value-same state pins (constant it) same = refl
-  value-same state pins (input stated net) same = input-same stated net (λ n is. same n (has-some net n is))
-  value-same state pins (table_entry table) same = lut_value-same pins table same
+  value-same state pins (input source) same = signal-same state pins source same
+  value-same state pins (table_entry table) same = lut_value-same state pins table same
   value-same state pins (majority_of a b c) same = majority-same state pins a b c same
   value-same state pins (register_bit place register) same = settled_bit-same place register (get_or state.bits place false) same
   value-same state pins (read_bit ram place) same = refl

@@ -19,6 +19,8 @@ pub mod ClockPasses
 pub mod Chains
 -- the fabric of a database whose lines name nets of the device has no net past their number
 pub mod Within
+-- what inputs read is there
+pub mod Signals
 -- how a state settles: to settle twice is to settle once, and the values of nets don't see it
 pub mod Settling
 -- a fabric without a fault has exactly one run for each list of events

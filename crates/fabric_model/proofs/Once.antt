@@ -29,7 +29,7 @@ use Rattle.fabric_model.specs.Rams.{is_ram_used, ram_at, rams_of}
 use Rattle.fabric_model.specs.Pins.{pintype_of, is_port, is_input_read, is_registered, pin_with, port_at, pins_of, is_global_net, global_nets, nets_from, global_source, globals_of}
 use Rattle.fabric_model.specs.Fabric.{Fabric, Buffer, numbered, buffer_of, buffers_of, fabric_with, inputs_of}
 use Rattle.fabric_model.specs.Registers.{table_of, register_of, registers_of, pin_register, pin_registers_of}
-use Rattle.fabric_model.specs.Drivers.{Rule, Drive, drives_if, drives_by, pin_drives, output_rule, back_drives, lut_drives, flip_driver, flip_drives, lout_drives, carry_drives, set_drives, read_data_rule, ram_drive, ram_drives, global_drives, buffer_drives, pin_register_driver, pin_register_drives, global_rule, drives_of, is_driver_of, drivers_of}
+use Rattle.fabric_model.specs.Drivers.{Rule, Drive, drives_if, drives_by, pin_drives, output_signal, back_drives, lut_drives, flip_driver, flip_drives, lout_drives, carry_drives, set_drives, read_data_rule, ram_drive, ram_drives, global_drives, buffer_drives, pin_register_driver, pin_register_drives, global_rule, drives_of, is_driver_of, drivers_of}
 use Rattle.fabric_model.proofs.Within.{All-flat_map, All-if, All-unless, All-item_if, All-single}
 use Rattle.fabric_model.proofs.Apart.{AreApart, apart-single, apart-if, apart-unless, apart-item_if, apart-append, apart-weaker, apart-filter, apart-map, apart-flat_map, apart-gathered, apart-over_tiles, All-every, numbered-apart, apart-numbered}
 
@@ -470,9 +470,9 @@ module _ (fabric : Fabric) (parts : ArePartsApart fabric) where
       (numbered (inputs_of fabric))
       (apart-numbered PinsDiffer 0 (inputs_of fabric) (apart-filter PinsDiffer (λ pin. not pin.output) fabric.pins parts.pins))
 
-  backs-kind : IsOfKind 2 (flat_map (back_drives fabric.registers) (filter (λ pin. pin.back) fabric.pins))
+  backs-kind : IsOfKind 2 (flat_map (back_drives fabric) (filter (λ pin. pin.back) fabric.pins))
   backs-kind =
-      each-kind PinsDiffer (λ pin. driver.Readback pin.x pin.y pin.n) (output_rule fabric.registers) (λ pin. pin.din)
+      each-kind PinsDiffer (λ pin. driver.Readback pin.x pin.y pin.n) (λ pin. Rule.input (output_signal fabric pin)) (λ pin. pin.din)
       2 (λ pin. refl) (λ a b other same. other (cc) (cc) (cc)) (filter (λ pin. pin.back) fabric.pins) (apart-filter PinsDiffer (λ pin. pin.back) fabric.pins parts.pins)
 
   luts-kind : IsOfKind 3 (flat_map (lut_drives fabric.lut_inputs) (filter (λ lc. not lc.flip) fabric.lcs))

@@ -15,6 +15,7 @@ use Rattle.fabric_model.specs.Drivers.{Drive, is_driver_of, drives_of, drivers_o
 use Rattle.fabric_model.specs.Values.{State, value_of, bit_in, is_connected, IsConsistent}
 use Rattle.graph_order.specs.Wiring.{has, depends, IsWriteOrder}
 use Rattle.fabric_model.specs.Wiring.{wiring_of}
+use Rattle.fabric_model.specs.Within.{IsClosed}
 use Rattle.fabric_model.proofs.Joins.{class_of-is, class_of-joined, class_of-le}
 use Rattle.graph_order.proofs.Cycles.{IsBounded}
 use Rattle.graph_order.proofs.OneOrder.{has-none}
@@ -112,6 +113,7 @@ pub record IsWithin (fabric : Fabric) : Type 0 where
   pub joins : (a b : ℕ) → Contains fabric.joins (a, b) → (a < fabric.nets) × (b < fabric.nets)
   pub drives : (drive : Drive) → Contains (drives_of fabric) drive → drive.net < fabric.nets
   pub reads : (drive : Drive) → Contains (drives_of fabric) drive → (net : ℕ) → has (nets_read drive.rule) net ≡ true → net < fabric.nets
+  pub closed : IsClosed fabric
 
 -- each class of joined nets has one driver at most
 abbrev pub HasSingleDrivers : Fabric → Type 0

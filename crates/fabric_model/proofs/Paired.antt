@@ -1,6 +1,6 @@
 -- Two lists whose items are alike, place by place.
 use Rattle.std.proofs.Common.{◌≡◌, ℕ, zero, suc, Bool, List, [], ◌∷◌, ◌++◌, length, map, refl, ap, ap₂, subst, arith, inl, inr}
-use Rattle.std.specs.Prelude.{Contains, filter, find, flat_map, Option, Some, None}
+use Rattle.std.specs.Prelude.{Contains, filter, flat_map}
 use Rattle.std.specs.List.{AllZip, list_any}
 use Rattle.std.proofs.lemmas.Bool.{cases_Bool}
 use Rattle.fabric_model.specs.Fabric.{numbered_from}
@@ -73,18 +73,6 @@ module _ {A B : Type 0} (R : A → B → Type 0) where
         elim (cases_Bool (two y)) [
           | inl passes ↦ rw (each x y alike.0, passes) (alike.0, rest)
           | inr fails ↦ rw (each x y alike.0, fails) rest
-        ]
-
-    -- what holds of any two that are alike, and where none is found, holds of the two that are found
-    pub pairs-find : (P : Option A → Option B → Type 0) → P None None → ((x : A) (y : B) → R x y → P (Some x) (Some y))
-        → (xs : List A) (ys : List B) → AllZip R xs ys → P (find one xs) (find two ys)
-    pairs-find P none some [] [] alike = none
-    pairs-find P none some [] (y ∷ ys) alike = absurd alike
-    pairs-find P none some (x ∷ xs) [] alike = absurd alike
-    pairs-find P none some (x ∷ xs) (y ∷ ys) alike =
-        elim (cases_Bool (two y)) [
-          | inl passes ↦ rw (each x y alike.0, passes) (some x y alike.0)
-          | inr fails ↦ rw (each x y alike.0, fails) (pairs-find P none some xs ys alike.1)
         ]
 
   -- an item of the second list is like one of the first

@@ -173,9 +173,9 @@ module _ (before one two : ℕ → Bool) where
   edge-same inverted (Some net) agree = rw agree refl
 
   module _ (connected : ℕ → Bool) where
-    bit-same : (pins bits : List Bool) (place : ℕ × Register) → AgreeAt one two place.1.clk
-        → bit_after connected pins before one bits place ≡ bit_after connected pins before two bits place
-    bit-same pins bits place agree = rw (edge-same place.1.neg place.1.clk agree) refl
+    bit-same : (pins : List Bool) (state : State) (place : ℕ × Register) → AgreeAt one two place.1.clk
+        → bit_after connected pins before one state place ≡ bit_after connected pins before two state place
+    bit-same pins state place agree = rw (edge-same place.1.neg place.1.clk agree) refl
 
     words-same : (state : State) (place : ℕ × RamCell) → AgreeAt one two place.1.wclk
         → words_after connected before one state place ≡ words_after connected before two state place
@@ -199,8 +199,8 @@ module _ (before one two : ℕ → Bool) where
   unfolding state_after
   state-same fabric pins state agree =
       let connected = is_connected fabric in
-      let bits = each-same (λ register. register.clk) (bit_after connected pins before one state.bits) (bit_after connected pins before two state.bits)
-      (bit-same connected pins state.bits) fabric.registers agree.registers in
+      let bits = each-same (λ register. register.clk) (bit_after connected pins before one state) (bit_after connected pins before two state)
+      (bit-same connected pins state) fabric.registers agree.registers in
       let reads = each-same (λ ram. ram.rclk) (read_after connected before one state) (read_after connected before two state)
       (read-same connected state) fabric.rams agree.reads in
       let words = each-same (λ ram. ram.wclk) (words_after connected before one state) (words_after connected before two state)
@@ -318,7 +318,7 @@ module _ (device : DeviceName) (fabric : Fabric) (taken : fabric_fault device fa
     pub entry-raw : (entry : Entry) (state : State) → IsEntry fabric entry → entry.state ≡ settled_state fabric (bit_in entry.v) state
         → IsConsistent fabric state entry.pins entry.v
     entry-raw entry state is settled =
-        consistent-unsettled fabric state entry.pins entry.v (subst (λ s. IsConsistent fabric s entry.pins entry.v) settled is.consistent)
+        consistent-unsettled fabric within.closed state entry.pins entry.v (subst (λ s. IsConsistent fabric s entry.pins entry.v) settled is.consistent)
 
     -- two entries with the same pins whose states are what one state settles to are one
     pub entry-one : (state : State) (one two : Entry) → IsEntry fabric one → IsEntry fabric two → one.pins ≡ two.pins
@@ -342,7 +342,7 @@ module _ (device : DeviceName) (fabric : Fabric) (taken : fabric_fault device fa
     unfolding entry_of
     entry_of-is pins state =
         let value = taken-value device fabric taken within state pins in
-        record { consistent = consistent-settled fabric state pins value.it value.is; outputs = refl }
+        record { consistent = consistent-settled fabric within.closed state pins value.it value.is; outputs = refl }
 
     entry_of-pins : (pins : List Bool) (state : State) → (entry_of pins state).pins ≡ pins
     unfolding entry_of

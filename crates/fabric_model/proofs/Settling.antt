@@ -1,8 +1,8 @@
 -- How a state settles: to settle twice is to settle once, and the values of nets don't see it.
 use Rattle.std.proofs.Common.{◌≡◌, ℕ, zero, suc, ◌+◌, ◌&&◌, Bool, true, false, List, [], ◌∷◌, map, get_or, refl, sym, ap, ◌∙◌, arith, inl, inr}
-use Rattle.std.specs.Prelude.{All, Contains, Option, Some, None, filter, find, flat_map, not, if◌then◌else◌}
+use Rattle.std.specs.Prelude.{All, Contains, Option, Some, None, filter, flat_map, not, if◌then◌else◌}
 use Rattle.std.proofs.lemmas.Bool.{cases_Bool}
-use Rattle.std.proofs.lemmas.List.Elements.{All-nil, All-cons, All-append, All-contains, All-contains_itself, All-weaker}
+use Rattle.std.proofs.lemmas.List.Elements.{All-nil, All-cons, All-append, All-filter, All-contains, All-contains_itself, All-weaker}
 use Rattle.shared_lemmas.proofs.Lists.{map-same}
 use Rattle.fabric_model.specs.declared.register.Register.{Register}
 use Rattle.fabric_model.specs.declared.ram.RamCell.{RamCell}
@@ -11,15 +11,21 @@ use Rattle.fabric_model.specs.declared.pin.GlobalFrom.{GlobalFrom}
 use Rattle.fabric_model.specs.declared.pin.GlobalFrom.TheVariants.{Pad, Fabout}
 use Rattle.fabric_model.specs.declared.driver.Driver.{Driver}
 use Rattle.fabric_model.specs.declared.driver.ClockUser.{ClockUser}
+use Rattle.fabric_model.specs.declared.signal.Signal.{Signal}
+use Rattle.fabric_model.specs.declared.signal.Signal.TheVariants as signal
+use Rattle.fabric_model.specs.declared.register.LutTable.{LutTable}
+use Rattle.fabric_model.specs.Signals.{net_or_0, net_or_1}
 use Rattle.fabric_model.specs.Fabric.{Fabric, numbered_from, numbered, inputs_of}
 use Rattle.fabric_model.specs.Registers.{table_of}
 use Rattle.fabric_model.specs.Pins.{is_registered}
 use Rattle.fabric_model.specs.Outputs.{Output, enable_outputs, pin_outputs, outputs_of}
-use Rattle.fabric_model.specs.Drivers.{Rule, Drive, drives_if, drives_by, pin_drives, is_output_register, register_rule, output_rule, back_drives, lut_drives, flip_driver, lout_drives, carry_drives, set_drives, read_data_rule, ram_drive, ram_drives, global_rule, global_drives, buffer_drives, pin_register_driver, drives_of}
+use Rattle.fabric_model.specs.Drivers.{Rule, Drive, drives_if, drives_by, pin_drives, output_signal, back_drives, lut_drives, flip_driver, lout_drives, carry_drives, set_drives, read_data_rule, ram_drive, ram_drives, global_rule, global_drives, buffer_drives, pin_register_driver, drives_of}
 use Rattle.fabric_model.specs.Drivers.Rule.{pin_bit, constant, input, table_entry, majority_of, register_bit, read_bit, copied}
-use Rattle.fabric_model.specs.Values.{State, input_or_0, settled_bit, value_of, bit_in, is_connected, IsConsistent}
+use Rattle.fabric_model.specs.Values.{State, input_or_0, settled_bit, signal_value, table_input, lut_value, value_of, bit_in, is_connected, IsConsistent}
 use Rattle.fabric_model.specs.Steps.{settled_bits, settled_state, output_values}
-use Rattle.fabric_model.proofs.Within.{All-flat_map, All-if, All-single, All-unless, HoldsOf, find-holds}
+use Rattle.fabric_model.specs.Within.{IsClosed}
+use Rattle.fabric_model.proofs.Within.{All-flat_map, All-if, All-single, All-unless}
+use Rattle.fabric_model.proofs.Signals.{IsSignalThere, signal-there, item-at, output-there, cell-signals}
 use Rattle.fabric_model.proofs.Apart.{All-every}
 
 -- ---- items at their places
@@ -54,14 +60,39 @@ settled-again connected bit register old =
       | inr stays ↦ rw stays refl
     ]
 
+-- ---- a state settles
+
+module _ (fabric : Fabric) (bit : ℕ → Bool) where
+  -- the register at a place has settled
+  pub settled_bits-at : (bits : List Bool) (place : ℕ × Register) → Contains (numbered fabric.registers) place
+      → get_or (settled_bits fabric bit bits) place.0 false ≡ settled_bit (is_connected fabric) bit place.1 (get_or bits place.0 false)
+  settled_bits-at bits place there =
+      numbered-read (λ (p : ℕ × Register). settled_bit (is_connected fabric) bit p.1 (get_or bits p.0 false)) false fabric.registers place there
+
+  bits-twice : (bits : List Bool) → settled_bits fabric bit (settled_bits fabric bit bits) ≡ settled_bits fabric bit bits
+  bits-twice bits =
+      let once = λ (p : ℕ × Register). settled_bit (is_connected fabric) bit p.1 (get_or bits p.0 false) in
+      let twice = λ (p : ℕ × Register). settled_bit (is_connected fabric) bit p.1 (get_or (settled_bits fabric bit bits) p.0 false) in
+      map-same twice once (numbered fabric.registers)
+      (All-weaker (Contains (numbered fabric.registers)) (λ p. twice p ≡ once p)
+      (λ p there. ap (settled_bit (is_connected fabric) bit p.1) (settled_bits-at bits p there) ∙ settled-again (is_connected fabric) bit p.1 (get_or bits p.0 false))
+      (numbered fabric.registers) (All-contains_itself (numbered fabric.registers)))
+
+  -- to settle twice is to settle once
+  pub settled-twice : (state : State) → settled_state fabric bit (settled_state fabric bit state) ≡ settled_state fabric bit state
+  unfolding settled_state
+  settled-twice state = let bits = bits-twice state.bits in λ i. record { bits = bits i; reads = state.reads; words = state.words }
+
 -- ---- the registers that drive nets are those of the fabric
 
--- a driver that is a register is that at its place
+-- a driver that is a register is that at its place, and what inputs read is there
 abbrev pub HasRegister : Fabric → Rule → Type 0
 HasRegister fabric (register_bit place register) = Contains (numbered fabric.registers) (place, register)
+HasRegister fabric (input source) = IsSignalThere fabric source
+HasRegister fabric (table_entry table) = All (IsSignalThere fabric) table.ins
 HasRegister fabric rule = Unit {0}
 
-module _ (fabric : Fabric) where
+module _ (fabric : Fabric) (closed : IsClosed fabric) where
   abbrev DriveHas : Drive → Type 0
   DriveHas drive = HasRegister fabric drive.rule
 
@@ -84,18 +115,13 @@ module _ (fabric : Fabric) where
   has_if true one other of_one of_other = of_one
   has_if false one other of_one of_other = of_other
 
-  register_rule-has : (found : Option (ℕ × Register)) → HoldsOf (Contains (numbered fabric.registers)) found → HasRegister fabric (register_rule found)
-  register_rule-has None has = tt
-  register_rule-has (Some place) has = has
-
-  -- what an output pin has
-  output_rule-has : (pin : Pin) → HasRegister fabric (output_rule fabric.registers pin)
-  output_rule-has pin =
-      let found = find (is_output_register pin) (numbered fabric.registers) in
-      has_if (is_registered pin) (register_rule found) (input false pin.dout)
-      (register_rule-has found
-      (find-holds (Contains (numbered fabric.registers)) (is_output_register pin) (numbered fabric.registers) (All-contains_itself (numbered fabric.registers))))
-      tt
+  -- what an output pin puts out
+  backs-have : All DriveHas (flat_map (back_drives fabric) (filter (λ pin. pin.back) fabric.pins))
+  backs-have =
+      All-flat_map DriveHas (back_drives fabric) (filter (λ pin. pin.back) fabric.pins)
+      (All-filter (λ pin. pin.back) (λ pin. All DriveHas (back_drives fabric pin)) fabric.pins
+      (All-weaker (Contains fabric.pins) (λ pin. All DriveHas (back_drives fabric pin))
+      (λ pin there. drives_if-has _ (input (output_signal fabric pin)) pin.din (output-there fabric closed pin there)) fabric.pins (All-contains_itself fabric.pins)))
 
   ram_drives-has : (place : ℕ × RamCell) → All DriveHas (ram_drives place)
   ram_drives-has place =
@@ -120,10 +146,10 @@ module _ (fabric : Fabric) where
   drives-have =
       let joins = All-append DriveHas in
       joins _ _ (each-has pin_drives pin_drives-has (numbered (inputs_of fabric)))
-      (joins _ _ (each-has (back_drives fabric.registers) (λ pin. drives_if-has _ (output_rule fabric.registers pin) pin.din (output_rule-has pin)) (filter (λ pin. pin.back) fabric.pins))
-      (joins _ _ (each-has (lut_drives fabric.lut_inputs) (λ lc. drives_if-has _ (table_entry (table_of fabric.lut_inputs lc)) lc.out tt) (filter (λ lc. not lc.flip) fabric.lcs))
+      (joins _ _ backs-have
+      (joins _ _ (each-has (lut_drives fabric.lut_inputs) (λ lc. drives_if-has _ (table_entry (table_of fabric.lut_inputs lc)) lc.out (cell-signals fabric fabric.lut_inputs lc)) (filter (λ lc. not lc.flip) fabric.lcs))
       (joins _ _ (registers-have flip_driver)
-      (joins _ _ (each-has (lout_drives fabric.lut_inputs) (λ lc. drives_if-has _ (table_entry (table_of fabric.lut_inputs lc)) lc.lout tt) fabric.lcs)
+      (joins _ _ (each-has (lout_drives fabric.lut_inputs) (λ lc. drives_if-has _ (table_entry (table_of fabric.lut_inputs lc)) lc.lout (cell-signals fabric fabric.lut_inputs lc)) fabric.lcs)
       (joins _ _ (each-has carry_drives (λ lc. drives_if-has _ (majority_of (get_or lc.ins 1 None) (get_or lc.ins 2 None) lc.cin) lc.cout tt) (filter (λ lc. lc.carry) fabric.lcs))
       (joins _ _ (each-has set_drives (λ set. drives_if-has _ (constant true) (Some set.net) tt) fabric.sets)
       (joins _ _ (each-has ram_drives ram_drives-has (numbered fabric.rams))
@@ -134,57 +160,51 @@ module _ (fabric : Fabric) where
   pub drive-has : (drive : Drive) → Contains (drives_of fabric) drive → HasRegister fabric drive.rule
   drive-has drive there = All-contains DriveHas (drives_of fabric) drive drives-have there
 
-  -- outputs that are registers are those of the fabric too
+  -- what outputs read is there
   abbrev pub OutputHas : Output → Type 0
-  OutputHas output = HasRegister fabric output.rule
+  OutputHas output = IsSignalThere fabric output.source
 
   pub outputs-have : All OutputHas (outputs_of fabric)
   unfolding outputs_of
   outputs-have =
-      All-flat_map OutputHas (pin_outputs fabric.registers) (filter (λ pin. pin.output) fabric.pins)
-      (All-every (λ pin. All OutputHas (pin_outputs fabric.registers pin))
-      (λ pin. All-cons OutputHas (record { pin = pin; enable = false; rule = output_rule fabric.registers pin }) (enable_outputs pin) (output_rule-has pin)
-      (All-if OutputHas _ (record { pin = pin; enable = true; rule = input true pin.enable } ∷ [])
-      (All-single OutputHas (record { pin = pin; enable = true; rule = input true pin.enable }) tt)))
-      (filter (λ pin. pin.output) fabric.pins))
+      All-flat_map OutputHas (pin_outputs fabric) (filter (λ pin. pin.output) fabric.pins)
+      (All-filter (λ pin. pin.output) (λ pin. All OutputHas (pin_outputs fabric pin)) fabric.pins
+      (All-weaker (Contains fabric.pins) (λ pin. All OutputHas (pin_outputs fabric pin))
+      (λ pin there. All-cons OutputHas (record { pin = pin; enable = false; source = output_signal fabric pin }) (enable_outputs pin) (output-there fabric closed pin there)
+      (All-if OutputHas _ (record { pin = pin; enable = true; source = net_or_1 pin.enable } ∷ [])
+      (All-single OutputHas (record { pin = pin; enable = true; source = net_or_1 pin.enable }) tt)))
+      fabric.pins (All-contains_itself fabric.pins)))
 
-  pub output-has : (output : Output) → Contains (outputs_of fabric) output → HasRegister fabric output.rule
-  output-has output there = All-contains OutputHas (outputs_of fabric) output outputs-have there
-
-  -- ---- a state settles
+  -- ---- values while a state settles
 
   module _ (bit : ℕ → Bool) where
-    -- the register at a place has settled
-    pub settled_bits-at : (bits : List Bool) (place : ℕ × Register) → Contains (numbered fabric.registers) place
-        → get_or (settled_bits fabric bit bits) place.0 false ≡ settled_bit (is_connected fabric) bit place.1 (get_or bits place.0 false)
-    settled_bits-at bits place there =
-        numbered-read (λ (p : ℕ × Register). settled_bit (is_connected fabric) bit p.1 (get_or bits p.0 false)) false fabric.registers place there
+    -- what inputs read stays as it is
+    signal-settled : (state : State) (pins : List Bool) (source : Signal) → IsSignalThere fabric source
+        → signal_value (is_connected fabric) (settled_state fabric bit state) pins bit source ≡ signal_value (is_connected fabric) state pins bit source
+    unfolding settled_state settled_bit
+    signal-settled state pins (signal.Net net otherwise) there = refl
+    signal-settled state pins (signal.Input place) there = refl
+    signal-settled state pins (signal.Register place) there =
+        let at = item-at fabric.registers place there.0 in
+        let steady : at.0.is_async ≡ false = sym (at.1.tested (λ register. register.is_async)) ∙ there.1 in
+        settled_bits-at fabric bit state.bits (place, at.0) at.1.numbered ∙ (rw steady refl)
 
-    bits-twice : (bits : List Bool) → settled_bits fabric bit (settled_bits fabric bit bits) ≡ settled_bits fabric bit bits
-    bits-twice bits =
-        let once = λ (p : ℕ × Register). settled_bit (is_connected fabric) bit p.1 (get_or bits p.0 false) in
-        let twice = λ (p : ℕ × Register). settled_bit (is_connected fabric) bit p.1 (get_or (settled_bits fabric bit bits) p.0 false) in
-        map-same twice once (numbered fabric.registers)
-        (All-weaker (Contains (numbered fabric.registers)) (λ p. twice p ≡ once p)
-        (λ p there. ap (settled_bit (is_connected fabric) bit p.1) (settled_bits-at bits p there) ∙ settled-again (is_connected fabric) bit p.1 (get_or bits p.0 false))
-        (numbered fabric.registers) (All-contains_itself (numbered fabric.registers)))
-
-    -- to settle twice is to settle once
-    pub settled-twice : (state : State) → settled_state fabric bit (settled_state fabric bit state) ≡ settled_state fabric bit state
-    unfolding settled_state
-    settled-twice state = let bits = bits-twice state.bits in λ i. record { bits = bits i; reads = state.reads; words = state.words }
+    table-settled : (state : State) (pins : List Bool) (table : LutTable) (k : ℕ) → All (IsSignalThere fabric) table.ins
+        → table_input (is_connected fabric) (settled_state fabric bit state) pins bit table k ≡ table_input (is_connected fabric) state pins bit table k
+    table-settled state pins table k all = signal-settled state pins (get_or table.ins k (net_or_0 None)) (signal-there fabric table.ins k all)
 
     -- the value of a driver doesn't see it
     pub value-settled : (state : State) (pins : List Bool) (rule : Rule) → HasRegister fabric rule
         → value_of (is_connected fabric) (settled_state fabric bit state) pins bit rule ≡ value_of (is_connected fabric) state pins bit rule
-    unfolding value_of settled_state
+    unfolding value_of settled_state lut_value
     value-settled state pins (pin_bit place) has = refl
     value-settled state pins (constant it) has = refl
-    value-settled state pins (input stated net) has = refl
-    value-settled state pins (table_entry table) has = refl
+    value-settled state pins (input source) has = signal-settled state pins source has
+    value-settled state pins (table_entry table) has =
+        rw (table-settled state pins table 0 has, table-settled state pins table 1 has, table-settled state pins table 2 has, table-settled state pins table 3 has) refl
     value-settled state pins (majority_of a b c) has = refl
     value-settled state pins (register_bit place register) has =
-        ap (settled_bit (is_connected fabric) bit register) (settled_bits-at state.bits (place, register) has)
+        ap (settled_bit (is_connected fabric) bit register) (settled_bits-at fabric bit state.bits (place, register) has)
         ∙ settled-again (is_connected fabric) bit register (get_or state.bits place false)
     value-settled state pins (read_bit ram place) has = refl
     value-settled state pins (copied net) has = refl
@@ -194,11 +214,11 @@ module _ (fabric : Fabric) where
       → output_values fabric (settled_state fabric (bit_in v) state) pins v ≡ output_values fabric state pins v
   unfolding output_values
   outputs-settled state pins v =
-      let settled = λ (output : Output). value_of (is_connected fabric) (settled_state fabric (bit_in v) state) pins (bit_in v) output.rule in
-      let raw = λ (output : Output). value_of (is_connected fabric) state pins (bit_in v) output.rule in
+      let settled = λ (output : Output). signal_value (is_connected fabric) (settled_state fabric (bit_in v) state) pins (bit_in v) output.source in
+      let raw = λ (output : Output). signal_value (is_connected fabric) state pins (bit_in v) output.source in
       map-same settled raw (outputs_of fabric)
       (All-weaker OutputHas (λ output. settled output ≡ raw output)
-      (λ output has. value-settled (bit_in v) state pins output.rule has) (outputs_of fabric) outputs-have)
+      (λ output has. signal-settled (bit_in v) state pins output.source has) (outputs_of fabric) outputs-have)
 
   -- values of nets that are consistent with a state are so with what it settles to
   pub consistent-settled : (state : State) (pins v : List Bool) → IsConsistent fabric state pins v → IsConsistent fabric (settled_state fabric (bit_in v) state) pins v

@@ -8,10 +8,10 @@ use Rattle.index_search.proofs.Found.{any_below-clear}
 use Rattle.fabric_model.specs.declared.cell.LogicCell.{LogicCell}
 use Rattle.fabric_model.specs.declared.lut_inputs.LutInputs.{LutInputs}
 use Rattle.fabric_model.specs.declared.lut_inputs.LutInputs.TheVariants as read
-use Rattle.fabric_model.specs.declared.register.LutSource.TheVariants.{Net}
 use Rattle.fabric_model.specs.Luts.{entry_of, entry_differs, uses_input, used_input}
 use Rattle.fabric_model.specs.Registers.{table_of}
-use Rattle.fabric_model.specs.Values.{input_or_0, source_value, table_input, lut_value}
+use Rattle.fabric_model.specs.Signals.{net_or_0}
+use Rattle.fabric_model.specs.Values.{State, input_or_0, signal_value, table_input, lut_value}
 
 -- ---- entries
 
@@ -101,12 +101,12 @@ module _ (word : ℕ) where
 -- ---- tables
 
 -- an input of a cell's table
-pub net-input : (ins : List (Option ℕ)) (k : ℕ) → get_or (map Net ins) k (Net None) ≡ Net (get_or ins k None)
+pub net-input : (ins : List (Option ℕ)) (k : ℕ) → get_or (map net_or_0 ins) k (net_or_0 None) ≡ net_or_0 (get_or ins k None)
 net-input [] k = refl
 net-input (net ∷ ins) zero = refl
 net-input (net ∷ ins) (suc k) = net-input ins k
 
-module _ (connected : ℕ → Bool) (pins : List Bool) (bit : ℕ → Bool) where
+module _ (connected : ℕ → Bool) (state : State) (pins : List Bool) (bit : ℕ → Bool) where
   -- an input that isn't used reads 0
   input-read : (used : Bool) (net : Option ℕ) → input_or_0 connected bit (if used then net else None) ≡ (if used then input_or_0 connected bit net else false)
   input-read true net = refl
@@ -116,14 +116,14 @@ module _ (connected : ℕ → Bool) (pins : List Bool) (bit : ℕ → Bool) wher
   abbrev came : LogicCell → ℕ → Bool
   came lc k = input_or_0 connected bit (get_or lc.ins k None)
 
-  table-read : (lc : LogicCell) (k : ℕ) → came lc k ≡ table_input connected pins bit (table_of read.All lc) k
-  table-read lc k = ap (source_value connected pins bit) (sym (net-input lc.ins k))
+  table-read : (lc : LogicCell) (k : ℕ) → came lc k ≡ table_input connected state pins bit (table_of read.All lc) k
+  table-read lc k = ap (signal_value connected state pins bit) (sym (net-input lc.ins k))
 
   -- the entry by the four inputs
   entry-by : (word : ℕ) (a b c d e f g h : Bool) → a ≡ e → b ≡ f → c ≡ g → d ≡ h → entry_of word (number_of a b c d) ≡ entry_of word (number_of e f g h)
   entry-by word a b c d e f g h p q r s = λ i. entry_of word (number_of (p i) (q i) (r i) (s i))
 
-  used-value : (lc : LogicCell) → lut_value connected pins bit (table_of read.Used lc) ≡ lut_value connected pins bit (table_of read.All lc)
+  used-value : (lc : LogicCell) → lut_value connected state pins bit (table_of read.Used lc) ≡ lut_value connected state pins bit (table_of read.All lc)
   unfolding lut_value
   used-value lc =
       let word = lc.lut in
@@ -135,6 +135,6 @@ module _ (connected : ℕ → Bool) (pins : List Bool) (bit : ℕ → Bool) wher
       ∙ entry-by word (came lc 0) (came lc 1) (came lc 2) (came lc 3) _ _ _ _ (table-read lc 0) (table-read lc 1) (table-read lc 2) (table-read lc 3))
 
   -- the value of the LUT of a cell is the same, whichever inputs it reads
-  pub read-value : (inputs : LutInputs) (lc : LogicCell) → lut_value connected pins bit (table_of inputs lc) ≡ lut_value connected pins bit (table_of read.All lc)
+  pub read-value : (inputs : LutInputs) (lc : LogicCell) → lut_value connected state pins bit (table_of inputs lc) ≡ lut_value connected state pins bit (table_of read.All lc)
   read-value read.All lc = refl
   read-value read.Used lc = used-value lc

@@ -1,8 +1,9 @@
 -- The fabric of a database whose lines name nets of the device has no net past their number.
-use Rattle.std.proofs.Common.{◌≡◌, ℕ, zero, suc, ◌+◌, ◌<◌, Bool, true, false, List, [], ◌∷◌, ◌++◌, subst, inl, inr}
+use Rattle.std.proofs.Common.{◌≡◌, ℕ, zero, suc, ◌+◌, ◌<◌, ◌≤◌, Bool, true, false, List, [], ◌∷◌, ◌++◌, length, map, refl, subst, inl, inr, arith}
 use Rattle.std.specs.Prelude.{All, Contains, not, Option, Some, None, find, filter, flat_map, option_map, option_and_then, option_to_list, get_or, if◌then◌else◌}
 use Rattle.std.proofs.lemmas.Bool.{cases_Bool}
-use Rattle.std.proofs.lemmas.List.Elements.{All-nil, All-cons, All-head, All-tail, All-append, All-map, All-filter, All-weaker, All-contains}
+use Rattle.std.proofs.lemmas.List.{length-map, length-append}
+use Rattle.std.proofs.lemmas.List.Elements.{All-nil, All-cons, All-head, All-tail, All-append, All-map, All-filter, All-weaker, All-contains, All-contains_itself}
 use Rattle.index_search.proofs.Gathered.{All-gathered_below}
 use Rattle.plane_map.specs.declared.device.DeviceName.{DeviceName}
 use Rattle.plane_map.specs.declared.tile.TileKind.{TileKind}
@@ -23,8 +24,8 @@ use Rattle.fabric_model.specs.declared.lut_inputs.LutInputs.{LutInputs}
 use Rattle.fabric_model.specs.declared.lut_inputs.LutInputs.TheVariants as read
 use Rattle.fabric_model.specs.Luts.{uses_input, used_input, inputs_read}
 use Rattle.fabric_model.specs.declared.cell.CarrySet.{CarrySet}
-use Rattle.fabric_model.specs.declared.register.LutSource.{LutSource}
-use Rattle.fabric_model.specs.declared.register.LutSource.TheVariants.{Net, Pin as SourcePin}
+use Rattle.fabric_model.specs.declared.signal.Signal.{Signal}
+use Rattle.fabric_model.specs.declared.signal.Signal.TheVariants as signal
 use Rattle.fabric_model.specs.declared.register.Register.{Register}
 use Rattle.fabric_model.specs.declared.ram.RamCell.{RamCell}
 use Rattle.fabric_model.specs.declared.pin.Pin.{Pin}
@@ -39,12 +40,13 @@ use Rattle.fabric_model.specs.Cells.{cell_bits, cell_with, used_cell, cells_at, 
 use Rattle.fabric_model.specs.Rams.{port_net, is_ram_used, ram_at, rams_of}
 use Rattle.fabric_model.specs.Pins.{is_registered, pin_with, port_at, pins_of, global_fabout, global_source, source_of_global, global_pad, is_global_net, global_nets, nets_from, globals_of}
 use Rattle.fabric_model.specs.Fabric.{Fabric, Buffer, numbered_from, numbered, joins_of, buffer_of, buffers_of, fabric_with, inputs_of}
-use Rattle.fabric_model.specs.Drivers.{Rule, Drive, drives_if, drives_by, pin_drives, is_output_register, register_rule, output_rule, back_drives, lut_drives, flip_driver, flip_drives, lout_drives, carry_drives, set_drives, read_data_rule, ram_drive, ram_drives, global_rule, global_drives, buffer_drives, pin_register_driver, pin_register_drives, drives_of, source_nets, nets_read}
+use Rattle.fabric_model.specs.Drivers.{Rule, Drive, drives_if, drives_by, pin_drives, output_signal, back_drives, lut_drives, flip_driver, flip_drives, lout_drives, carry_drives, set_drives, read_data_rule, ram_drive, ram_drives, global_rule, global_drives, buffer_drives, pin_register_driver, pin_register_drives, drives_of, nets_read}
 use Rattle.fabric_model.specs.Drivers.Rule.{pin_bit, constant, input, table_entry, majority_of, register_bit, read_bit, copied}
 use Rattle.graph_order.specs.Wiring.{has}
+use Rattle.fabric_model.specs.Signals.{net_or_0, net_or_1, signal_nets}
 use Rattle.fabric_model.specs.Registers.{table_of, register_of, registers_of, pin_source, pin_register, pin_registers_of}
 use Rattle.fabric_model.specs.Outputs.{Output, enable_outputs, pin_outputs, outputs_of}
-use Rattle.fabric_model.specs.Within.{IsNetIn, IsPinIn, IsCellIn, IsSourceIn, IsRegisterIn, IsSetIn, IsRamIn, IsFromIn, IsGlobalIn, IsBufferIn, IsJoinIn, HasNetsIn}
+use Rattle.fabric_model.specs.Within.{IsNetIn, IsPinIn, IsCellIn, IsSignalIn, is_async_at, IsRegisterIn, IsSetIn, IsRamIn, IsFromIn, IsGlobalIn, IsBufferIn, IsJoinIn, IsClosed}
 use Rattle.graph_order.proofs.OneOrder.{has-none, has-cases}
 use Rattle.fabric_model.proofs.OneValue.{IsWithin}
 
@@ -105,6 +107,15 @@ All-numbered {A} P place (item ∷ items) all =
     All-cons (λ (pair : ℕ × A). P pair.1) (place, item) (numbered_from (suc place) items) (All-head P item items all)
     (All-numbered P (suc place) items (All-tail P item items all))
 
+-- after the first of two lists a test fails that no item of the second passes
+past-false : {A : Type 0} (test : A → Bool) (xs ys : List A) (place : ℕ) → length xs ≤ place → All (λ y. test y ≡ false) ys
+    → get_or (map test (xs ++ ys)) place false ≡ false
+past-false test [] [] place past all = refl
+past-false test [] (y ∷ ys) zero past all = All-head (λ y. test y ≡ false) y ys all
+past-false test [] (y ∷ ys) (suc place) past all = past-false test [] ys place (omega arith) (All-tail (λ y. test y ≡ false) y ys all)
+past-false test (x ∷ xs) ys zero past all = absurd (omega (arith, past))
+past-false test (x ∷ xs) ys (suc place) past all = past-false test xs ys place (omega (arith, past)) all
+
 has-All : (P : ℕ → Type 0) (list : List ℕ) (n : ℕ) → All P list → has list n ≡ true → P n
 has-All P [] n all found = absurd (has-none n found)
 has-All P (head ∷ rest) n all found =
@@ -127,12 +138,13 @@ get_or-in nets [] k all = tt
 get_or-in nets (net ∷ list) zero all = All-head (IsNetIn nets) net list all
 get_or-in nets (net ∷ list) (suc k) all = get_or-in nets list k (All-tail (IsNetIn nets) net list all)
 
-source-in : (nets : ℕ) (source : LutSource) → IsSourceIn nets source → All (Below nets) (source_nets source)
-source-in nets (Net net) in' = listed-in nets net in'
-source-in nets (SourcePin place) in' = All-nil (Below nets)
+signal-in : (nets : ℕ) (source : Signal) → IsSignalIn nets source → All (Below nets) (signal_nets source)
+signal-in nets (signal.Net net otherwise) in' = listed-in nets net in'
+signal-in nets (signal.Input place) in' = All-nil (Below nets)
+signal-in nets (signal.Register place) in' = All-nil (Below nets)
 
-sources-in : (nets : ℕ) (ins : List LutSource) → All (IsSourceIn nets) ins → All (Below nets) (flat_map source_nets ins)
-sources-in nets ins all = All-flat_map (Below nets) source_nets ins (All-weaker (IsSourceIn nets) (λ source. All (Below nets) (source_nets source)) (source-in nets) ins all)
+signals-in : (nets : ℕ) (ins : List Signal) → All (IsSignalIn nets) ins → All (Below nets) (flat_map signal_nets ins)
+signals-in nets ins all = All-flat_map (Below nets) signal_nets ins (All-weaker (IsSignalIn nets) (λ source. All (Below nets) (signal_nets source)) (signal-in nets) ins all)
 
 -- the inputs that a LUT reads are inputs of its cell
 used_input-in : (nets word : ℕ) (ins : List (Option ℕ)) (k : ℕ) → All (IsNetIn nets) ins → IsNetIn nets (used_input word ins k)
@@ -152,9 +164,9 @@ inputs_read-in nets read.Used word ins all =
     (All-cons P (used 1) (used 2 ∷ used 3 ∷ []) (input 1) (All-cons P (used 2) (used 3 ∷ []) (input 2) (All-cons P (used 3) [] (input 3) (All-nil P))))
 
 -- so are those of its table
-cell_sources-in : (nets : ℕ) (inputs : LutInputs) (lc : LogicCell) → IsCellIn nets lc → All (IsSourceIn nets) (table_of inputs lc).ins
-cell_sources-in nets inputs lc in' =
-    All-map (IsSourceIn nets) Net (inputs_read inputs lc.lut lc.ins) (inputs_read-in nets inputs lc.lut lc.ins in'.ins)
+cell_signals-in : (nets : ℕ) (inputs : LutInputs) (lc : LogicCell) → IsCellIn nets lc → All (IsSignalIn nets) (table_of inputs lc).ins
+cell_signals-in nets inputs lc in' =
+    All-map (IsSignalIn nets) net_or_0 (inputs_read inputs lc.lut lc.ins) (inputs_read-in nets inputs lc.lut lc.ins in'.ins)
 
 -- ---- drivers
 
@@ -182,30 +194,20 @@ module _ (nets : ℕ) where
   unfolding nets_read
   register_reads-in place register in' = All-if (Below nets) register.is_async (option_to_list register.sr) (listed-in nets register.sr in'.sr)
 
-  register_rule-in : (found : Option (ℕ × Register)) → HoldsOf (λ (place : ℕ × Register). IsRegisterIn nets place.1) found → All (Below nets) (nets_read (register_rule found))
+  output-in : (fabric : Fabric) (pin : Pin) → IsPinIn nets pin → All (Below nets) (signal_nets (output_signal fabric pin))
+  output-in fabric pin in' =
+      elim (cases_Bool (is_registered pin)) [
+        | inl here ↦ rw here (All-nil (Below nets))
+        | inr away ↦ rw away (listed-in nets pin.dout in'.dout)
+      ]
+
+  back_drives-in : (fabric : Fabric) (pin : Pin) → IsPinIn nets pin → All (IsDriveIn nets) (back_drives fabric pin)
   unfolding nets_read
-  register_rule-in None in' = All-nil (Below nets)
-  register_rule-in (Some place) in' = register_reads-in place.0 place.1 in'
-
-  input_reads-in : (stated : Bool) (net : Option ℕ) → IsNetIn nets net → All (Below nets) (nets_read (input stated net))
-  unfolding nets_read
-  input_reads-in stated net in' = listed-in nets net in'
-
-  output_rule-in : (registers : List Register) (pin : Pin) → All (IsRegisterIn nets) registers → IsPinIn nets pin
-      → All (Below nets) (nets_read (output_rule registers pin))
-  output_rule-in registers pin all in' =
-      let found = find (is_output_register pin) (numbered registers) in
-      reads_if-in (is_registered pin) (register_rule found) (input false pin.dout)
-      (register_rule-in found
-      (find-holds (λ (place : ℕ × Register). IsRegisterIn nets place.1) (is_output_register pin) (numbered registers) (All-numbered (IsRegisterIn nets) 0 registers all)))
-      (input_reads-in false pin.dout in'.dout)
-
-  back_drives-in : (registers : List Register) → All (IsRegisterIn nets) registers → (pin : Pin) → IsPinIn nets pin → All (IsDriveIn nets) (back_drives registers pin)
-  back_drives-in registers all pin in' = drives_if-in nets _ (output_rule registers pin) pin.din in'.din (output_rule-in registers pin all in')
+  back_drives-in fabric pin in' = drives_if-in nets _ (input (output_signal fabric pin)) pin.din in'.din (output-in fabric pin in')
 
   lut_reads-in : (inputs : LutInputs) (lc : LogicCell) → IsCellIn nets lc → All (Below nets) (nets_read (table_entry (table_of inputs lc)))
   unfolding nets_read
-  lut_reads-in inputs lc in' = sources-in nets (table_of inputs lc).ins (cell_sources-in nets inputs lc in')
+  lut_reads-in inputs lc in' = signals-in nets (table_of inputs lc).ins (cell_signals-in nets inputs lc in')
 
   lut_drives-in : (inputs : LutInputs) (lc : LogicCell) → IsCellIn nets lc → All (IsDriveIn nets) (lut_drives inputs lc)
   lut_drives-in inputs lc in' = drives_if-in nets _ (table_entry (table_of inputs lc)) lc.out in'.out (lut_reads-in inputs lc in')
@@ -266,7 +268,7 @@ module _ (nets : ℕ) where
   gives-in Is given each parts all =
       All-flat_map (IsDriveIn nets) given parts (All-weaker Is (λ x. All (IsDriveIn nets) (given x)) each parts all)
 
-module _ (fabric : Fabric) (in' : HasNetsIn fabric) where
+module _ (fabric : Fabric) (in' : IsClosed fabric) where
   All-then : (first second : List Drive) → All (IsDriveIn fabric.nets) first → All (IsDriveIn fabric.nets) second → All (IsDriveIn fabric.nets) (first ++ second)
   All-then first second = All-append (IsDriveIn fabric.nets) first second
 
@@ -276,7 +278,7 @@ module _ (fabric : Fabric) (in' : HasNetsIn fabric) where
       let nets = fabric.nets in
       let inputs = All-filter (λ pin. not pin.output) (IsPinIn nets) fabric.pins in'.pins in
       All-then _ _ (gives-in nets (λ (place : ℕ × Pin). IsPinIn nets place.1) pin_drives (pin_drives-in nets) (numbered (inputs_of fabric)) (All-numbered (IsPinIn nets) 0 (inputs_of fabric) inputs))
-      (All-then _ _ (gives-in nets (IsPinIn nets) (back_drives fabric.registers) (back_drives-in nets fabric.registers in'.registers) _ (All-filter (λ pin. pin.back) (IsPinIn nets) fabric.pins in'.pins))
+      (All-then _ _ (gives-in nets (IsPinIn nets) (back_drives fabric) (back_drives-in nets fabric) _ (All-filter (λ pin. pin.back) (IsPinIn nets) fabric.pins in'.pins))
       (All-then _ _ (gives-in nets (IsCellIn nets) (lut_drives fabric.lut_inputs) (lut_drives-in nets fabric.lut_inputs) _ (All-filter (λ lc. not lc.flip) (IsCellIn nets) fabric.lcs in'.lcs))
       (All-then _ _ (gives-in nets (λ (place : ℕ × Register). IsRegisterIn nets place.1) flip_drives (flip_drives-in nets) (numbered fabric.registers)
       (All-numbered (IsRegisterIn nets) 0 fabric.registers in'.registers))
@@ -295,30 +297,31 @@ module _ (fabric : Fabric) (in' : HasNetsIn fabric) where
     drives = λ drive there. (All-contains (IsDriveIn fabric.nets) (drives_of fabric) drive drives-in there).net;
     reads = λ drive there net reads.
         has-All (Below fabric.nets) (nets_read drive.rule) net (All-contains (IsDriveIn fabric.nets) (drives_of fabric) drive drives-in there).reads reads;
+    closed = in';
   }
 
   -- what an output reads
   abbrev ReadsIn : Output → Type 0
-  ReadsIn output = All (Below fabric.nets) (nets_read output.rule)
+  ReadsIn output = All (Below fabric.nets) (signal_nets output.source)
 
   enable-in : (pin : Pin) → IsPinIn fabric.nets pin → All ReadsIn (enable_outputs pin)
   enable-in pin in'' =
-      All-if ReadsIn _ (record { pin = pin; enable = true; rule = input true pin.enable } ∷ [])
-      (All-single ReadsIn (record { pin = pin; enable = true; rule = input true pin.enable }) (input_reads-in fabric.nets true pin.enable in''.enable))
+      All-if ReadsIn _ (record { pin = pin; enable = true; source = net_or_1 pin.enable } ∷ [])
+      (All-single ReadsIn (record { pin = pin; enable = true; source = net_or_1 pin.enable }) (listed-in fabric.nets pin.enable in''.enable))
 
   outputs-in : All ReadsIn (outputs_of fabric)
   unfolding outputs_of
   outputs-in =
-      All-flat_map ReadsIn (pin_outputs fabric.registers) (filter (λ pin. pin.output) fabric.pins)
-      (All-weaker (IsPinIn fabric.nets) (λ pin. All ReadsIn (pin_outputs fabric.registers pin))
-      (λ pin of_pin. All-cons ReadsIn (record { pin = pin; enable = false; rule = output_rule fabric.registers pin }) (enable_outputs pin)
-      (output_rule-in fabric.nets fabric.registers pin in'.registers of_pin) (enable-in pin of_pin))
+      All-flat_map ReadsIn (pin_outputs fabric) (filter (λ pin. pin.output) fabric.pins)
+      (All-weaker (IsPinIn fabric.nets) (λ pin. All ReadsIn (pin_outputs fabric pin))
+      (λ pin of_pin. All-cons ReadsIn (record { pin = pin; enable = false; source = output_signal fabric pin }) (enable_outputs pin)
+      (output-in fabric.nets fabric pin of_pin) (enable-in pin of_pin))
       (filter (λ pin. pin.output) fabric.pins) (All-filter (λ pin. pin.output) (IsPinIn fabric.nets) fabric.pins in'.pins))
 
   -- the nets that outputs read are nets of the fabric
-  pub outputs-within : (output : Output) → Contains (outputs_of fabric) output → (net : ℕ) → has (nets_read output.rule) net ≡ true → net < fabric.nets
+  pub outputs-within : (output : Output) → Contains (outputs_of fabric) output → (net : ℕ) → has (signal_nets output.source) net ≡ true → net < fabric.nets
   outputs-within output there net reads =
-      has-All (Below fabric.nets) (nets_read output.rule) net (All-contains ReadsIn (outputs_of fabric) output outputs-in there) reads
+      has-All (Below fabric.nets) (signal_nets output.source) net (All-contains ReadsIn (outputs_of fabric) output outputs-in there) reads
 
 -- ---- the fabric of a database
 
@@ -403,9 +406,9 @@ module _ (db : Database) (image : Configuration) (fit : IsFit db) where
   register_of-in inputs lc in' = record {
     out = in'.out;
     clk = in'.clk;
-    cen = in'.cen;
+    enable = in'.cen;
     sr = in'.sr;
-    ins = cell_sources-in db.chip.nets inputs lc in';
+    ins = cell_signals-in db.chip.nets inputs lc in';
   }
 
   flips-in : (inputs : LutInputs) → All (IsRegisterIn db.chip.nets) (registers_of inputs (cells_of db image))
@@ -415,24 +418,24 @@ module _ (db : Database) (image : Configuration) (fit : IsFit db) where
       (All-filter (λ lc. lc.flip) (λ lc. IsRegisterIn db.chip.nets (register_of inputs lc)) (cells_of db image)
       (All-weaker (IsCellIn db.chip.nets) (λ lc. IsRegisterIn db.chip.nets (register_of inputs lc)) (register_of-in inputs) (cells_of db image) cells-in))
 
-  pin_source-in : (inputs : List Pin) (pin : Pin) → IsPinIn db.chip.nets pin → IsSourceIn db.chip.nets (pin_source inputs pin)
+  pin_source-in : (inputs : List Pin) (pin : Pin) → IsPinIn db.chip.nets pin → IsSignalIn db.chip.nets (pin_source inputs pin)
   pin_source-in inputs pin in' = elim (cases_Bool pin.output) [ inl out ↦ rw out (in'.dout) | inr goes_in ↦ rw goes_in tt ]
 
   out-in : (pin : Pin) → IsPinIn db.chip.nets pin → IsNetIn db.chip.nets (if pin.output then None else pin.din)
   out-in pin in' = elim (cases_Bool pin.output) [ inl out ↦ rw out tt | inr goes_in ↦ rw goes_in (in'.din) ]
 
-  sources_from-in : (source : LutSource) → IsSourceIn db.chip.nets source → All (IsSourceIn db.chip.nets) (source ∷ Net None ∷ Net None ∷ Net None ∷ [])
+  sources_from-in : (source : Signal) → IsSignalIn db.chip.nets source → All (IsSignalIn db.chip.nets) (source ∷ net_or_0 None ∷ net_or_0 None ∷ net_or_0 None ∷ [])
   sources_from-in source in' =
-      let Is = IsSourceIn db.chip.nets in
-      All-cons Is source (Net None ∷ Net None ∷ Net None ∷ []) in'
-      (All-cons Is (Net None) (Net None ∷ Net None ∷ []) tt (All-cons Is (Net None) (Net None ∷ []) tt (All-single Is (Net None) tt)))
+      let Is = IsSignalIn db.chip.nets in
+      All-cons Is source (net_or_0 None ∷ net_or_0 None ∷ net_or_0 None ∷ []) in'
+      (All-cons Is (net_or_0 None) (net_or_0 None ∷ net_or_0 None ∷ []) tt (All-cons Is (net_or_0 None) (net_or_0 None ∷ []) tt (All-single Is (net_or_0 None) tt)))
 
   pin_register-in : (inputs : List Pin) (pin : Pin) → IsPinIn db.chip.nets pin → IsRegisterIn db.chip.nets (pin_register db image inputs pin)
   unfolding pin_register
   pin_register-in inputs pin in' = record {
     out = out-in pin in';
     clk = named-in pin.x pin.y _;
-    cen = named-in pin.x pin.y _;
+    enable = named-in pin.x pin.y _;
     sr = tt;
     ins = sources_from-in (pin_source inputs pin) (pin_source-in inputs pin in');
   }
@@ -444,6 +447,37 @@ module _ (db : Database) (image : Configuration) (fit : IsFit db) where
       All-map (IsRegisterIn db.chip.nets) made (filter is_registered (pins_of db image))
       (All-filter is_registered (λ pin. IsRegisterIn db.chip.nets (made pin)) (pins_of db image)
       (All-weaker (IsPinIn db.chip.nets) (λ pin. IsRegisterIn db.chip.nets (made pin)) (pin_register-in _) (pins_of db image) pins-in))
+
+  -- the registers of pins come after the flip-flops, and are synchronous
+  pin_registers-steady : All (λ (register : Register). register.is_async ≡ false) (pin_registers_of db image (pins_of db image))
+  unfolding pin_registers_of pin_register
+  pin_registers-steady =
+      let made = pin_register db image (filter (λ pin. not pin.output) (pins_of db image)) in
+      let pinned = filter is_registered (pins_of db image) in
+      All-map (λ (register : Register). register.is_async ≡ false) made pinned
+      (All-weaker (Contains pinned) (λ pin. (made pin).is_async ≡ false) (λ pin there. refl) pinned (All-contains_itself pinned))
+
+  flips-counted : (inputs : LutInputs) → length (registers_of inputs (cells_of db image)) ≡ length (filter (λ lc. lc.flip) (cells_of db image))
+  unfolding registers_of
+  flips-counted inputs = length-map (filter (λ lc. lc.flip) (cells_of db image)) (register_of inputs)
+
+  pinned-counted : length (pin_registers_of db image (pins_of db image)) ≡ length (filter is_registered (pins_of db image))
+  unfolding pin_registers_of
+  pinned-counted = length-map (filter is_registered (pins_of db image)) (pin_register db image (filter (λ pin. not pin.output) (pins_of db image)))
+
+  registers-counted : (inputs : LutInputs) → length (filter (λ lc. lc.flip) (cells_of db image)) + length (filter is_registered (pins_of db image))
+      ≡ length (registers_of inputs (cells_of db image) ++ pin_registers_of db image (pins_of db image))
+  registers-counted inputs =
+      let both = length-append (registers_of inputs (cells_of db image)) (pin_registers_of db image (pins_of db image)) in
+      let flips = flips-counted inputs in
+      omega (arith, both, flips, pinned-counted)
+
+  registers-steady : (inputs : LutInputs) (place : ℕ) → length (filter (λ lc. lc.flip) (cells_of db image)) ≤ place
+      → is_async_at (registers_of inputs (cells_of db image) ++ pin_registers_of db image (pins_of db image)) place ≡ false
+  registers-steady inputs place past =
+      let flips = flips-counted inputs in
+      past-false (λ (register : Register). register.is_async) (registers_of inputs (cells_of db image)) (pin_registers_of db image (pins_of db image)) place
+      (omega (arith, past, flips)) pin_registers-steady
 
   set_with-in : (x y : ℕ) (net : Option ℕ) → IsNetIn db.chip.nets net → All (IsSetIn db.chip.nets) (set_with x y net)
   set_with-in x y None in' = All-nil (IsSetIn db.chip.nets)
@@ -504,7 +538,7 @@ module _ (db : Database) (image : Configuration) (fit : IsFit db) where
       All-gathered_below (IsGlobalIn db.chip.nets) 8 (λ g. nets_from db g (global_source db image g))
       (λ g below. nets_from-in g (global_source db image g) (global_source-in (global_pad db image g) (global_fabout db g) (fabout-in (input_of g db.global_inputs) _)))
 
-  pub fabric-in : (inputs : LutInputs) → HasNetsIn (fabric_with inputs db image)
+  pub fabric-in : (inputs : LutInputs) → IsClosed (fabric_with inputs db image)
   unfolding fabric_with
   fabric-in inputs = record {
     joins = joins-in;
@@ -515,6 +549,8 @@ module _ (db : Database) (image : Configuration) (fit : IsFit db) where
     registers = All-append (IsRegisterIn db.chip.nets) (registers_of inputs (cells_of db image)) (pin_registers_of db image (pins_of db image)) (flips-in inputs) pin_registers-in;
     sets = sets-in;
     rams = rams-in;
+    pinned = registers-counted inputs;
+    steady = registers-steady inputs;
   }
 
   -- all nets of the fabric are nets of the device

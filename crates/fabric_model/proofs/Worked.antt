@@ -12,13 +12,13 @@ use Rattle.chipdb_reader.specs.Database.{Database, Link}
 use Rattle.fabric_model.specs.declared.driver.Driver.{Driver}
 use Rattle.fabric_model.specs.declared.driver.Driver.TheVariants as driver
 use Rattle.fabric_model.specs.declared.driver.ClockUser.TheVariants.{Cell, Input, Output as UsedByOutput}
-use Rattle.fabric_model.specs.declared.register.LutSource.TheVariants.{Net, Pin as SourcePin}
+use Rattle.fabric_model.specs.declared.signal.Signal.TheVariants as signal
 use Rattle.fabric_model.specs.declared.pin.PinKind.TheVariants.{Plain, Registered}
 use Rattle.fabric_model.specs.declared.pin.GlobalFrom.TheVariants.{Pad, Fabout}
 use Rattle.fabric_model.specs.declared.cell.LogicCell.{LogicCell}
 use Rattle.fabric_model.specs.declared.lut_inputs.LutInputs.TheVariants as read
 use Rattle.fabric_model.specs.declared.register.Register.{Register}
-use Rattle.fabric_model.specs.declared.register.LutSource.{LutSource}
+use Rattle.fabric_model.specs.declared.signal.Signal.{Signal}
 use Rattle.fabric_model.specs.declared.driver.ClockUser.{ClockUser}
 use Rattle.fabric_model.specs.declared.ram.RamCell.{RamCell}
 use Rattle.fabric_model.specs.Tiles.{each_below}
@@ -39,10 +39,10 @@ use Rattle.fabric_model.specs.Joins.{is_joined, class_of}
 use Rattle.fabric_model.specs.Fabric.{numbered_from, joins_of, buffers_of, fabric_with, fabric_of}
 use Rattle.fabric_model.specs.Luts.{uses_input}
 use Rattle.fabric_model.specs.Registers.{table_of, register_of, registers_of, pin_register, pin_registers_of}
+use Rattle.fabric_model.specs.Signals.{net_or_0, net_or_1}
 use Rattle.fabric_model.specs.Drivers.{drives_of, drivers_of, is_driven, nets_read, read_data_rule}
 use Rattle.fabric_model.specs.Outputs.{outputs_of}
-use Rattle.fabric_model.specs.Drivers.{Rule}
-use Rattle.fabric_model.specs.Drivers.Rule.{table_entry, majority_of, register_bit, read_bit, constant, input}
+use Rattle.fabric_model.specs.Drivers.Rule.{table_entry, majority_of, register_bit, read_bit, constant}
 use Rattle.fabric_model.specs.Values.{State, lut_value, settled_bit, value_of}
 use Rattle.fabric_model.specs.Steps.{next_bit, written, shown, next_words, next_register, state_after, settled_state, output_values}
 use Rattle.graph_order.specs.Wiring.{has, leads_below, is_on_cycle}
@@ -356,9 +356,9 @@ unfolding database_a database_b image_with digits word_bits word_of bytes_of bla
 pin_registered = refl
 
 -- the register of a registered input takes the pin, and drives its net; the clock is another pin
-registered_input : map {B = ClockUser × Option ℕ × Option ℕ × List LutSource} (λ register. (register.user, register.out, register.clk, register.table.ins))
+registered_input : map {B = ClockUser × Option ℕ × Option ℕ × List Signal} (λ register. (register.user, register.out, register.clk, register.table.ins))
     (fabric_of database_e (image_with (at 0 2 0 0 ∷ at 0 2 3 0 ∷ at 0 2 4 0 ∷ at 0 2 6 0 ∷ at 0 3 0 0 ∷ (lut_i ++ at 1 1 2 0 ∷ [])))).registers
-    ≡ (Input 0, Some 0, Some 4, SourcePin 0 ∷ Net None ∷ Net None ∷ Net None ∷ []) ∷ []
+    ≡ (Input 0, Some 0, Some 4, signal.Input 0 ∷ net_or_0 None ∷ net_or_0 None ∷ net_or_0 None ∷ []) ∷ []
 unfolding database_a database_e image_with digits word_bits word_of bytes_of blank flat rows_of row_from rows_from kind_of start_in standard_widths standard_side_columns standard_pad_columns standard_pad_rows standard_banks place_of word_place_of any_below least_below last_below first_below gathered_below net_at names_of_net function_place extra_place input_of pad_of are_set is_link_on is_function_on is_any_on is_extra_on over_grid is_read cell_places cell_bits entry_bits cell_with cells_at cells_of register_of registers_of pin_register pin_registers_of sets_of is_ram_used ram_at rams_of start_words pintype_of pin_with pins_of global_nets globals_of is_refused_with is_joined class_of numbered_from joins_of buffers_of fabric_with drives_of drivers_of is_driven nets_read lut_value settled_bit value_of next_bit written shown next_words next_register state_after settled_state outputs_of output_values wiring_of has leads_below is_on_cycle turn_at pass_of is_at_open end_within clock_end users_of device_faults pll_faults pin_faults cascade_faults driver_faults loop_faults clock_faults pins_fault rams_fault fabric_fault design_fault
 registered_input = refl
 
@@ -370,32 +370,37 @@ unfolding database_a database_e image_with digits word_bits word_of bytes_of bla
 registered_drivers = refl
 
 -- a tri-state pin has two outputs, the second of which is 1 if nothing drives it
-switched : map {B = Bool × Rule} (λ output. (output.enable, output.rule))
+switched : map {B = Bool × Signal} (λ output. (output.enable, output.source))
     (outputs_of (fabric_of database_a (image_with (at 0 1 0 0 ∷ at 0 2 0 0 ∷ at 0 2 3 0 ∷ at 0 2 5 0 ∷ at 0 2 6 0 ∷ (lut_i ++ at 1 1 2 0 ∷ [])))))
-    ≡ (false, input false (Some 3)) ∷ (true, input true None) ∷ []
+    ≡ (false, net_or_0 (Some 3)) ∷ (true, net_or_1 None) ∷ []
 unfolding database_a image_with digits word_bits word_of bytes_of blank flat rows_of row_from rows_from kind_of start_in standard_widths standard_side_columns standard_pad_columns standard_pad_rows standard_banks place_of word_place_of any_below least_below last_below first_below gathered_below net_at names_of_net function_place extra_place input_of pad_of are_set is_link_on is_function_on is_any_on is_extra_on over_grid is_read cell_places cell_bits entry_bits cell_with cells_at cells_of register_of registers_of pin_register pin_registers_of sets_of is_ram_used ram_at rams_of start_words pintype_of pin_with pins_of global_nets globals_of is_refused_with is_joined class_of numbered_from joins_of buffers_of fabric_with drives_of drivers_of is_driven nets_read lut_value settled_bit value_of next_bit written shown next_words next_register state_after settled_state outputs_of output_values wiring_of has leads_below is_on_cycle turn_at pass_of is_at_open end_within clock_end users_of device_faults pll_faults pin_faults cascade_faults driver_faults loop_faults clock_faults pins_fault rams_fault fabric_fault design_fault
 switched = refl
 
--- a registered output has the value of its register, which takes what is given to the pin and has no clock here
+-- a registered output has the value of its register
 registered_output : outputs_of (fabric_of database_a (image_with (at 0 1 0 0 ∷ at 0 2 0 0 ∷ at 0 2 2 0 ∷ at 0 2 4 0 ∷ at 0 2 6 0 ∷ (lut_i ++ at 1 1 2 0 ∷ [])))) ≡ record {
   pin = record { x = 0; y = 2; n = 0; kind = Registered; output = true; back = true; din = None; dout = Some 3; enable = None };
   enable = false;
-  rule = register_bit 0 (record {
-    x = 0;
-    y = 2;
-    user = UsedByOutput 0;
-    out = None;
-    clk = None;
-    neg = false;
-    cen = None;
-    sr = None;
-    «set» = false;
-    is_async = false;
-    table = record { word = 43690; ins = Net (Some 3) ∷ Net None ∷ Net None ∷ Net None ∷ [] };
-  });
+  source = signal.Register 0;
 } ∷ []
 unfolding database_a image_with digits word_bits word_of bytes_of blank flat rows_of row_from rows_from kind_of start_in standard_widths standard_side_columns standard_pad_columns standard_pad_rows standard_banks place_of word_place_of any_below least_below last_below first_below gathered_below net_at names_of_net function_place extra_place input_of pad_of are_set is_link_on is_function_on is_any_on is_extra_on over_grid is_read cell_places cell_bits entry_bits cell_with cells_at cells_of register_of registers_of pin_register pin_registers_of sets_of is_ram_used ram_at rams_of start_words pintype_of pin_with pins_of global_nets globals_of is_refused_with is_joined class_of numbered_from joins_of buffers_of fabric_with drives_of drivers_of is_driven nets_read lut_value settled_bit value_of next_bit written shown next_words next_register state_after settled_state outputs_of output_values wiring_of has leads_below is_on_cycle turn_at pass_of is_at_open end_within clock_end users_of device_faults pll_faults pin_faults cascade_faults driver_faults loop_faults clock_faults pins_fault rams_fault fabric_fault design_fault
 registered_output = refl
+
+-- which takes what is given to the pin, and has no clock here
+output_register : (fabric_of database_a (image_with (at 0 1 0 0 ∷ at 0 2 0 0 ∷ at 0 2 2 0 ∷ at 0 2 4 0 ∷ at 0 2 6 0 ∷ (lut_i ++ at 1 1 2 0 ∷ [])))).registers ≡ record {
+  x = 0;
+  y = 2;
+  user = UsedByOutput 0;
+  out = None;
+  clk = None;
+  neg = false;
+  enable = net_or_1 None;
+  sr = None;
+  «set» = false;
+  is_async = false;
+  table = record { word = 43690; ins = net_or_0 (Some 3) ∷ net_or_0 None ∷ net_or_0 None ∷ net_or_0 None ∷ [] };
+} ∷ []
+unfolding database_a image_with digits word_bits word_of bytes_of blank flat rows_of row_from rows_from kind_of start_in standard_widths standard_side_columns standard_pad_columns standard_pad_rows standard_banks place_of word_place_of any_below least_below last_below first_below gathered_below net_at names_of_net function_place extra_place input_of pad_of are_set is_link_on is_function_on is_any_on is_extra_on over_grid is_read cell_places cell_bits entry_bits cell_with cells_at cells_of register_of registers_of pin_register pin_registers_of sets_of is_ram_used ram_at rams_of start_words pintype_of pin_with pins_of global_nets globals_of is_refused_with is_joined class_of numbered_from joins_of buffers_of fabric_with drives_of drivers_of is_driven nets_read lut_value settled_bit value_of next_bit written shown next_words next_register state_after settled_state outputs_of output_values wiring_of has leads_below is_on_cycle turn_at pass_of is_at_open end_within clock_end users_of device_faults pll_faults pin_faults cascade_faults driver_faults loop_faults clock_faults pins_fault rams_fault fabric_fault design_fault
+output_register = refl
 
 -- another output part
 not_switched : design_fault read.All database_a (image_with (at 0 1 0 0 ∷ at 0 2 0 0 ∷ at 0 2 2 0 ∷ at 0 2 5 0 ∷ at 0 2 6 0 ∷ (lut_i ++ at 1 1 2 0 ∷ []))) ≡ Some (fault.pin_mode 0 2 0 37)
@@ -472,17 +477,17 @@ unfolding image_with digits word_bits word_of bytes_of blank flat rows_of row_fr
 classes = refl
 
 -- entry 1 of a LUT has in_0 alone
-entry_one : lut_value (λ net. true) [] (λ net. net == 0) (table_of read.All (cell_with_lut 2)) ≡ true
+entry_one : lut_value (λ net. true) nothing_kept [] (λ net. net == 0) (table_of read.All (cell_with_lut 2)) ≡ true
 unfolding image_with digits word_bits word_of bytes_of blank flat rows_of row_from rows_from kind_of start_in standard_widths standard_side_columns standard_pad_columns standard_pad_rows standard_banks place_of word_place_of any_below least_below last_below first_below gathered_below net_at names_of_net function_place extra_place input_of pad_of are_set is_link_on is_function_on is_any_on is_extra_on over_grid is_read cell_places cell_bits entry_bits cell_with cells_at cells_of register_of registers_of pin_register pin_registers_of sets_of is_ram_used ram_at rams_of start_words pintype_of pin_with pins_of global_nets globals_of is_refused_with is_joined class_of numbered_from joins_of buffers_of fabric_with drives_of drivers_of is_driven nets_read lut_value settled_bit value_of next_bit written shown next_words next_register state_after settled_state outputs_of output_values wiring_of has leads_below is_on_cycle turn_at pass_of is_at_open end_within clock_end users_of device_faults pll_faults pin_faults cascade_faults driver_faults loop_faults clock_faults pins_fault rams_fault fabric_fault design_fault
 entry_one = refl
 
 -- entry 8 has in_3 alone
-entry_eight : lut_value (λ net. true) [] (λ net. net == 3) (table_of read.All (cell_with_lut 256)) ≡ true
+entry_eight : lut_value (λ net. true) nothing_kept [] (λ net. net == 3) (table_of read.All (cell_with_lut 256)) ≡ true
 unfolding image_with digits word_bits word_of bytes_of blank flat rows_of row_from rows_from kind_of start_in standard_widths standard_side_columns standard_pad_columns standard_pad_rows standard_banks place_of word_place_of any_below least_below last_below first_below gathered_below net_at names_of_net function_place extra_place input_of pad_of are_set is_link_on is_function_on is_any_on is_extra_on over_grid is_read cell_places cell_bits entry_bits cell_with cells_at cells_of register_of registers_of pin_register pin_registers_of sets_of is_ram_used ram_at rams_of start_words pintype_of pin_with pins_of global_nets globals_of is_refused_with is_joined class_of numbered_from joins_of buffers_of fabric_with drives_of drivers_of is_driven nets_read lut_value settled_bit value_of next_bit written shown next_words next_register state_after settled_state outputs_of output_values wiring_of has leads_below is_on_cycle turn_at pass_of is_at_open end_within clock_end users_of device_faults pll_faults pin_faults cascade_faults driver_faults loop_faults clock_faults pins_fault rams_fault fabric_fault design_fault
 entry_eight = refl
 
 -- an input without a driver counts as 0
-entry_none : lut_value (λ net. false) [] (λ net. true) (table_of read.All (cell_with_lut 1)) ≡ true
+entry_none : lut_value (λ net. false) nothing_kept [] (λ net. true) (table_of read.All (cell_with_lut 1)) ≡ true
 unfolding image_with digits word_bits word_of bytes_of blank flat rows_of row_from rows_from kind_of start_in standard_widths standard_side_columns standard_pad_columns standard_pad_rows standard_banks place_of word_place_of any_below least_below last_below first_below gathered_below net_at names_of_net function_place extra_place input_of pad_of are_set is_link_on is_function_on is_any_on is_extra_on over_grid is_read cell_places cell_bits entry_bits cell_with cells_at cells_of register_of registers_of pin_register pin_registers_of sets_of is_ram_used ram_at rams_of start_words pintype_of pin_with pins_of global_nets globals_of is_refused_with is_joined class_of numbered_from joins_of buffers_of fabric_with drives_of drivers_of is_driven nets_read lut_value settled_bit value_of next_bit written shown next_words next_register state_after settled_state outputs_of output_values wiring_of has leads_below is_on_cycle turn_at pass_of is_at_open end_within clock_end users_of device_faults pll_faults pin_faults cascade_faults driver_faults loop_faults clock_faults pins_fault rams_fault fabric_fault design_fault
 entry_none = refl
 
@@ -532,27 +537,27 @@ unfolding uses_input any_below word_bits nets_read
 reads_none = refl
 
 -- an input that isn't used is none in the table, and the value is the same
-unused_value : lut_value (λ net. true) [] (λ net. (net == 0) || (net == 2)) (table_of read.Used (cell_with_lut 39270)) ≡ true
+unused_value : lut_value (λ net. true) nothing_kept [] (λ net. (net == 0) || (net == 2)) (table_of read.Used (cell_with_lut 39270)) ≡ true
 unfolding uses_input any_below word_bits lut_value
 unused_value = refl
 
 -- a synchronous reset doesn't act if the clock enable is 0
-reset_disabled : next_bit (λ net. true) [] (λ net. net == 6) (register_with false) false ≡ false
+reset_disabled : next_bit (λ net. true) nothing_kept [] (λ net. net == 6) (register_with false) false ≡ false
 unfolding image_with digits word_bits word_of bytes_of blank flat rows_of row_from rows_from kind_of start_in standard_widths standard_side_columns standard_pad_columns standard_pad_rows standard_banks place_of word_place_of any_below least_below last_below first_below gathered_below net_at names_of_net function_place extra_place input_of pad_of are_set is_link_on is_function_on is_any_on is_extra_on over_grid is_read cell_places cell_bits entry_bits cell_with cells_at cells_of register_of registers_of pin_register pin_registers_of sets_of is_ram_used ram_at rams_of start_words pintype_of pin_with pins_of global_nets globals_of is_refused_with is_joined class_of numbered_from joins_of buffers_of fabric_with drives_of drivers_of is_driven nets_read lut_value settled_bit value_of next_bit written shown next_words next_register state_after settled_state outputs_of output_values wiring_of has leads_below is_on_cycle turn_at pass_of is_at_open end_within clock_end users_of device_faults pll_faults pin_faults cascade_faults driver_faults loop_faults clock_faults pins_fault rams_fault fabric_fault design_fault
 reset_disabled = refl
 
 -- it acts if the clock enable has no driver
-reset_enabled : next_bit (λ net. not (net == 5)) [] (λ net. net == 6) (register_with false) false ≡ true
+reset_enabled : next_bit (λ net. not (net == 5)) nothing_kept [] (λ net. net == 6) (register_with false) false ≡ true
 unfolding image_with digits word_bits word_of bytes_of blank flat rows_of row_from rows_from kind_of start_in standard_widths standard_side_columns standard_pad_columns standard_pad_rows standard_banks place_of word_place_of any_below least_below last_below first_below gathered_below net_at names_of_net function_place extra_place input_of pad_of are_set is_link_on is_function_on is_any_on is_extra_on over_grid is_read cell_places cell_bits entry_bits cell_with cells_at cells_of register_of registers_of pin_register pin_registers_of sets_of is_ram_used ram_at rams_of start_words pintype_of pin_with pins_of global_nets globals_of is_refused_with is_joined class_of numbered_from joins_of buffers_of fabric_with drives_of drivers_of is_driven nets_read lut_value settled_bit value_of next_bit written shown next_words next_register state_after settled_state outputs_of output_values wiring_of has leads_below is_on_cycle turn_at pass_of is_at_open end_within clock_end users_of device_faults pll_faults pin_faults cascade_faults driver_faults loop_faults clock_faults pins_fault rams_fault fabric_fault design_fault
 reset_enabled = refl
 
 -- one that acts at once goes before the enable
-reset_first : next_bit (λ net. true) [] (λ net. net == 6) (register_with true) false ≡ true
+reset_first : next_bit (λ net. true) nothing_kept [] (λ net. net == 6) (register_with true) false ≡ true
 unfolding register_of nets_read lut_value word_bits settled_bit value_of next_bit
 reset_first = refl
 
 -- without the reset the enable counts
-enable_second : next_bit (λ net. true) [] (λ net. false) (register_with true) true ≡ true
+enable_second : next_bit (λ net. true) nothing_kept [] (λ net. false) (register_with true) true ≡ true
 unfolding register_of nets_read lut_value word_bits settled_bit value_of next_bit
 enable_second = refl
 
@@ -630,42 +635,42 @@ carried = refl
 -- ---- what a LUT does to a clock
 
 -- the table 5555 inverts in_0
-inverted_pass : pass_of (λ net. true) (record { word = 21845; ins = Net (Some 5) ∷ Net None ∷ Net None ∷ Net None ∷ [] }) ≡ follows true 5
+inverted_pass : pass_of (λ net. true) (record { word = 21845; ins = net_or_0 (Some 5) ∷ net_or_0 None ∷ net_or_0 None ∷ net_or_0 None ∷ [] }) ≡ follows true 5
 unfolding pass_of is_at_open any_below word_bits
 inverted_pass = refl
 
 -- so does 0001, if the other inputs have no nets: only entries 0 and 1 can occur
-short_pass : pass_of (λ net. true) (record { word = 1; ins = Net (Some 5) ∷ Net None ∷ Net None ∷ Net None ∷ [] }) ≡ follows true 5
+short_pass : pass_of (λ net. true) (record { word = 1; ins = net_or_0 (Some 5) ∷ net_or_0 None ∷ net_or_0 None ∷ net_or_0 None ∷ [] }) ≡ follows true 5
 unfolding pass_of is_at_open any_below word_bits
 short_pass = refl
 
 -- 0002 passes in_0 on
-upright_pass : pass_of (λ net. true) (record { word = 2; ins = Net (Some 5) ∷ Net None ∷ Net None ∷ Net None ∷ [] }) ≡ follows false 5
+upright_pass : pass_of (λ net. true) (record { word = 2; ins = net_or_0 (Some 5) ∷ net_or_0 None ∷ net_or_0 None ∷ net_or_0 None ∷ [] }) ≡ follows false 5
 unfolding pass_of is_at_open any_below word_bits
 upright_pass = refl
 
 -- 0004 passes in_1 on if that alone is connected, although the word uses all four inputs
-odd_pass : pass_of (λ net. true) (record { word = 4; ins = Net None ∷ Net (Some 7) ∷ Net None ∷ Net None ∷ [] }) ≡ follows false 7
+odd_pass : pass_of (λ net. true) (record { word = 4; ins = net_or_0 None ∷ net_or_0 (Some 7) ∷ net_or_0 None ∷ net_or_0 None ∷ [] }) ≡ follows false 7
 unfolding pass_of is_at_open any_below word_bits
 odd_pass = refl
 
 -- an input whose net has no driver is unconnected too
-undriven_pass : pass_of (λ net. net == 7) (record { word = 4; ins = Net (Some 5) ∷ Net (Some 7) ∷ Net None ∷ Net None ∷ [] }) ≡ follows false 7
+undriven_pass : pass_of (λ net. net == 7) (record { word = 4; ins = net_or_0 (Some 5) ∷ net_or_0 (Some 7) ∷ net_or_0 None ∷ net_or_0 None ∷ [] }) ≡ follows false 7
 unfolding pass_of is_at_open any_below word_bits
 undriven_pass = refl
 
 -- with both connected 0004 is neither
-mixed_pass : pass_of (λ net. true) (record { word = 4; ins = Net (Some 5) ∷ Net (Some 7) ∷ Net None ∷ Net None ∷ [] }) ≡ mixes
+mixed_pass : pass_of (λ net. true) (record { word = 4; ins = net_or_0 (Some 5) ∷ net_or_0 (Some 7) ∷ net_or_0 None ∷ net_or_0 None ∷ [] }) ≡ mixes
 unfolding pass_of is_at_open any_below word_bits
 mixed_pass = refl
 
 -- 0008 is always 0 if in_0 alone is connected
-held_pass : pass_of (λ net. true) (record { word = 8; ins = Net (Some 5) ∷ Net None ∷ Net None ∷ Net None ∷ [] }) ≡ holds false
+held_pass : pass_of (λ net. true) (record { word = 8; ins = net_or_0 (Some 5) ∷ net_or_0 None ∷ net_or_0 None ∷ net_or_0 None ∷ [] }) ≡ holds false
 unfolding pass_of is_at_open any_below word_bits
 held_pass = refl
 
 -- FFFF is always 1
-set_pass : pass_of (λ net. true) (record { word = 65535; ins = Net (Some 5) ∷ Net None ∷ Net None ∷ Net None ∷ [] }) ≡ holds true
+set_pass : pass_of (λ net. true) (record { word = 65535; ins = net_or_0 (Some 5) ∷ net_or_0 None ∷ net_or_0 None ∷ net_or_0 None ∷ [] }) ≡ holds true
 unfolding pass_of is_at_open any_below word_bits
 set_pass = refl
 

@@ -2,9 +2,10 @@
 use Rattle.std.specs.Prelude.{ℕ, ◌/◌, ◌%◌, ◌^◌, Bool, true, false, not, ◌&&◌, ◌||◌, ◌==◌, get_or, if◌then◌else◌, Some, None}
 use Rattle.std.specs.Bool.{beq}
 use Rattle.index_search.specs.Places.{any_below}
-use Rattle.fabric_model.specs.declared.register.LutSource.{LutSource}
-use Rattle.fabric_model.specs.declared.register.LutSource.TheVariants.{Net, Pin as SourcePin}
+use Rattle.fabric_model.specs.declared.signal.Signal.{Signal}
+use Rattle.fabric_model.specs.declared.signal.Signal.TheVariants as signal
 use Rattle.fabric_model.specs.declared.register.LutTable.{LutTable}
+use Rattle.fabric_model.specs.Signals.{net_or_0}
 use Rattle.fabric_model.specs.Luts.{entry_of}
 
 -- a bit, or its inverse if it is turned
@@ -14,11 +15,13 @@ turned_bit false bit = bit
 
 -- ---- entries that can occur
 
--- whether an input can be 1: an unconnected one can't
-abbrev pub can_be_1 : (ℕ → Bool) → LutSource → Bool
-can_be_1 connected (Net None) = false
-can_be_1 connected (Net (Some net)) = connected net
-can_be_1 connected (SourcePin place) = true
+-- whether an input can be 1: one that is 0 if it is unconnected can't, while it is
+abbrev pub can_be_1 : (ℕ → Bool) → Signal → Bool
+can_be_1 connected (signal.Net None otherwise) = otherwise
+can_be_1 connected (signal.Net (Some net) false) = connected net
+can_be_1 connected (signal.Net (Some net) true) = true
+can_be_1 connected (signal.Input place) = true
+can_be_1 connected (signal.Register place) = true
 
 -- the value of in_k at entry n: bit k of n
 abbrev pub input_at : ℕ → ℕ → Bool
@@ -26,7 +29,7 @@ input_at k n = n / 2 ^ k % 2 == 1
 
 -- whether in_k can have its value at entry n
 abbrev pub is_input_open : (ℕ → Bool) → LutTable → ℕ → ℕ → Bool
-is_input_open connected table k n = not (input_at k n) || can_be_1 connected (get_or table.ins k (Net None))
+is_input_open connected table k n = not (input_at k n) || can_be_1 connected (get_or table.ins k (net_or_0 None))
 
 -- Whether entry n can occur: bit k of n is 0 for each in_k that is unconnected.
 abbrev pub is_open : (ℕ → Bool) → LutTable → ℕ → Bool
@@ -60,15 +63,15 @@ is_following connected table turned k = is_at_open connected table (λ n. turned
 
 -- What a LUT does if it follows in_k, which reads a connected net, and what it does if it doesn't. An unconnected in_k is 0 at all entries
 -- that can occur, so a LUT that followed it would hold a bit.
-abbrev pub pass_along : (ℕ → Bool) → LutTable → ℕ → LutPass → LutSource → LutPass
-pass_along connected table k otherwise (Net (Some net)) =
+abbrev pub pass_along : (ℕ → Bool) → LutTable → ℕ → LutPass → Signal → LutPass
+pass_along connected table k otherwise (signal.Net (Some net) false) =
     if connected net && is_following connected table false k then follows false net
     else if connected net && is_following connected table true k then follows true net
     else otherwise
 pass_along connected table k otherwise source = otherwise
 
 abbrev pub pass_by : (ℕ → Bool) → LutTable → ℕ → LutPass → LutPass
-pass_by connected table k otherwise = pass_along connected table k otherwise (get_or table.ins k (Net None))
+pass_by connected table k otherwise = pass_along connected table k otherwise (get_or table.ins k (net_or_0 None))
 
 -- What a LUT does. It can follow one input alone and in one way alone: if it follows in_k, then entries 0 and 2^k differ.
 unfoldable pub pass_of : (ℕ → Bool) → LutTable → LutPass

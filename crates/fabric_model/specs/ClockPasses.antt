@@ -1,6 +1,6 @@
 -- What LUTs do to clocks, as the code represents it.
 use Rattle.std.specs.Prelude.{◌≡◌, ℕ, ◌<◌, Bool, false, not, ◌&&◌, ◌||◌, List, get_or, Option, Some, None}
-use Rattle.fabric_model.specs.declared.register.LutSource.TheVariants.{Net}
+use Rattle.fabric_model.specs.Signals.{net_or_0}
 use Rattle.fabric_model.specs.declared.register.LutTable.{LutTable}
 use Rattle.fabric_model.specs.declared.clock_lut.LutPass.{LutPass as KeptPass}
 use Rattle.fabric_model.specs.declared.clock_lut.LutPass.TheVariants.{Holds, Follows, Mixes}
@@ -15,7 +15,7 @@ pass_in Mixes = mixes
 
 -- flags say which inputs of a LUT can be 1
 abbrev pub AreOpen : (ℕ → Bool) → LutTable → List Bool → Type 0
-AreOpen connected table can = (k : ℕ) → k < 4 → get_or can k false ≡ can_be_1 connected (get_or table.ins k (Net None))
+AreOpen connected table can = (k : ℕ) → k < 4 → get_or can k false ≡ can_be_1 connected (get_or table.ins k (net_or_0 None))
 
 -- whether in_k can have its value at entry n
 abbrev pub is_input_open_by : List Bool → ℕ → ℕ → Bool

@@ -1,5 +1,5 @@
 -- What drives each net.
-use Rattle.std.specs.Prelude.{ℕ, Bool, true, false, not, ◌&&◌, ◌-◌, ◌%◌, nat_le, List, [], ◌∷◌, ◌++◌, filter, find, flat_map, option_to_list, get_or, ◌==◌, if◌then◌else◌, Option, Some, None}
+use Rattle.std.specs.Prelude.{ℕ, Bool, true, false, not, ◌&&◌, ◌+◌, ◌-◌, ◌%◌, nat_le, List, [], ◌∷◌, ◌++◌, filter, flat_map, option_to_list, get_or, ◌==◌, if◌then◌else◌, Option, Some, None}
 use Rattle.std.specs.List.{list_any}
 use Rattle.fabric_model.specs.declared.cell.LogicCell.{LogicCell}
 use Rattle.fabric_model.specs.declared.cell.CarrySet.{CarrySet}
@@ -9,20 +9,21 @@ use Rattle.fabric_model.specs.declared.pin.Pin.{Pin}
 use Rattle.fabric_model.specs.declared.pin.GlobalNet.{GlobalNet}
 use Rattle.fabric_model.specs.declared.pin.GlobalFrom.{GlobalFrom}
 use Rattle.fabric_model.specs.declared.pin.GlobalFrom.TheVariants.{Pad, Fabout}
-use Rattle.fabric_model.specs.declared.register.LutSource.{LutSource}
-use Rattle.fabric_model.specs.declared.register.LutSource.TheVariants.{Net, Pin as SourcePin}
+use Rattle.fabric_model.specs.declared.signal.Signal.{Signal}
+use Rattle.fabric_model.specs.declared.signal.Signal.TheVariants as signal
 use Rattle.fabric_model.specs.declared.register.LutTable.{LutTable}
 use Rattle.fabric_model.specs.declared.register.Register.{Register}
 use Rattle.fabric_model.specs.declared.driver.ClockUser.{ClockUser}
-use Rattle.fabric_model.specs.declared.driver.ClockUser.TheVariants.{Cell, Input, Output}
+use Rattle.fabric_model.specs.declared.driver.ClockUser.TheVariants.{Cell, Input}
 use Rattle.fabric_model.specs.declared.driver.Driver.{Driver}
 use Rattle.fabric_model.specs.declared.driver.Driver.TheVariants as driver
 use Rattle.fabric_model.specs.Joins.{class_of}
 use Rattle.narrow_words.specs.Narrow.{share}
 use Rattle.fabric_model.specs.Rams.{first_data_bit}
 use Rattle.fabric_model.specs.Pins.{is_registered, place_among}
+use Rattle.fabric_model.specs.Signals.{net_or_0, signal_nets}
 use Rattle.fabric_model.specs.Registers.{table_of}
-use Rattle.fabric_model.specs.Fabric.{Fabric, Buffer, numbered, inputs_of}
+use Rattle.fabric_model.specs.Fabric.{Fabric, Buffer, numbered, flip_count, inputs_of}
 
 -- How a driver makes its value. Input pins, registers and used RAMs are named by their indexes among those of the fabric.
 pub data Rule : Type 0 where
@@ -30,8 +31,8 @@ pub data Rule : Type 0 where
   pin_bit : ℕ → Rule
   -- a bit that is always the same
   constant : Bool → Rule
-  -- an input, and its value if it is unconnected
-  input : Bool → Option ℕ → Rule
+  -- what an input reads
+  input : Signal → Rule
   -- an entry of a table
   table_entry : LutTable → Rule
   -- the majority of three inputs
@@ -62,28 +63,19 @@ pin_drives place =
     if is_registered place.1 then []
     else drives_if (driver.Pin place.1.x place.1.y place.1.n) (pin_bit place.0) place.1.din
 
--- whether a user of a clock is the register of output pin n
-abbrev pub is_output_user : ℕ → ClockUser → Bool
-is_output_user n (Output other) = other == n
-is_output_user n _ = false
+-- What an output pin puts out: its register if it is registered, else `io_n/D_OUT_0` (`SB_IO`). The registers of pins come after the
+-- flip-flops, in the order of the pins that have one.
+abbrev pub output_from : ℕ → List Pin → Pin → Signal
+output_from flips registered pin =
+    if is_registered pin then signal.Register (flips + place_among registered pin.x pin.y pin.n) else net_or_0 pin.dout
 
--- whether a register is the register of an output pin
-abbrev pub is_output_register : Pin → ℕ × Register → Bool
-is_output_register pin place = (place.1.x == pin.x) && ((place.1.y == pin.y) && is_output_user pin.n place.1.user)
-
--- the value of a register; 0 if there is none
-abbrev pub register_rule : Option (ℕ × Register) → Rule
-register_rule None = constant false
-register_rule (Some place) = register_bit place.0 place.1
-
--- the value of an output pin: that of its register if it is registered, else that of `io_n/D_OUT_0` (`SB_IO`)
-abbrev pub output_rule : List Register → Pin → Rule
-output_rule registers pin =
-    if is_registered pin then register_rule (find (is_output_register pin) (numbered registers)) else input false pin.dout
+-- what an output pin of a fabric puts out
+abbrev pub output_signal : Fabric → Pin → Signal
+output_signal fabric pin = output_from (flip_count fabric) (filter is_registered fabric.pins) pin
 
 -- 2: the readback: the net `io_n/D_IN_0` of an output pin that can be read has the value of the pin (`SB_IO`)
-abbrev pub back_drives : List Register → Pin → List Drive
-back_drives registers pin = drives_if (driver.Readback pin.x pin.y pin.n) (output_rule registers pin) pin.din
+abbrev pub back_drives : Fabric → Pin → List Drive
+back_drives fabric pin = drives_if (driver.Readback pin.x pin.y pin.n) (input (output_signal fabric pin)) pin.din
 
 -- 3: `lutff_i/out` of a cell without a flip-flop has the LUT's value (`SB_LUT4`)
 abbrev pub lut_drives : LutInputs → LogicCell → List Drive
@@ -157,7 +149,7 @@ pin_register_drives place = drives_by place (pin_register_driver place.1 place.1
 unfoldable pub drives_of : Fabric → List Drive
 drives_of fabric =
     flat_map pin_drives (numbered (inputs_of fabric))
-    ++ (flat_map (back_drives fabric.registers) (filter (λ pin. pin.back) fabric.pins)
+    ++ (flat_map (back_drives fabric) (filter (λ pin. pin.back) fabric.pins)
     ++ (flat_map (lut_drives fabric.lut_inputs) (filter (λ lc. not lc.flip) fabric.lcs)
     ++ (flat_map flip_drives (numbered fabric.registers)
     ++ (flat_map (lout_drives fabric.lut_inputs) fabric.lcs
@@ -182,18 +174,13 @@ is_driven fabric class = list_any (is_driver_of fabric class) (drives_of fabric)
 
 -- ---- what drivers read
 
--- the net of an input of a table
-abbrev pub source_nets : LutSource → List ℕ
-source_nets (Net net) = option_to_list net
-source_nets (SourcePin place) = []
-
 -- The fan-in of a driver: the nets that its value depends on without a clock. A LUT reads the inputs of its table, a carry-out reads in_1,
 -- in_2 and the carry-in, and a register with an asynchronous set or reset reads that input.
 unfoldable pub nets_read : Rule → List ℕ
 nets_read (pin_bit place) = []
 nets_read (constant bit) = []
-nets_read (input stated net) = option_to_list net
-nets_read (table_entry table) = flat_map source_nets table.ins
+nets_read (input source) = signal_nets source
+nets_read (table_entry table) = flat_map signal_nets table.ins
 nets_read (majority_of a b c) = option_to_list a ++ (option_to_list b ++ option_to_list c)
 nets_read (register_bit place register) = if register.is_async then option_to_list register.sr else []
 nets_read (read_bit ram bit) = []

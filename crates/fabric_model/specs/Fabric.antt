@@ -1,5 +1,5 @@
 -- A configured fabric: its parts, from a database and an image.
-use Rattle.std.specs.Prelude.{ℕ, suc, Bool, not, List, [], ◌∷◌, ◌++◌, map, filter}
+use Rattle.std.specs.Prelude.{ℕ, suc, Bool, not, List, [], ◌∷◌, ◌++◌, length, map, filter}
 use Rattle.ice_image.specs.Configuration.{Configuration}
 use Rattle.chipdb_reader.specs.Database.{Database, Link}
 use Rattle.fabric_model.specs.declared.cell.LogicCell.{LogicCell}
@@ -84,6 +84,10 @@ abbrev pub fabric_of : Database → Configuration → Fabric
 fabric_of db image = fabric_with read.All db image
 
 -- ---- parts of the parts
+
+-- the number of flip-flops, which come before the registers of pins
+abbrev pub flip_count : Fabric → ℕ
+flip_count fabric = length (filter (λ lc. lc.flip) fabric.lcs)
 
 -- the input pins, whose values events give
 abbrev pub inputs_of : Fabric → List Pin

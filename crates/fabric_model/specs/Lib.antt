@@ -8,6 +8,7 @@ pub mod Rams
 pub mod Pins
 pub mod Joins
 pub mod Luts
+pub mod Signals
 pub mod Registers
 pub mod Fabric
 pub mod Drivers

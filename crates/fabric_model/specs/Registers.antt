@@ -7,12 +7,13 @@ use Rattle.fabric_model.specs.declared.cell.LogicCell.{LogicCell}
 use Rattle.fabric_model.specs.declared.pin.Pin.{Pin}
 use Rattle.fabric_model.specs.declared.lut_inputs.LutInputs.{LutInputs}
 use Rattle.fabric_model.specs.declared.driver.ClockUser.TheVariants.{Cell, Input, Output}
-use Rattle.fabric_model.specs.declared.register.LutSource.{LutSource}
-use Rattle.fabric_model.specs.declared.register.LutSource.TheVariants.{Net, Pin as SourcePin}
+use Rattle.fabric_model.specs.declared.signal.Signal.{Signal}
+use Rattle.fabric_model.specs.declared.signal.Signal.TheVariants as signal
 use Rattle.fabric_model.specs.declared.register.LutTable.{LutTable}
 use Rattle.fabric_model.specs.declared.register.Register.{Register}
 use Rattle.fabric_model.specs.On.{is_function_on}
 use Rattle.fabric_model.specs.Nets.{net_named}
+use Rattle.fabric_model.specs.Signals.{net_or_0, net_or_1}
 use Rattle.fabric_model.specs.Luts.{inputs_read}
 use Rattle.fabric_model.specs.Pins.{is_registered, place_among}
 
@@ -20,7 +21,7 @@ use Rattle.fabric_model.specs.Pins.{is_registered, place_among}
 
 -- the LUT of a cell, whose inputs are the nets that it reads
 abbrev pub table_of : LutInputs → LogicCell → LutTable
-table_of inputs lc = record { word = lc.lut; ins = map Net (inputs_read inputs lc.lut lc.ins) }
+table_of inputs lc = record { word = lc.lut; ins = map net_or_0 (inputs_read inputs lc.lut lc.ins) }
 
 -- the flip-flop of a cell (`SB_DFF` and its forms)
 unfoldable pub register_of : LutInputs → LogicCell → Register
@@ -31,7 +32,7 @@ register_of inputs lc = record {
   out = lc.out;
   clk = lc.clk;
   neg = lc.neg;
-  cen = lc.cen;
+  enable = net_or_1 lc.cen;
   sr = lc.sr;
   «set» = lc.«set»;
   is_async = lc.is_async;
@@ -49,12 +50,12 @@ abbrev pub io_shared_net : Database → Pin → List ℕ → Option ℕ
 io_shared_net db pin port = net_named db pin.x pin.y (codes "io_global/" ++ port)
 
 -- what the register of a pin takes: an input register takes the pin's value, and an output register that of `io_n/D_OUT_0`
-abbrev pub pin_source : List Pin → Pin → LutSource
-pin_source inputs pin = if pin.output then Net pin.dout else SourcePin (place_among inputs pin.x pin.y pin.n)
+abbrev pub pin_source : List Pin → Pin → Signal
+pin_source inputs pin = if pin.output then net_or_0 pin.dout else signal.Input (place_among inputs pin.x pin.y pin.n)
 
 -- the LUT whose value is that of its input in_0
-abbrev pub table_as : LutSource → LutTable
-table_as source = record { word = 43690; ins = source ∷ Net None ∷ Net None ∷ Net None ∷ [] }
+abbrev pub table_as : Signal → LutTable
+table_as source = record { word = 43690; ins = source ∷ net_or_0 None ∷ net_or_0 None ∷ net_or_0 None ∷ [] }
 
 -- The register of a pin (`SB_IO`), which has no set or reset. An input register drives `io_n/D_IN_0`. An output register drives no net
 -- itself; its value is read through its pin.
@@ -66,7 +67,7 @@ pin_register db image inputs pin = record {
   out = if pin.output then None else pin.din;
   clk = io_shared_net db pin (if pin.output then codes "outclk" else codes "inclk");
   neg = is_function_on db image Io pin.x pin.y (codes "NegClk");
-  cen = io_shared_net db pin (codes "cen");
+  enable = net_or_1 (io_shared_net db pin (codes "cen"));
   sr = None;
   «set» = false;
   is_async = false;

@@ -8,7 +8,7 @@ use Rattle.narrow_words.specs.Narrow.{put_bit, got_bit}
 use Rattle.fabric_model.specs.Rams.{data_bit}
 use Rattle.fabric_model.specs.Fabric.{Fabric, numbered, inputs_of}
 use Rattle.fabric_model.specs.Outputs.{outputs_of}
-use Rattle.fabric_model.specs.Values.{State, IsConsistent, input_or_0, input_or_1, lut_value, value_of, settled_bit, bit_in, is_connected}
+use Rattle.fabric_model.specs.Values.{State, IsConsistent, input_or_0, input_or_1, signal_value, lut_value, settled_bit, bit_in, is_connected}
 
 -- ---- edges
 
@@ -31,11 +31,11 @@ abbrev pub next_asynchronous : Register → Bool → Bool → Bool → Bool → 
 next_asynchronous register enabled reset made old = if reset then register.«set» else if not enabled then old else made
 
 -- The next value of a register at an edge.
-unfoldable pub next_bit : (ℕ → Bool) → List Bool → (ℕ → Bool) → Register → Bool → Bool
-next_bit connected pins bit register old =
-    let enabled = input_or_1 connected bit register.cen in
+unfoldable pub next_bit : (ℕ → Bool) → State → List Bool → (ℕ → Bool) → Register → Bool → Bool
+next_bit connected state pins bit register old =
+    let enabled = signal_value connected state pins bit register.enable in
     let reset = input_or_0 connected bit register.sr in
-    let made = lut_value connected pins bit register.table in
+    let made = lut_value connected state pins bit register.table in
     if register.is_async then next_asynchronous register enabled reset made old else next_synchronous register enabled reset made old
 
 -- ---- RAMs
@@ -102,11 +102,11 @@ next_register connected bit ram words register =
 
 -- ---- the next state
 
--- A register with an edge takes its next value from the pins and the bits before, one without an edge keeps its value.
-abbrev pub bit_after : (ℕ → Bool) → List Bool → (ℕ → Bool) → (ℕ → Bool) → List Bool → ℕ × Register → Bool
-bit_after connected pins before after bits place =
-    let old = get_or bits place.0 false in
-    if has_edge place.1.neg place.1.clk before after then next_bit connected pins before place.1 old else old
+-- A register with an edge takes its next value from the state, the pins and the bits before, one without an edge keeps its value.
+abbrev pub bit_after : (ℕ → Bool) → List Bool → (ℕ → Bool) → (ℕ → Bool) → State → ℕ × Register → Bool
+bit_after connected pins before after state place =
+    let old = get_or state.bits place.0 false in
+    if has_edge place.1.neg place.1.clk before after then next_bit connected state pins before place.1 old else old
 
 abbrev pub words_after : (ℕ → Bool) → (ℕ → Bool) → (ℕ → Bool) → State → ℕ × RamCell → List (List Bool)
 words_after connected before after state place =
@@ -125,7 +125,7 @@ unfoldable pub state_after : Fabric → List Bool → State → (ℕ → Bool) �
 state_after fabric pins state before after =
     let connected = is_connected fabric in
     record {
-      bits = map (bit_after connected pins before after state.bits) (numbered fabric.registers);
+      bits = map (bit_after connected pins before after state) (numbered fabric.registers);
       reads = map (read_after connected before after state) (numbered fabric.rams);
       words = map (words_after connected before after state) (numbered fabric.rams);
     }
@@ -156,7 +156,7 @@ pub record Entry : Type 0 where
 
 -- the values of the outputs, from the state, the bits of the input pins and the bits of nets
 unfoldable pub output_values : Fabric → State → List Bool → List Bool → List Bool
-output_values fabric state pins v = map (λ output. value_of (is_connected fabric) state pins (bit_in v) output.rule) (outputs_of fabric)
+output_values fabric state pins v = map (λ output. signal_value (is_connected fabric) state pins (bit_in v) output.source) (outputs_of fabric)
 
 pub record IsEntry (fabric : Fabric) (entry : Entry) : Type 0 where
   pub consistent : IsConsistent fabric entry.state entry.pins entry.v

@@ -1,10 +1,11 @@
 -- The value of each driver, and the values of nets that are consistent with a state and the pins.
 use Rattle.std.specs.Prelude.{◌≡◌, ℕ, ◌+◌, ◌*◌, ◌<◌, Bool, true, false, ◌&&◌, ◌||◌, List, [], length, get_or, Contains, Option, Some, None, if◌then◌else◌}
 use Rattle.bit_plane.specs.BitList.{bit_value}
-use Rattle.fabric_model.specs.declared.register.LutSource.{LutSource}
-use Rattle.fabric_model.specs.declared.register.LutSource.TheVariants.{Net, Pin as SourcePin}
+use Rattle.fabric_model.specs.declared.signal.Signal.{Signal}
+use Rattle.fabric_model.specs.declared.signal.Signal.TheVariants as signal
 use Rattle.fabric_model.specs.declared.register.LutTable.{LutTable}
 use Rattle.fabric_model.specs.declared.register.Register.{Register}
+use Rattle.fabric_model.specs.Signals.{net_or_0}
 use Rattle.fabric_model.specs.Luts.{entry_of}
 use Rattle.fabric_model.specs.Joins.{class_of}
 use Rattle.fabric_model.specs.Fabric.{Fabric}
@@ -33,26 +34,27 @@ input_or_0 connected bit net = input_value connected bit false net
 abbrev pub input_or_1 : (ℕ → Bool) → (ℕ → Bool) → Option ℕ → Bool
 input_or_1 connected bit net = input_value connected bit true net
 
--- what an input of a table reads: a net, or an input pin
-abbrev pub source_value : (ℕ → Bool) → List Bool → (ℕ → Bool) → LutSource → Bool
-source_value connected pins bit (Net net) = input_or_0 connected bit net
-source_value connected pins bit (SourcePin place) = get_or pins place false
+-- the value of what an input reads: of a net, of an input pin, or of a register
+abbrev pub signal_value : (ℕ → Bool) → State → List Bool → (ℕ → Bool) → Signal → Bool
+signal_value connected state pins bit (signal.Net net otherwise) = input_value connected bit otherwise net
+signal_value connected state pins bit (signal.Input place) = get_or pins place false
+signal_value connected state pins bit (signal.Register place) = get_or state.bits place false
 
 -- input k of a table
-abbrev pub table_input : (ℕ → Bool) → List Bool → (ℕ → Bool) → LutTable → ℕ → Bool
-table_input connected pins bit table k = source_value connected pins bit (get_or table.ins k (Net None))
+abbrev pub table_input : (ℕ → Bool) → State → List Bool → (ℕ → Bool) → LutTable → ℕ → Bool
+table_input connected state pins bit table k = signal_value connected state pins bit (get_or table.ins k (net_or_0 None))
 
 -- ---- values of drivers
 
 -- the number of the LUT's entry: in_0 is worth 1, in_1 2, in_2 4 and in_3 8
-abbrev pub entry_number : (ℕ → Bool) → List Bool → (ℕ → Bool) → LutTable → ℕ
-entry_number connected pins bit table =
-    bit_value (table_input connected pins bit table 0) + 2 * bit_value (table_input connected pins bit table 1)
-    + 4 * bit_value (table_input connected pins bit table 2) + 8 * bit_value (table_input connected pins bit table 3)
+abbrev pub entry_number : (ℕ → Bool) → State → List Bool → (ℕ → Bool) → LutTable → ℕ
+entry_number connected state pins bit table =
+    bit_value (table_input connected state pins bit table 0) + 2 * bit_value (table_input connected state pins bit table 1)
+    + 4 * bit_value (table_input connected state pins bit table 2) + 8 * bit_value (table_input connected state pins bit table 3)
 
 -- the value of a LUT: the entry with that number (`SB_LUT4`)
-unfoldable pub lut_value : (ℕ → Bool) → List Bool → (ℕ → Bool) → LutTable → Bool
-lut_value connected pins bit table = entry_of table.word (entry_number connected pins bit table)
+unfoldable pub lut_value : (ℕ → Bool) → State → List Bool → (ℕ → Bool) → LutTable → Bool
+lut_value connected state pins bit table = entry_of table.word (entry_number connected state pins bit table)
 
 -- the majority of three bits: 1 if at least two of them are 1
 abbrev pub majority : Bool → Bool → Bool → Bool
@@ -67,8 +69,8 @@ settled_bit connected bit register old = if register.is_async && input_or_0 conn
 unfoldable pub value_of : (ℕ → Bool) → State → List Bool → (ℕ → Bool) → Rule → Bool
 value_of connected state pins bit (pin_bit place) = get_or pins place false
 value_of connected state pins bit (constant it) = it
-value_of connected state pins bit (input stated net) = input_value connected bit stated net
-value_of connected state pins bit (table_entry table) = lut_value connected pins bit table
+value_of connected state pins bit (input source) = signal_value connected state pins bit source
+value_of connected state pins bit (table_entry table) = lut_value connected state pins bit table
 value_of connected state pins bit (majority_of a b c) =
     majority (input_or_0 connected bit a) (input_or_0 connected bit b) (input_or_0 connected bit c)
 value_of connected state pins bit (register_bit place register) = settled_bit connected bit register (get_or state.bits place false)

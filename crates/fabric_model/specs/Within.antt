@@ -1,16 +1,17 @@
--- The nets that the parts of a fabric name are among its nets: the numbers below their count.
-use Rattle.std.specs.Prelude.{ℕ, ◌<◌, All, Option, Some, None}
+-- What the parts of a fabric name is there: nets are the numbers below their count.
+use Rattle.std.specs.Prelude.{◌≡◌, ℕ, ◌+◌, ◌<◌, ◌≤◌, Bool, false, List, length, map, filter, get_or, All, Option, Some, None}
 use Rattle.fabric_model.specs.declared.cell.LogicCell.{LogicCell}
 use Rattle.fabric_model.specs.declared.cell.CarrySet.{CarrySet}
-use Rattle.fabric_model.specs.declared.register.LutSource.{LutSource}
-use Rattle.fabric_model.specs.declared.register.LutSource.TheVariants.{Net, Pin as SourcePin}
+use Rattle.fabric_model.specs.declared.signal.Signal.{Signal}
+use Rattle.fabric_model.specs.declared.signal.Signal.TheVariants as signal
 use Rattle.fabric_model.specs.declared.register.Register.{Register}
 use Rattle.fabric_model.specs.declared.ram.RamCell.{RamCell}
 use Rattle.fabric_model.specs.declared.pin.Pin.{Pin}
 use Rattle.fabric_model.specs.declared.pin.GlobalNet.{GlobalNet}
 use Rattle.fabric_model.specs.declared.pin.GlobalFrom.{GlobalFrom}
 use Rattle.fabric_model.specs.declared.pin.GlobalFrom.TheVariants.{Pad, Fabout}
-use Rattle.fabric_model.specs.Fabric.{Fabric, Buffer}
+use Rattle.fabric_model.specs.Pins.{is_registered}
+use Rattle.fabric_model.specs.Fabric.{Fabric, Buffer, flip_count}
 
 -- a net is among the nets, or is missing
 abbrev pub IsNetIn : ℕ → Option ℕ → Type 0
@@ -32,16 +33,17 @@ pub record IsCellIn (nets : ℕ) (lc : LogicCell) : Type 0 where
   pub cen : IsNetIn nets lc.cen
   pub sr : IsNetIn nets lc.sr
 
-abbrev pub IsSourceIn : ℕ → LutSource → Type 0
-IsSourceIn nets (Net net) = IsNetIn nets net
-IsSourceIn nets (SourcePin place) = Unit {0}
+abbrev pub IsSignalIn : ℕ → Signal → Type 0
+IsSignalIn nets (signal.Net net otherwise) = IsNetIn nets net
+IsSignalIn nets (signal.Input place) = Unit {0}
+IsSignalIn nets (signal.Register place) = Unit {0}
 
 pub record IsRegisterIn (nets : ℕ) (register : Register) : Type 0 where
   pub out : IsNetIn nets register.out
   pub clk : IsNetIn nets register.clk
-  pub cen : IsNetIn nets register.cen
+  pub enable : IsSignalIn nets register.enable
   pub sr : IsNetIn nets register.sr
-  pub ins : All (IsSourceIn nets) register.table.ins
+  pub ins : All (IsSignalIn nets) register.table.ins
 
 abbrev pub IsSetIn : ℕ → CarrySet → Type 0
 IsSetIn nets set = set.net < nets
@@ -75,8 +77,13 @@ pub record IsJoinIn (nets : ℕ) (join : ℕ × ℕ) : Type 0 where
   pub first : join.0 < nets
   pub second : join.1 < nets
 
--- all nets that the parts of a fabric name are among its nets
-pub record HasNetsIn (fabric : Fabric) : Type 0 where
+-- whether the register with an index has an asynchronous set or reset; false if there is no such register
+abbrev pub is_async_at : List Register → ℕ → Bool
+is_async_at registers place = get_or (map (λ register. register.is_async) registers) place false
+
+-- A fabric is closed if all nets that its parts name are among its nets. After the flip-flops there is a register for each pin that has one,
+-- and none of these has an asynchronous set or reset.
+pub record IsClosed (fabric : Fabric) : Type 0 where
   pub joins : All (IsJoinIn fabric.nets) fabric.joins
   pub buffers : All (IsBufferIn fabric.nets) fabric.buffers
   pub pins : All (IsPinIn fabric.nets) fabric.pins
@@ -85,3 +92,5 @@ pub record HasNetsIn (fabric : Fabric) : Type 0 where
   pub registers : All (IsRegisterIn fabric.nets) fabric.registers
   pub sets : All (IsSetIn fabric.nets) fabric.sets
   pub rams : All (IsRamIn fabric.nets) fabric.rams
+  pub pinned : flip_count fabric + length (filter is_registered fabric.pins) ≡ length fabric.registers
+  pub steady : (place : ℕ) → flip_count fabric ≤ place → is_async_at fabric.registers place ≡ false

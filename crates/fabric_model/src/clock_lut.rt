@@ -1,11 +1,11 @@
 // What a LUT does to a clock that passes through it.
-ghost use Rattle.std.specs.Prelude.{◌≡◌, ◌<◌, ℕ, Bool, true, Some};
-ghost use Rattle.fabric_model.specs.declared.register.LutSource.TheVariants.{Net};
+ghost use Rattle.std.specs.Prelude.{◌≡◌, ◌<◌, ℕ, Bool, true, false, Some};
+ghost use Rattle.fabric_model.specs.declared.signal.Signal.TheVariants.{Net};
 ghost use Rattle.fabric_model.specs.ClockLuts.{input_at, is_at_open, is_open_otherwise, pass_along, pass_by, pass_of};
 ghost use Rattle.fabric_model.specs.ClockPasses.{AreOpen, is_open_by, pass_in, value_by};
 
 use crate::lut_inputs::entry;
-use crate::{LutSource, LutTable};
+use crate::{LutTable, Signal};
 
 /// What a LUT does to a clock that passes through it. Only entries that can occur count: an unconnected input is 0.
 #[derive(Clone, Copy, Debug, PartialEq, Eq)]
@@ -46,9 +46,10 @@ fn pass_by(table: &LutTable, live: [bool; 4], k: u8, otherwise: LutPass) -> LutP
 {
     let source = table.ins[usize::from(k)];
     match source {
-        LutSource::Net(Some(net)) if live[usize::from(k)] => pass_along(
-            table, live, k, net, otherwise,
-        ),
+        Signal::Net {
+            net: Some(net),
+            otherwise: false,
+        } if live[usize::from(k)] => pass_along(table, live, k, net, otherwise),
         _ => otherwise,
     }
 }
@@ -59,7 +60,7 @@ fn pass_along(table: &LutTable, live: [bool; 4], k: u8, net: u32, otherwise: Lut
     requires live { AreOpen connected table.now live }
     requires input { k < 4 }
     requires connected { connected net ≡ true }
-    ensures { pass_in result ≡ pass_along connected table.now k (pass_in otherwise) (Net (Some net)) }
+    ensures { pass_in result ≡ pass_along connected table.now k (pass_in otherwise) (Net (Some net) false) }
 {
     if is_at_open(table, live, Some(u32::from(k)), false) {
         LutPass::Follows { turned: false, net }

@@ -28,6 +28,7 @@ mod ram;
 mod reads;
 mod register;
 mod short_text;
+mod signal;
 mod some_read;
 mod tiles;
 
@@ -48,7 +49,8 @@ pub use lut_inputs::{LutInputs, inputs_read};
 pub use on::{is_link_on, place_of};
 pub use pin::{GlobalFrom, GlobalNet, Pin, PinKind};
 pub use ram::RamCell;
-pub use register::{LutSource, LutTable, Register};
+pub use register::{LutTable, Register};
 pub use short_text::ShortText;
+pub use signal::{Signal, net_or_0, net_or_1};
 pub use some_read::is_some_read;
 pub use tiles::tiles_of_image;

@@ -1,15 +1,7 @@
 // Registers of one bit.
 
 use crate::driver::ClockUser;
-
-/// What an input of a table reads.
-#[derive(Clone, Copy, Debug, PartialEq, Eq)]
-pub enum LutSource {
-    /// A net. The input is 0 if there is no net, or if nothing drives it.
-    Net(Option<u32>),
-    /// An input pin, by its index among the input pins.
-    Pin(u32),
-}
+use crate::signal::Signal;
 
 /// A LUT.
 #[derive(Clone, Copy, Debug, PartialEq, Eq)]
@@ -17,11 +9,10 @@ pub struct LutTable {
     /// The entries: entry k is the bit of value 2 to the power of k.
     pub word: u16,
     /// The inputs `in_0` to `in_3`.
-    pub ins: [LutSource; 4],
+    pub ins: [Signal; 4],
 }
 
-/// A register of one bit: user `user` of a clock at the tile at (x, y). An input is unconnected if it has no net, or a net that nothing
-/// drives.
+/// A register of one bit: user `user` of a clock at the tile at (x, y).
 #[derive(Clone, Copy, Debug, PartialEq, Eq)]
 pub struct Register {
     pub x: u8,
@@ -33,9 +24,9 @@ pub struct Register {
     pub clk: Option<u32>,
     /// Whether it takes its value at falling clock edges.
     pub neg: bool,
-    /// The clock enable; 1 if it is unconnected.
-    pub cen: Option<u32>,
-    /// The set or reset; 0 if it is unconnected.
+    /// The clock enable.
+    pub enable: Signal,
+    /// The set or reset; 0 if there is no net, or if nothing drives it.
     pub sr: Option<u32>,
     /// The value that `sr` gives it: 1 for a set, 0 for a reset.
     pub set: bool,

@@ -7,20 +7,20 @@ use Rattle.vlog_module.specs.declared.sort.Sort.{Sort}
 use Rattle.vlog_module.specs.declared.sort.Sort.TheVariants as sort
 use Rattle.vlog_module.specs.declared.item.Item.{Item}
 use Rattle.vlog_module.specs.Uses.{atom_uses, uses_of}
-use Rattle.vlog_module.specs.Uses.Use.{Reads, Assigns}
+use Rattle.vlog_module.specs.Uses.Use.{Assigns}
 use Rattle.vlog_module.specs.WellFormed.{section_of, declared_by, Reading, wire_readings, assigned_by, started_by, Scope, IsAllowed}
 use Rattle.fabric_model.specs.Fabric.{Fabric}
 use Rattle.fabric_model.specs.Outputs.{Output}
-use Rattle.fabric_model.specs.Drivers.{Rule, is_driven}
-use Rattle.fabric_model.specs.Drivers.Rule.{pin_bit, constant, input, table_entry, majority_of, register_bit, read_bit, copied}
+use Rattle.fabric_model.specs.declared.signal.Signal.{Signal}
+use Rattle.fabric_model.specs.Drivers.{is_driven}
+use Rattle.fabric_model.proofs.Signals.{IsSignalThere}
 use Rattle.fabric_model.proofs.Within.{All-single}
-use Rattle.fabric_module.specs.Names.{output_name, register_name}
-use Rattle.fabric_module.specs.Rights.{output_atom}
+use Rattle.fabric_module.specs.Names.{output_name}
+use Rattle.fabric_module.specs.Rights.{signal_atom}
 use Rattle.fabric_module.specs.Written.{output_assign}
-use Rattle.fabric_module.proofs.Lists.{Apart, item-there}
+use Rattle.fabric_module.proofs.Lists.{Apart}
 use Rattle.fabric_module.proofs.Grown.{grown, grown-section, grown-declared, grown-read, grown-assigned, grown-started, Grows}
-use Rattle.fabric_module.proofs.Rights.{IsOutputRule}
-use Rattle.fabric_module.proofs.Used.{IsFine, fine-allowed, IsThere, Knows, knows-allows, atom-fine}
+use Rattle.fabric_module.proofs.Used.{IsFine, fine-allowed, IsThere, Knows, knows-allows, signal-fine}
 use Rattle.fabric_module.proofs.Wired.{atom-none}
 
 -- a name that isn't assigned yet
@@ -92,29 +92,20 @@ module _ (fabric : Fabric) where
   pub output-one : AssignsOne 6 output_name (output_assign fabric)
   output-one = record {
     section = λ output. refl;
-    declares = λ output. atom-none declared_by (λ name. refl) (λ name k. refl) (output_atom fabric output.rule);
+    declares = λ output. atom-none declared_by (λ name. refl) (λ name k. refl) (signal_atom fabric output.source);
     reads = λ output. refl;
-    assigns = λ output. rw (atom-none assigned_by (λ name. refl) (λ name k. refl) (output_atom fabric output.rule)) refl;
-    starts = λ output. atom-none started_by (λ name. refl) (λ name k. refl) (output_atom fabric output.rule);
+    assigns = λ output. rw (atom-none assigned_by (λ name. refl) (λ name k. refl) (signal_atom fabric output.source)) refl;
+    starts = λ output. atom-none started_by (λ name. refl) (λ name k. refl) (signal_atom fabric output.source);
   }
 
-  output-fine : (scope : Scope) → Knows fabric scope (is_driven fabric) → (rule : Rule) → IsOutputRule fabric rule → All (IsFine scope) (atom_uses (output_atom fabric rule))
-  output-fine scope knows (input stated net) there =
-      atom-fine fabric (is_driven fabric) (IsFine scope) (knows-allows fabric scope (is_driven fabric) knows) stated net (λ n found connected. connected)
-  output-fine scope knows (constant bit) there = All-nil (IsFine scope)
-  output-fine scope knows (register_bit place register) there =
-      let of_register = knows.register register (item-there fabric.registers (place, register) there) in
-      All-single (IsFine scope) (Reads (register_name register)) (record { named = of_register.named; in_range = tt; known = rw (of_register.declared) refl; first = refl })
-  output-fine scope knows (pin_bit place) there = absurd there
-  output-fine scope knows (table_entry table) there = absurd there
-  output-fine scope knows (majority_of a b c) there = absurd there
-  output-fine scope knows (read_bit ram bit) there = absurd there
-  output-fine scope knows (copied net) there = absurd there
+  output-fine : (scope : Scope) → Knows fabric scope (is_driven fabric) → (source : Signal) → IsSignalThere fabric source → All (IsFine scope) (atom_uses (signal_atom fabric source))
+  output-fine scope knows source there =
+      signal-fine fabric (is_driven fabric) (IsFine scope) (knows-allows fabric scope (is_driven fabric) knows) source there (λ n found connected. connected)
 
-  pub output-allowed : (scope : Scope) (output : Output) → Knows fabric scope (is_driven fabric) → IsOutputRule fabric output.rule → IsThere scope (output_name output) sort.Output → scope.section ≤ 6
+  pub output-allowed : (scope : Scope) (output : Output) → Knows fabric scope (is_driven fabric) → IsSignalThere fabric output.source → IsThere scope (output_name output) sort.Output → scope.section ≤ 6
       → All (λ n. bytes_eq n (output_name output) ≡ false) scope.assigned → IsAllowed scope (output_assign fabric output)
   output-allowed scope output knows ruled there low away =
       fine-allowed scope (output_assign fabric output) tt low
-      (All-cons (IsFine scope) (Assigns sort.Output (output_name output)) (atom_uses (output_atom fabric output.rule))
+      (All-cons (IsFine scope) (Assigns sort.Output (output_name output)) (atom_uses (signal_atom fabric output.source))
       (record { named = there.named; in_range = tt; known = rw (there.declared) refl; first = unassigned scope.assigned (output_name output) away })
-      (output-fine scope knows output.rule ruled))
+      (output-fine scope knows output.source ruled))

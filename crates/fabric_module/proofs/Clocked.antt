@@ -26,20 +26,22 @@ use Rattle.fabric_model.specs.Fabric.{Fabric}
 use Rattle.fabric_model.specs.Drivers.{is_driven}
 use Rattle.fabric_model.specs.Drivers.Rule.{table_entry}
 use Rattle.fabric_model.specs.Values.{State, input_value, input_or_0, input_or_1, bit_in, is_connected, IsConsistent}
-use Rattle.fabric_model.specs.Values.{lut_value as table_value}
+use Rattle.fabric_model.specs.Values.{lut_value as table_value, signal_value as fabric_signal}
 use Rattle.fabric_model.specs.declared.register.LutTable.{LutTable}
 use Rattle.fabric_model.specs.Rams.{data_bit}
 use Rattle.fabric_model.specs.Steps.{has_edge, next_bit, word_address, high_part, word_at, masked_bit, written_data, written, shown, next_words, next_register, bit_after, words_after, read_after}
+use Rattle.fabric_model.specs.declared.signal.Signal.{Signal}
+use Rattle.fabric_model.proofs.Signals.{IsSignalThere, HasSignals}
 use Rattle.fabric_model.proofs.OneValue.{IsWithin, each_below-length, each_below-at}
 use Rattle.fabric_module.specs.Names.{register_name, read_name, memory_name}
-use Rattle.fabric_module.specs.Rights.{input_atom, right_of, atom_or_0, atom_or_1, port_atoms, lut_of, setting_wire, pattern_of, shift_atom, shift_atoms, data_atoms}
+use Rattle.fabric_module.specs.Rights.{input_atom, right_of, atom_or_0, atom_or_1, signal_atom, port_atoms, lut_of, setting_wire, pattern_of, shift_atom, shift_atoms, data_atoms}
 use Rattle.fabric_module.specs.Written.{clocked, clock_name, is_falling, items_by, read_item, write_item}
 use Rattle.fabric_module.proofs.Lists.{map-map}
 use Rattle.fabric_module.proofs.Bits.{number_of-word_of, masked-same}
 use Rattle.fabric_module.proofs.Narrow.{moved_down-is, put-is, high_bit, high-number, high-small}
 use Rattle.fabric_module.proofs.Sections.{is_in}
 use Rattle.fabric_module.proofs.Computed.{Puts, IsFew, IsOwn, assigned_in, done, own-if, after-if, after-enabled}
-use Rattle.fabric_module.proofs.Rights.{IsPlaceIn, Gives, atom-value, table-written, setting}
+use Rattle.fabric_module.proofs.Rights.{IsPlaceIn, Gives, atom-value, signal-value, table-written, setting}
 use Rattle.fabric_module.proofs.Settled.{word-pick}
 use Rattle.fabric_module.proofs.Beginning.{IsPorted}
 use Rattle.fabric_module.proofs.Ticks.{clock_test}
@@ -141,8 +143,8 @@ module _ (m : Parts) (fabric : Fabric) (before : ModuleEntry) (event : ModuleEve
   -- when a register is assigned and what, by the wire that sets it at once and its clock
   abbrev flips_at : Register → Option (List ℕ) → Option (List ℕ) → Bool
   flips_at register (Some wire) clock =
-      clock_test m.ports event (is_falling fabric register.neg register.clk) clock && (atom_value (readable before) (Whole wire) || atom_value (readable before) (atom_or_1 fabric register.cen))
-  flips_at register None clock = clock_test m.ports event (is_falling fabric register.neg register.clk) clock && atom_value (readable before) (atom_or_1 fabric register.cen)
+      clock_test m.ports event (is_falling fabric register.neg register.clk) clock && (atom_value (readable before) (Whole wire) || atom_value (readable before) (signal_atom fabric register.enable))
+  flips_at register None clock = clock_test m.ports event (is_falling fabric register.neg register.clk) clock && atom_value (readable before) (signal_atom fabric register.enable)
 
   abbrev flips_to : Register → Option (List ℕ) → Bool
   flips_to register (Some wire) = if atom_value (readable before) (Whole wire) then register.«set» else lut_value (readable before) (lut_of fabric register.table)
@@ -240,7 +242,11 @@ module _ (m : Parts) (fabric : Fabric) (within : IsWithin fabric) (state : State
   input-value : (stated : Bool) (net : Option ℕ) → atom_value (readable before) (input_atom fabric stated net) ≡ input_value (is_connected fabric) (bit_in v) stated net
   input-value stated net = atom-value fabric within state pins v is (is_driven fabric) (readable before) gives stated net (λ n found connected. connected)
 
-  table-same : (table : LutTable) → IsPlaceIn fabric (table_entry table) → lut_value (readable before) (lut_of fabric table) ≡ table_value (is_connected fabric) pins (bit_in v) table
+  enable-value : (source : Signal) → IsSignalThere fabric source
+      → atom_value (readable before) (signal_atom fabric source) ≡ fabric_signal (is_connected fabric) state pins (bit_in v) source
+  enable-value source there = signal-value fabric within state pins v is (is_driven fabric) (readable before) gives source there (λ n found connected. connected)
+
+  table-same : (table : LutTable) → IsPlaceIn fabric (table_entry table) → lut_value (readable before) (lut_of fabric table) ≡ table_value (is_connected fabric) state pins (bit_in v) table
   unfolding right_of
   table-same table there = table-written fabric within state pins v is (is_driven fabric) (readable before) gives table there (λ n reads connected. connected)
 
@@ -251,29 +257,29 @@ module _ (m : Parts) (fabric : Fabric) (within : IsWithin fabric) (state : State
       ∙ map-every (λ net. atom_value (readable before) (atom_or_0 fabric net)) (input_or_0 (is_connected fabric) (bit_in v)) (λ net. input-value false net) ports)
 
   -- a register
-  pub register-same : (bits : List Bool) (place : ℕ × Register) → IsPlaceIn fabric (table_entry place.1.table)
+  pub register-same : (place : ℕ × Register) → HasSignals fabric place.1
       → clock_test m.ports event (is_falling fabric place.1.neg place.1.clk) (clock_name fabric place.1.clk) ≡ has_edge place.1.neg place.1.clk (bit_in v) after
-      → done given_value (assigned_in (next_of_flip m before event) (items_by fabric place.1 (setting_wire fabric place.1) (clock_name fabric place.1.clk))) (get_or bits place.0 false)
-      ≡ bit_after (is_connected fabric) pins (bit_in v) after bits place
+      → done given_value (assigned_in (next_of_flip m before event) (items_by fabric place.1 (setting_wire fabric place.1) (clock_name fabric place.1.clk))) (get_or state.bits place.0 false)
+      ≡ bit_after (is_connected fabric) pins (bit_in v) after state place
   unfolding next_bit
-  register-same bits place there ticks =
+  register-same place there ticks =
       let register = place.1 in
       let clock = clock_name fabric register.clk in
-      let old = get_or bits place.0 false in
+      let old = get_or state.bits place.0 false in
       let edge = has_edge register.neg register.clk (bit_in v) after in
-      let enable = input_or_1 (is_connected fabric) (bit_in v) register.cen in
+      let enable = fabric_signal (is_connected fabric) state pins (bit_in v) register.enable in
       let reset = input_or_0 (is_connected fabric) (bit_in v) register.sr in
-      let made = table_value (is_connected fabric) pins (bit_in v) register.table in
+      let made = table_value (is_connected fabric) state pins (bit_in v) register.table in
       register-after m fabric before event register (setting_wire fabric register) clock old
       ∙ elim (setting fabric within state pins v is (is_driven fabric) (readable before) gives place.0 register (λ n reads connected. connected)) [
         | inl unset ↦
             ap (λ wire. register_by m fabric before event register wire clock old) unset.none
-            ∙ (rw (ticks, input-value true register.cen, input-value false register.sr, table-same register.table there)
+            ∙ (rw (ticks, enable-value register.enable there.enable, input-value false register.sr, table-same register.table there.ins)
             (waits-choice register.is_async reset edge enable register.«set» made old unset.idle))
         | inr by ↦
             let is_set = by.1 in
             ap (λ wire. register_by m fabric before event register wire clock old) is_set.found
-            ∙ (rw (ticks, input-value true register.cen, is_set.value, is_set.acts, table-same register.table there) (acts-choice reset edge enable register.«set» made old))
+            ∙ (rw (ticks, enable-value register.enable there.enable, is_set.value, is_set.acts, table-same register.table there.ins) (acts-choice reset edge enable register.«set» made old))
       ]
 
   -- ---- narrow words

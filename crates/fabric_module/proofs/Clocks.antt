@@ -19,6 +19,9 @@ use Rattle.fabric_model.specs.Clocks.ClockEnd.{at_pin, still, logic}
 use Rattle.graph_order.specs.Wiring.{IsWriteOrder}
 use Rattle.fabric_model.specs.Wiring.{wiring_of}
 use Rattle.fabric_model.proofs.Chains.{clock_end-leads}
+use Rattle.fabric_model.specs.Within.{IsClosed}
+use Rattle.fabric_model.proofs.Signals.{IsSignalThere, HasSignals}
+use Rattle.fabric_model.proofs.Settling.{outputs-have}
 use Rattle.fabric_model.proofs.OneValue.{IsWithin}
 use Rattle.fabric_module.specs.Names.{output_name, register_name, read_name, memory_name}
 use Rattle.fabric_module.specs.Rights.{input_name, setting_wire}
@@ -30,7 +33,6 @@ use Rattle.fabric_module.proofs.Settled.{IsWritable}
 use Rattle.fabric_module.proofs.Beginning.{IsPorted, IsStarted}
 use Rattle.fabric_module.proofs.Ticks.{leads-place}
 use Rattle.fabric_module.proofs.Grown.{grown, Grows}
-use Rattle.fabric_module.proofs.Rights.{IsSourceThere, IsOutputRule, outputs-ruled}
 use Rattle.fabric_module.proofs.Used.{IsThere, Knows, there-more, setting-class}
 use Rattle.fabric_module.proofs.Readings.{IsReadWell, read-unless}
 use Rattle.fabric_module.proofs.Known.{Stands, stands-more}
@@ -147,9 +149,9 @@ standing-after fabric j k assigned names before after standing more = record {
 
 -- ---- outputs
 
-module _ (fabric : Fabric) (writable : IsWritable fabric) (scope : Scope) (standing : Standing fabric 5 [] scope) where
+module _ (fabric : Fabric) (closed : IsClosed fabric) (writable : IsWritable fabric) (scope : Scope) (standing : Standing fabric 5 [] scope) where
   abbrev IsOutput : Output → Type 0
-  IsOutput output = IsThere scope (output_name output) sort.Output × IsOutputRule fabric output.rule
+  IsOutput output = IsThere scope (output_name output) sort.Output × IsSignalThere fabric output.source
 
   outputs-next : (next : Scope) (output : Output) → IsOutput output → next.section ≤ 6 → next.declared ≡ scope.declared → next.read ≡ scope.read
       → All (λ n. bytes_eq n (output_name output) ≡ false) next.assigned → IsAllowed next (output_assign fabric output)
@@ -159,9 +161,9 @@ module _ (fabric : Fabric) (writable : IsWritable fabric) (scope : Scope) (stand
 
   outputs-are : All IsOutput (outputs_of fabric)
   outputs-are =
-      All-both (λ (output : Output). IsThere scope (output_name output) sort.Output) (λ (output : Output). IsOutputRule fabric output.rule)
-      (λ (output : Output). IsThere scope (output_name output) sort.Output × IsOutputRule fabric output.rule) (λ output there ruled. (there, ruled))
-      (outputs_of fabric) standing.stands.outputs (outputs-ruled fabric)
+      All-both (λ (output : Output). IsThere scope (output_name output) sort.Output) (λ (output : Output). IsSignalThere fabric output.source)
+      (λ (output : Output). IsThere scope (output_name output) sort.Output × IsSignalThere fabric output.source) (λ output there ruled. (there, ruled))
+      (outputs_of fabric) standing.stands.outputs (outputs-have fabric closed)
 
   pub outputs-grow : Grows scope (map (output_assign fabric) (outputs_of fabric))
       × Standing fabric 6 (map output_name (outputs_of fabric)) (fold grown scope (map (output_assign fabric) (outputs_of fabric)))
@@ -223,7 +225,7 @@ after_writes fabric =
 
 -- a register whose table has 16 bits and reads pins that are there
 abbrev IsTabled : Fabric → Register → Type 0
-IsTabled fabric register = (register.table.word < 65536) × All (IsSourceThere fabric) register.table.ins
+IsTabled fabric register = (register.table.word < 65536) × HasSignals fabric register
 
 module _ (fabric : Fabric) (within : IsWithin fabric) (writable : IsWritable fabric) (sized : IsStarted fabric) (few : All (λ register. register.table.word < 65536) fabric.registers)
     (order : List ℕ) (ordered : IsWriteOrder (wiring_of fabric) order) where
@@ -260,7 +262,7 @@ module _ (fabric : Fabric) (within : IsWithin fabric) (writable : IsWritable fab
         All-both (IsTabled fabric) (λ register. IsThere scope (register_name register) sort.Register × Contains fabric.registers register)
         (λ register. IsTabled fabric register × IsThere scope (register_name register) sort.Register × Contains fabric.registers register)
         (λ register tabled there. (tabled, there.0, there.1)) fabric.registers
-        (All-both (λ register. register.table.word < 65536) (λ register. All (IsSourceThere fabric) register.table.ins) (IsTabled fabric) (λ register small sources. (small, sources)) fabric.registers few writable.tables)
+        (All-both (λ register. register.table.word < 65536) (HasSignals fabric) (IsTabled fabric) (λ register small sources. (small, sources)) fabric.registers few writable.tables)
         (All-both (λ register. IsThere scope (register_name register) sort.Register) (Contains fabric.registers)
         (λ register. IsThere scope (register_name register) sort.Register × Contains fabric.registers register) (λ register there among. (there, among)) fabric.registers
         standing.stands.registers (All-contains_itself fabric.registers))

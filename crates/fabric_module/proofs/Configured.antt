@@ -1,9 +1,7 @@
 -- What holds of the fabric that a database and an image configure: its names are apart, its RAMs have all their ports and start
 -- words, and its drivers name parts that it has.
-use Rattle.std.proofs.Common.{◌≡◌, ℕ, zero, suc, ◌+◌, ◌-◌, ◌<◌, ◌≤◌, Bool, true, false, List, [], ◌∷◌, ◌++◌, length, map, get_or, refl, sym, ap, ◌∙◌, subst, arith, inl, inr, eq-eqb}
-use Rattle.std.specs.Prelude.{All, Contains, Option, Some, None, not, codes, ◌&&◌, ◌==◌, filter, flat_map, bytes_eq, if◌then◌else◌}
-use Rattle.std.specs.List.{position_or_len}
-use Rattle.std.proofs.lemmas.Bool.{cases_Bool, lt-ltb, and_from}
+use Rattle.std.proofs.Common.{◌≡◌, ℕ, zero, suc, ◌+◌, ◌-◌, ◌<◌, ◌≤◌, Bool, true, false, List, [], ◌∷◌, ◌++◌, length, map, get_or, refl, sym, ap, ◌∙◌, subst, arith}
+use Rattle.std.specs.Prelude.{All, Contains, Option, Some, None, not, codes, filter, flat_map, bytes_eq, if◌then◌else◌}
 use Rattle.std.proofs.lemmas.List.{length-append, append_cancel_right}
 use Rattle.std.proofs.lemmas.List.Elements.{All-nil, All-cons, All-head, All-tail, All-append, All-map, All-filter, All-weaker, All-contains, All-contains_itself}
 use Rattle.shared_lemmas.proofs.Lists.{All-both}
@@ -23,10 +21,7 @@ use Rattle.fabric_model.specs.declared.lut_inputs.LutInputs.{LutInputs}
 use Rattle.vlog_module.specs.declared.modules.Port.{Port}
 use Rattle.fabric_model.specs.declared.driver.ClockUser.TheVariants.{Input, Output}
 use Rattle.fabric_model.specs.declared.register.Register.{Register}
-use Rattle.fabric_model.specs.declared.register.LutSource.{LutSource}
-use Rattle.fabric_model.specs.declared.register.LutSource.TheVariants.{Net}
-use Rattle.fabric_model.specs.Luts.{inputs_read}
-use Rattle.fabric_model.specs.Registers.{table_of, register_of, registers_of, pin_source, table_as, pin_register, pin_registers_of}
+use Rattle.fabric_model.specs.Registers.{table_of, register_of, registers_of, pin_register, pin_registers_of}
 use Rattle.fabric_model.specs.On.{is_function_on}
 use Rattle.fabric_model.specs.Nets.{ending_in}
 use Rattle.fabric_model.specs.declared.ram.RamCell.{RamCell}
@@ -40,15 +35,17 @@ use Rattle.fabric_model.specs.Cells.{cell_bits, cell_with, used_cell, cells_at, 
 use Rattle.fabric_model.specs.Rams.{mode_of, first_data_bit, is_ram_used, ram_at, rams_of, start_word, start_words}
 use Rattle.fabric_model.specs.Pins.{pintype_of, is_port, is_input_read, pin_with, port_at, pins_of, is_registered, is_tri_state, place_among}
 use Rattle.fabric_model.specs.Fabric.{Fabric, numbered, inputs_of, fabric_with}
-use Rattle.fabric_model.specs.Drivers.{Rule, Drive, drives_if, pin_drives, output_rule, back_drives, lut_drives, drives_by, flip_driver, flip_drives, lout_drives, carry_drives, set_drives, read_data_rule, ram_drive, ram_drives, global_rule, global_drives, buffer_drives, pin_register_driver, pin_register_drives, drives_of}
-use Rattle.fabric_model.specs.Drivers.Rule.{pin_bit, constant, table_entry, majority_of, register_bit, read_bit, copied}
-use Rattle.fabric_model.proofs.OneValue.{each_below-length, filter-has}
+use Rattle.fabric_model.specs.Drivers.{Rule, Drive, drives_if, pin_drives, output_signal, back_drives, lut_drives, drives_by, flip_driver, flip_drives, lout_drives, carry_drives, set_drives, read_data_rule, ram_drive, ram_drives, global_rule, global_drives, buffer_drives, pin_register_driver, pin_register_drives, drives_of}
+use Rattle.fabric_model.specs.Drivers.Rule.{pin_bit, constant, input, table_entry, majority_of, register_bit, read_bit, copied}
+use Rattle.fabric_model.specs.Within.{IsClosed}
+use Rattle.fabric_model.proofs.Signals.{output-there, cell-signals}
+use Rattle.fabric_model.proofs.OneValue.{each_below-length}
 use Rattle.fabric_model.proofs.Within.{All-flat_map, All-item_if, All-if, All-unless, All-single, All-over_tiles, All-numbered}
 use Rattle.fabric_module.specs.Names.{two_numbers, three_numbers, port_name, enable_name, user_prefix, user_number, register_name, read_name, memory_name}
 use Rattle.fabric_module.specs.Written.{port_of, enable_ports, pin_ports}
 use Rattle.fabric_module.proofs.Lists.{NamesDiffer, Apart, places-below}
 use Rattle.fabric_module.proofs.Ports.{port_label}
-use Rattle.fabric_module.proofs.Rights.{IsSourceThere, IsPlaceIn, output_rule-good}
+use Rattle.fabric_module.proofs.Rights.{IsPlaceIn}
 use Rattle.fabric_module.proofs.Beginning.{IsStarted, IsPorted}
 use Rattle.fabric_model.proofs.Apart.{AreApart, All-every, apart-item_if, apart-filter, apart-append, apart-weaker, apart-map, apart-flat_map, apart-gathered, apart-over_tiles}
 use Rattle.fabric_module.proofs.Apart.{IsSmall, two-same, three-same, three-tail}
@@ -380,80 +377,7 @@ module _ (db : Database) (image : Configuration) where
     each_port = subst (All IsPorted) (sym (fabric-rams reads)) ports-all;
   }
 
--- ---- drivers and tables name what is there
-
--- the inputs of a cell are nets
-pub cell-sources : (fabric : Fabric) (reads : LutInputs) (lc : LogicCell) → All (IsSourceThere fabric) (table_of reads lc).ins
-cell-sources fabric reads lc =
-    let ins = inputs_read reads lc.lut lc.ins in
-    All-map (IsSourceThere fabric) Net ins (All-every (λ net. IsSourceThere fabric (Net net)) (λ net. tt) ins)
-
-register-sources : (fabric : Fabric) (reads : LutInputs) (lc : LogicCell) → All (IsSourceThere fabric) (register_of reads lc).table.ins
-unfolding register_of
-register-sources fabric reads lc = cell-sources fabric reads lc
-
-flips-sources : (fabric : Fabric) (reads : LutInputs) (lcs : List LogicCell) → All (λ register. All (IsSourceThere fabric) register.table.ins) (registers_of reads lcs)
-unfolding registers_of
-flips-sources fabric reads lcs =
-    All-map (λ register. All (IsSourceThere fabric) register.table.ins) (register_of reads) (filter (λ lc. lc.flip) lcs)
-    (All-every (λ lc. All (IsSourceThere fabric) (register_of reads lc).table.ins) (register-sources fabric reads) (filter (λ lc. lc.flip) lcs))
-
-prefix-found : {X : Type 0} (test : X → Bool) (xs : List X) (item : X) → Contains xs item → test item ≡ true → position_or_len test xs < length xs
-prefix-found test [] item (k, within, here) passes = absurd (omega (arith, within))
-prefix-found test (x ∷ xs) item (zero, within, here) passes =
-    let found : test x ≡ true = ap test here ∙ passes in rw found (omega arith)
-prefix-found test (x ∷ xs) item (suc k, within, here) passes =
-    elim (cases_Bool (test x)) [
-      | inl found ↦ rw found (omega arith)
-      | inr away ↦ rw away (omega (arith, prefix-found test xs item (k, omega (arith, within), here) passes))
-    ]
-
--- the place of a pin that is among pins is one of theirs
-pub place-found : (pins : List Pin) (pin : Pin) → Contains pins pin → place_among pins pin.x pin.y pin.n < length pins
-place-found pins pin there =
-    let test = λ (other : Pin). (other.x == pin.x) && ((other.y == pin.y) && (other.n == pin.n)) in
-    let passes : ((pin.x == pin.x) && ((pin.y == pin.y) && (pin.n == pin.n))) ≡ true =
-    and_from (pin.x == pin.x) ((pin.y == pin.y) && (pin.n == pin.n)) (eq-eqb pin.x pin.x refl)
-    (and_from (pin.y == pin.y) (pin.n == pin.n) (eq-eqb pin.y pin.y refl) (eq-eqb pin.n pin.n refl)) in
-    let inside : position_or_len test pins < length pins = prefix-found test pins pin there passes in
-    rw (lt-ltb (position_or_len test pins) (length pins) inside) inside
-
--- the register of a pin reads a net, or the pin
-pin_source-there : (fabric : Fabric) (pin : Pin) → Contains fabric.pins pin → IsSourceThere fabric (pin_source (inputs_of fabric) pin)
-pin_source-there fabric pin there =
-    elim (cases_Bool pin.output) [
-      | inl here ↦ rw here tt
-      | inr away ↦
-          let input : not pin.output ≡ true = rw away refl in
-          rw away (place-found (inputs_of fabric) pin (filter-has (λ other. not other.output) fabric.pins pin there input))
-    ]
-
-table_as-there : (fabric : Fabric) (source : LutSource) → IsSourceThere fabric source → All (IsSourceThere fabric) (table_as source).ins
-table_as-there fabric source there =
-    All-cons (IsSourceThere fabric) source (Net None ∷ Net None ∷ Net None ∷ []) there
-    (All-cons (IsSourceThere fabric) (Net None) (Net None ∷ Net None ∷ []) tt
-    (All-cons (IsSourceThere fabric) (Net None) (Net None ∷ []) tt (All-single (IsSourceThere fabric) (Net None) tt)))
-
-module _ (db : Database) (image : Configuration) where
-  pin_register-sources : (fabric : Fabric) (pin : Pin) → Contains fabric.pins pin → All (IsSourceThere fabric) (pin_register db image (inputs_of fabric) pin).table.ins
-  unfolding pin_register
-  pin_register-sources fabric pin there = table_as-there fabric (pin_source (inputs_of fabric) pin) (pin_source-there fabric pin there)
-
-  pin_registers-sources : (fabric : Fabric) → All (λ register. All (IsSourceThere fabric) register.table.ins) (pin_registers_of db image fabric.pins)
-  unfolding pin_registers_of
-  pin_registers-sources fabric =
-      All-map (λ register. All (IsSourceThere fabric) register.table.ins) (pin_register db image (inputs_of fabric)) (filter is_registered fabric.pins)
-      (All-filter is_registered (λ pin. All (IsSourceThere fabric) (pin_register db image (inputs_of fabric) pin).table.ins) fabric.pins
-      (All-weaker (Contains fabric.pins) (λ pin. All (IsSourceThere fabric) (pin_register db image (inputs_of fabric) pin).table.ins)
-      (λ pin there. pin_register-sources fabric pin there) fabric.pins (All-contains_itself fabric.pins)))
-
-  -- the tables of registers name input pins that are there
-  pub registers-sources : (reads : LutInputs) → All (λ register. All (IsSourceThere (fabric_with reads db image)) register.table.ins) (fabric_with reads db image).registers
-  unfolding fabric_with
-  registers-sources reads =
-      let fabric = fabric_with reads db image in
-      All-append (λ register. All (IsSourceThere fabric) register.table.ins) (registers_of reads (cells_of db image)) (pin_registers_of db image (pins_of db image))
-      (flips-sources fabric reads (cells_of db image)) (pin_registers-sources fabric)
+-- ---- drivers name what is there
 
 -- a pad is one of the input pins
 abbrev pub IsPadIn : List Pin → GlobalFrom → Type 0
@@ -504,16 +428,16 @@ module _ (fabric : Fabric) where
   then-there : (first second : List Drive) → All IsNamedIn first → All IsNamedIn second → All IsNamedIn (first ++ second)
   then-there first second = All-append IsNamedIn first second
 
-  module _ (pads : All (λ (global : GlobalNet). IsPadIn (inputs_of fabric) global.from) fabric.globals) (ports : All (λ ram. length ram.rdata ≡ 16) fabric.rams) where
+  module _ (closed : IsClosed fabric) (pads : All (λ (global : GlobalNet). IsPadIn (inputs_of fabric) global.from) fabric.globals) (ports : All (λ ram. length ram.rdata ≡ 16) fabric.rams) where
     all-there : All IsNamedIn (drives_of fabric)
     unfolding drives_of
     all-there =
         then-there _ _ (each-there (λ (place : ℕ × Pin). place.0 < 0 + length (inputs_of fabric)) pin_drives (λ place there. All-unless IsNamedIn (is_registered place.1) _ (drives_if-there _ (pin_bit place.0) place.1.din (omega arith))) (numbered (inputs_of fabric)) (places-below 0 (inputs_of fabric)))
-        (then-there _ _ (any-there (back_drives fabric.registers) (λ pin. drives_if-there _ (output_rule fabric.registers pin) pin.din
-        (output_rule-good (IsPlaceIn fabric) fabric.registers (λ bit. tt) (λ stated net. tt) (λ place there. there) pin)) (filter (λ pin. pin.back) fabric.pins))
-        (then-there _ _ (any-there (lut_drives fabric.lut_inputs) (λ lc. drives_if-there _ (table_entry (table_of fabric.lut_inputs lc)) lc.out (cell-sources fabric fabric.lut_inputs lc)) (filter (λ lc. not lc.flip) fabric.lcs))
+        (then-there _ _ (each-there (Contains fabric.pins) (back_drives fabric) (λ pin there. drives_if-there _ (input (output_signal fabric pin)) pin.din (output-there fabric closed pin there))
+        (filter (λ pin. pin.back) fabric.pins) (All-filter (λ pin. pin.back) (Contains fabric.pins) fabric.pins (All-contains_itself fabric.pins)))
+        (then-there _ _ (any-there (lut_drives fabric.lut_inputs) (λ lc. drives_if-there _ (table_entry (table_of fabric.lut_inputs lc)) lc.out (cell-signals fabric fabric.lut_inputs lc)) (filter (λ lc. not lc.flip) fabric.lcs))
         (then-there _ _ (each-there (Contains (numbered fabric.registers)) flip_drives (λ place there. by-there place (flip_driver place.1 place.1.user) there) (numbered fabric.registers) (All-contains_itself (numbered fabric.registers)))
-        (then-there _ _ (any-there (lout_drives fabric.lut_inputs) (λ lc. drives_if-there _ (table_entry (table_of fabric.lut_inputs lc)) lc.lout (cell-sources fabric fabric.lut_inputs lc)) fabric.lcs)
+        (then-there _ _ (any-there (lout_drives fabric.lut_inputs) (λ lc. drives_if-there _ (table_entry (table_of fabric.lut_inputs lc)) lc.lout (cell-signals fabric fabric.lut_inputs lc)) fabric.lcs)
         (then-there _ _ (any-there carry_drives (λ lc. drives_if-there _ (majority_of (get_or lc.ins 1 None) (get_or lc.ins 2 None) lc.cin) lc.cout tt) (filter (λ lc. lc.carry) fabric.lcs))
         (then-there _ _ (any-there set_drives (λ set. drives_if-there _ (constant true) (Some set.net) tt) fabric.sets)
         (then-there _ _ (each-there (λ (place : ℕ × RamCell). (place.0 < 0 + length fabric.rams) × (length place.1.rdata ≡ 16)) ram_drives (λ place found. ram-there place (omega (arith, found.0), found.1)) (numbered fabric.rams)

@@ -1,6 +1,6 @@
 -- Where a database and an image aren't refused, the module that is written for them is their fabric, and it is well-formed.
-use Rattle.std.proofs.Common.{◌≡◌, ℕ, ◌^◌, ◌≤◌, Bool, List, [], ◌∷◌, ◌++◌, length, map, refl, sym, ap₂, ◌∙◌, subst}
-use Rattle.std.specs.Prelude.{All, None, if◌then◌else◌}
+use Rattle.std.proofs.Common.{◌≡◌, ℕ, ◌^◌, ◌≤◌, Bool, List, [], ◌∷◌, ◌++◌, length, map, refl, sym, ap, ◌∙◌, subst}
+use Rattle.std.specs.Prelude.{All, None}
 use Rattle.std.specs.List.{AllZip}
 use Rattle.std.proofs.lemmas.List.Elements.{All-weaker}
 use Rattle.bit_plane.specs.BitList.{word_of}
@@ -12,7 +12,6 @@ use Rattle.vlog_module.specs.WellFormed.{IsModule}
 use Rattle.vlog_semantics.specs.Entries.{Entry as ModuleEntry}
 use Rattle.vlog_semantics.specs.Run.{module_run}
 use Rattle.fabric_model.specs.declared.pin.GlobalNet.{GlobalNet}
-use Rattle.fabric_model.specs.declared.pin.Pin.{Pin}
 use Rattle.fabric_model.specs.declared.register.Register.{Register}
 use Rattle.fabric_model.specs.Rams.{rams_of}
 use Rattle.fabric_model.specs.Outputs.{outputs_of}
@@ -22,17 +21,18 @@ use Rattle.fabric_model.specs.Steps.{Event, Entry, IsRun}
 use Rattle.graph_order.specs.Wiring.{IsWriteOrder}
 use Rattle.fabric_model.specs.Wiring.{wiring_of}
 use Rattle.fabric_model.specs.Faults.{design_fault}
-use Rattle.fabric_model.proofs.Within.{fabric-within}
+use Rattle.fabric_model.proofs.Within.{fabric-in, fabric-within}
+use Rattle.fabric_model.proofs.Signals.{registers-signals}
 use Rattle.fabric_model.proofs.Taken.{design-taken}
 use Rattle.fabric_model.proofs.Runs.{fabric-placed}
 use Rattle.fabric_model.proofs.Paired.{pairs-give}
-use Rattle.fabric_model.proofs.Alike.{RegistersAlike, register-field, registers-alike, OutputsAlike, outputs-with, driven-with, run-with}
-use Rattle.fabric_module.specs.Names.{three_numbers, port_name, enable_name, output_name, user_prefix, user_number, register_name, read_name, memory_name}
+use Rattle.fabric_model.proofs.Alike.{RegistersAlike, register-field, registers-alike, outputs-with, driven-with, run-with}
+use Rattle.fabric_module.specs.Names.{three_numbers, port_name, output_name, user_prefix, user_number, register_name, read_name, memory_name}
 use Rattle.fabric_module.specs.Written.{module_of}
 use Rattle.fabric_module.specs.Matching.{HasValues, HasWires, Matches, module_event}
 use Rattle.fabric_module.proofs.Settled.{IsWritable}
 use Rattle.fabric_module.proofs.Beginning.{IsPorted}
-use Rattle.fabric_module.proofs.Configured.{IsPadIn, registers-sources, ports-apart, registers-apart, rams-apart, read-places, memory-places, fabric-started, drives-there}
+use Rattle.fabric_module.proofs.Configured.{IsPadIn, ports-apart, registers-apart, rams-apart, read-places, memory-places, fabric-started, drives-there}
 use Rattle.fabric_module.proofs.Pads.{pads-there}
 use Rattle.fabric_module.proofs.Headline.{module-is-fabric}
 use Rattle.fabric_module.proofs.Whole.{module-well_formed}
@@ -48,9 +48,9 @@ module _ (reads : LutInputs) (db : Database) (image : Configuration) (fit : IsFi
   unfolding fabric_with
   fabric-writable = record {
     few = few;
-    places = drives-there (fabric_with reads db image) pads
+    places = drives-there (fabric_with reads db image) (fabric-in db image fit reads) pads
         (All-weaker IsPorted (λ ram. length ram.rdata ≡ 16) (λ ram ported. ported.read) (rams_of db image) (fabric-started db image reads).each_port);
-    tables = registers-sources db image reads;
+    tables = registers-signals db image reads;
     ports = ports-apart db image;
     registers = registers-apart db image reads;
     reads = rams-apart db image read_name read-places;
@@ -73,9 +73,7 @@ module _ (reads : LutInputs) (db : Database) (image : Configuration) (fit : IsFi
 
   same-outputs : map output_name (outputs_of (fabric_with reads db image)) ≡ map output_name (outputs_of (fabric_of db image))
   same-outputs =
-      pairs-give OutputsAlike output_name output_name
-      (λ one two alike. ap₂ (λ (enable : Bool) (pin : Pin). if enable then enable_name pin else port_name pin) alike.enable alike.pin)
-      (outputs_of (fabric_with reads db image)) (outputs_of (fabric_of db image)) (outputs-with reads db image)
+      ap (map output_name) (outputs-with reads db image)
 
   register-named : (one two : Register) → RegistersAlike one two → register_name one ≡ register_name two
   unfolding register_name

@@ -33,7 +33,8 @@ use Rattle.fabric_module.specs.Matching.{HasValues, Matches, module_event}
 use Rattle.fabric_module.proofs.Lists.{place-there, name-there, map-map, value_in-at}
 use Rattle.fabric_module.proofs.Sections.{flips-section, reads-section, writes-section}
 use Rattle.fabric_module.proofs.Computed.{assigned_in, done, part-holds}
-use Rattle.fabric_module.proofs.Rights.{IsSourceThere, Gives}
+use Rattle.fabric_model.proofs.Signals.{HasSignals}
+use Rattle.fabric_module.proofs.Rights.{Gives}
 use Rattle.fabric_module.proofs.Settled.{IsWritable, Holding, gives-read, settled-matches, word-pick}
 use Rattle.fabric_module.proofs.Beginning.{IsStarted, IsPorted, values-are, start-matches}
 use Rattle.fabric_module.proofs.Ticks.{clock_test, edge-none, tick}
@@ -59,7 +60,7 @@ module _ (fabric : Fabric) (pins : List Bool) (state : State) (before : ℕ → 
   stay : (inverted : Bool) (clock : Option ℕ) → has_edge inverted clock before before ≡ false
   stay inverted clock = edge-none inverted clock before before (λ net is. refl)
 
-  register-stays : (place : ℕ × Register) → bit_after (is_connected fabric) pins before before state.bits place ≡ get_or state.bits place.0 false
+  register-stays : (place : ℕ × Register) → bit_after (is_connected fabric) pins before before state place ≡ get_or state.bits place.0 false
   register-stays place = rw (stay place.1.neg place.1.clk) refl
 
   read-stays : (place : ℕ × RamCell) → read_after (is_connected fabric) before before state place ≡ get_or state.reads place.0 []
@@ -72,7 +73,7 @@ module _ (fabric : Fabric) (pins : List Bool) (state : State) (before : ℕ → 
   state-stays : state_after fabric pins state before before ≡ state
   unfolding state_after
   state-stays =
-      let b = map-every (bit_after (is_connected fabric) pins before before state.bits) (λ place. get_or state.bits place.0 false) register-stays (numbered fabric.registers)
+      let b = map-every (bit_after (is_connected fabric) pins before before state) (λ place. get_or state.bits place.0 false) register-stays (numbered fabric.registers)
       ∙ (values-are (λ bit. bit) false fabric.registers state.bits bits ∙ map-id state.bits) in
       let r = map-every (read_after (is_connected fabric) before before state) (λ place. get_or state.reads place.0 []) read-stays (numbered fabric.rams)
       ∙ (values-are (λ word. word) [] fabric.rams state.reads reads ∙ map-id state.reads) in
@@ -162,10 +163,10 @@ module _ (device : DeviceName) (fabric : Fabric) (taken : fabric_fault device fa
 
       -- ---- registers, read registers and memories, each by their own items
 
-      register-goods : All (λ (place : ℕ × Register). IsClocked fabric place.1.clk × All (IsSourceThere fabric) place.1.table.ins) (numbered fabric.registers)
+      register-goods : All (λ (place : ℕ × Register). IsClocked fabric place.1.clk × HasSignals fabric place.1) (numbered fabric.registers)
       register-goods =
-          All-numbered (λ register. IsClocked fabric register.clk × All (IsSourceThere fabric) register.table.ins) 0 fabric.registers
-          (All-both (Contains fabric.registers) (λ register. All (IsSourceThere fabric) register.table.ins) (λ register. IsClocked fabric register.clk × All (IsSourceThere fabric) register.table.ins)
+          All-numbered (λ register. IsClocked fabric register.clk × HasSignals fabric register) 0 fabric.registers
+          (All-both (Contains fabric.registers) (HasSignals fabric) (λ register. IsClocked fabric register.clk × HasSignals fabric register)
           (λ register there sources. (register-good device fabric taken placed register there, sources)) fabric.registers (All-contains_itself fabric.registers) writable.tables)
 
       registers-hold : HasValues (fold (register_step (module_of fabric order name) held (module_event event)) held.registers (items_of fabric order)) (map register_name fabric.registers) next.bits
@@ -177,11 +178,11 @@ module _ (device : DeviceName) (fabric : Fabric) (taken : fabric_fault device fa
           (λ register. own-register (module_of fabric order name) fabric held (module_event event) register (setting_wire fabric register) (clock_name fabric register.clk))
           7 (bit-none (module_of fabric order name) held (module_event event)) (items_of fabric order) fabric.registers (flips-section fabric order) writable.registers
           false held.registers before.state.bits match.registers
-          (bit_after (is_connected fabric) before.pins (bit_in before.v) (bit_in after.v) before.state.bits)
-          (All-weaker (λ (place : ℕ × Register). IsClocked fabric place.1.clk × All (IsSourceThere fabric) place.1.table.ins)
+          (bit_after (is_connected fabric) before.pins (bit_in before.v) (bit_in after.v) before.state)
+          (All-weaker (λ (place : ℕ × Register). IsClocked fabric place.1.clk × HasSignals fabric place.1)
           (λ (place : ℕ × Register). done given_value (assigned_in next_is (register_items fabric place.1)) (get_or before.state.bits place.0 false)
-          ≡ bit_after (is_connected fabric) before.pins (bit_in before.v) (bit_in after.v) before.state.bits place)
-          (λ place good. register-same (module_of fabric order name) fabric within before.state before.pins before.v of_before.consistent held (module_event event) gives (bit_in after.v) before.state.bits place
+          ≡ bit_after (is_connected fabric) before.pins (bit_in before.v) (bit_in after.v) before.state place)
+          (λ place good. register-same (module_of fabric order name) fabric within before.state before.pins before.v of_before.consistent held (module_event event) gives (bit_in after.v) place
           good.1 (ticks place.1.neg place.1.clk good.0)) (numbered fabric.registers) register-goods)
 
       -- the ports of a RAM have all that they need

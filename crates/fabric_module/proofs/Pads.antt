@@ -34,7 +34,8 @@ use Rattle.fabric_model.specs.Faults.{Fault, device_faults, pin_fault_at, pin_fa
 use Rattle.fabric_model.proofs.OneValue.{filter-has}
 use Rattle.fabric_model.proofs.Taken.{IsTaken, gathered_below-empty, item_if-none}
 use Rattle.fabric_model.proofs.Runs.{contains-over_grid}
-use Rattle.fabric_module.proofs.Configured.{place-found, IsPadIn}
+use Rattle.fabric_model.proofs.Signals.{place-found}
+use Rattle.fabric_module.proofs.Configured.{IsPadIn}
 
 -- ---- tests and places
 

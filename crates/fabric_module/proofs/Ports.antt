@@ -5,7 +5,6 @@ use Rattle.std.proofs.lemmas.Bool.{cases_Bool}
 use Rattle.std.proofs.lemmas.List.Elements.{All-nil, All-cons, All-head, All-tail, All-map}
 use Rattle.vlog_module.specs.declared.modules.Port.{Port}
 use Rattle.vlog_semantics.specs.Run.{input_start, output_start}
-use Rattle.fabric_model.specs.declared.register.Register.{Register}
 use Rattle.fabric_model.specs.declared.pin.Pin.{Pin}
 use Rattle.fabric_model.specs.Pins.{is_tri_state_kind}
 use Rattle.fabric_model.specs.Fabric.{Fabric}
@@ -41,22 +40,22 @@ ports-inputs (pin ∷ pins) =
       | inr away ↦ rw away (ap (λ list. record { name = port_name pin; output = false } ∷ list) (ports-inputs pins))
     ]
 
-pub ports-outputs : (registers : List Register) (pins : List Pin)
-    → filter (λ port. port.output) (flat_map pin_ports pins) ≡ map output_port (flat_map (pin_outputs registers) (filter (λ pin. pin.output) pins))
+pub ports-outputs : (fabric : Fabric) (pins : List Pin)
+    → filter (λ port. port.output) (flat_map pin_ports pins) ≡ map output_port (flat_map (pin_outputs fabric) (filter (λ pin. pin.output) pins))
 unfolding port_name enable_name
-ports-outputs registers [] = refl
-ports-outputs registers (pin ∷ pins) =
+ports-outputs fabric [] = refl
+ports-outputs fabric (pin ∷ pins) =
     elim (cases_Bool pin.output) [
       | inl here ↦ rw here (elim (cases_Bool (is_tri_state_kind pin.kind)) [
-        | inl switched ↦ rw switched (ap (λ list. record { name = port_name pin; output = true } ∷ record { name = enable_name pin; output = true } ∷ list) (ports-outputs registers pins))
-        | inr still ↦ rw still (ap (λ list. record { name = port_name pin; output = true } ∷ list) (ports-outputs registers pins))
+        | inl switched ↦ rw switched (ap (λ list. record { name = port_name pin; output = true } ∷ record { name = enable_name pin; output = true } ∷ list) (ports-outputs fabric pins))
+        | inr still ↦ rw still (ap (λ list. record { name = port_name pin; output = true } ∷ list) (ports-outputs fabric pins))
       ])
-      | inr away ↦ rw away (ports-outputs registers pins)
+      | inr away ↦ rw away (ports-outputs fabric pins)
     ]
 
 pub outputs-ports : (fabric : Fabric) → filter (λ port. port.output) (ports_of fabric) ≡ map output_port (outputs_of fabric)
 unfolding outputs_of
-outputs-ports fabric = ports-outputs fabric.registers fabric.pins
+outputs-ports fabric = ports-outputs fabric fabric.pins
 
 -- ---- lists that are made from others
 

@@ -1,88 +1,40 @@
 -- The right-hand side that is written for a driver has the driver's value, if pins, state and the wires that it reads have theirs.
-use Rattle.std.proofs.Common.{◌≡◌, ℕ, zero, suc, ◌<◌, ◌≤◌, Bool, true, false, List, [], ◌∷◌, ◌++◌, length, get_or, refl, sym, ap, ◌∙◌, ◌⊎◌, inl, inr}
-use Rattle.std.specs.Prelude.{All, Contains, Option, Some, None, find, filter, option_to_list, ◌&&◌, if◌then◌else◌}
+use Rattle.std.proofs.Common.{◌≡◌, ℕ, ◌<◌, ◌≤◌, Bool, true, false, List, [], ◌++◌, length, get_or, refl, sym, ap, ◌∙◌, ◌⊎◌, inl, inr}
+use Rattle.std.specs.Prelude.{All, Contains, Option, Some, None, option_to_list, ◌&&◌, if◌then◌else◌}
 use Rattle.std.proofs.lemmas.Bool.{cases_Bool}
-use Rattle.std.proofs.lemmas.List.Elements.{All-cons, All-head, All-tail, All-weaker, All-contains_itself}
 use Rattle.bit_plane.specs.BitList.{word_of}
 use Rattle.vlog_module.specs.declared.atoms.Atom.{Atom}
 use Rattle.vlog_module.specs.declared.atoms.Atom.TheVariants.{Bit, Whole, Part}
 use Rattle.vlog_module.specs.Maps.{value_in}
 use Rattle.vlog_semantics.specs.Values.{Readable, atom_value, right_value}
-use Rattle.fabric_model.specs.declared.register.LutSource.{LutSource}
-use Rattle.fabric_model.specs.declared.register.LutSource.TheVariants.{Net, Pin as SourcePin}
+use Rattle.fabric_model.specs.declared.signal.Signal.{Signal}
+use Rattle.fabric_model.specs.declared.signal.Signal.TheVariants as signal
 use Rattle.fabric_model.specs.declared.register.LutTable.{LutTable}
 use Rattle.fabric_model.specs.declared.register.Register.{Register}
 use Rattle.fabric_model.specs.Joins.{class_of}
 use Rattle.fabric_model.specs.Fabric.{Fabric, numbered, inputs_of}
-use Rattle.fabric_model.specs.declared.pin.Pin.{Pin}
-use Rattle.fabric_model.specs.Pins.{is_registered, is_tri_state}
-use Rattle.fabric_model.specs.Outputs.{Output, enable_outputs, pin_outputs, outputs_of}
-use Rattle.fabric_model.specs.Drivers.{Rule, Drive, is_output_register, register_rule, output_rule, drives_of, drivers_of, is_driven, nets_read}
+use Rattle.fabric_model.specs.Signals.{net_or_0, signal_nets}
+use Rattle.fabric_model.specs.Drivers.{Rule, Drive, drives_of, drivers_of, is_driven, nets_read}
 use Rattle.fabric_model.specs.Drivers.Rule.{pin_bit, constant, input, table_entry, majority_of, register_bit, read_bit, copied}
-use Rattle.fabric_model.specs.Values.{State, input_value, input_or_0, source_value, table_input, lut_value, settled_bit, value_of, bit_in, is_connected, IsConsistent}
+use Rattle.fabric_model.specs.Values.{State, input_value, input_or_0, signal_value, table_input, lut_value, settled_bit, value_of, bit_in, is_connected, IsConsistent}
 use Rattle.graph_order.specs.Wiring.{has, depends}
 use Rattle.fabric_model.specs.Wiring.{wiring_of}
-use Rattle.fabric_model.proofs.Apart.{All-every}
-use Rattle.fabric_model.proofs.Within.{HoldsOf, find-holds, All-flat_map, All-if, All-single}
+use Rattle.fabric_model.proofs.Signals.{IsSignalThere, signal-there, item-at}
 use Rattle.fabric_model.proofs.Joins.{class_of-class}
 use Rattle.fabric_model.proofs.Facts.{has-left, has-right, has-some, has-source}
 use Rattle.fabric_model.proofs.OneValue.{IsWithin, first-driver, first-is, first-class, first-reads, net-bit, class_bit, class-still}
 use Rattle.fabric_module.specs.Names.{register_name, wire_name}
-use Rattle.fabric_module.specs.Rights.{input_atom, atom_or_0, input_name, read_at, source_atom, table_atom, driven_wire, setting_wire, register_right, right_alone, right_of, right_by, class_right}
+use Rattle.fabric_module.specs.Rights.{input_atom, atom_or_0, input_name, read_at, signal_atom, table_atom, driven_wire, setting_wire, register_right, right_alone, right_of, right_by, class_right}
 use Rattle.fabric_module.proofs.Bits.{bit_of-word_of, table-entry, majority-same}
 
--- the pin that an input of a table reads is one of the fabric's
-abbrev pub IsSourceThere : Fabric → LutSource → Type 0
-IsSourceThere fabric (Net net) = Unit {0}
-IsSourceThere fabric (SourcePin place) = place < length (inputs_of fabric)
-
--- a driver's pins, register or RAM is one of the fabric's
+-- what a driver reads is there: its input pins, registers or RAM are those of the fabric
 abbrev pub IsPlaceIn : Fabric → Rule → Type 0
 IsPlaceIn fabric (pin_bit place) = place < length (inputs_of fabric)
-IsPlaceIn fabric (table_entry table) = All (IsSourceThere fabric) table.ins
+IsPlaceIn fabric (input source) = IsSignalThere fabric source
+IsPlaceIn fabric (table_entry table) = All (IsSignalThere fabric) table.ins
 IsPlaceIn fabric (register_bit place register) = Contains (numbered fabric.registers) (place, register)
 IsPlaceIn fabric (read_bit ram bit) = (ram < length fabric.rams) × (bit ≤ 15)
 IsPlaceIn fabric rule = Unit {0}
-
--- a rule that outputs have: an input, a register of the fabric, or a bit that is always the same
-abbrev pub IsOutputRule : Fabric → Rule → Type 0
-IsOutputRule fabric (input stated net) = Unit {0}
-IsOutputRule fabric (constant bit) = Unit {0}
-IsOutputRule fabric (register_bit place register) = Contains (numbered fabric.registers) (place, register)
-IsOutputRule fabric rule = ⊥
-
-register_rule-good : (P : Rule → Type 0) → ((bit : Bool) → P (constant bit)) → (found : Option (ℕ × Register))
-    → HoldsOf (λ (place : ℕ × Register). P (register_bit place.0 place.1)) found → P (register_rule found)
-register_rule-good P of_constant None has = of_constant false
-register_rule-good P of_constant (Some place) has = has
-
--- what holds of such rules holds of what an output pin has
-pub output_rule-good : (P : Rule → Type 0) (registers : List Register) → ((bit : Bool) → P (constant bit)) → ((stated : Bool) (net : Option ℕ) → P (input stated net))
-    → ((place : ℕ × Register) → Contains (numbered registers) place → P (register_bit place.0 place.1)) → (pin : Pin) → P (output_rule registers pin)
-output_rule-good P registers of_constant of_input of_register pin =
-    elim (cases_Bool (is_registered pin)) [
-      | inl here ↦ rw here (register_rule-good P of_constant (find (is_output_register pin) (numbered registers))
-          (find-holds (λ (place : ℕ × Register). P (register_bit place.0 place.1)) (is_output_register pin) (numbered registers)
-          (All-weaker (Contains (numbered registers)) (λ (place : ℕ × Register). P (register_bit place.0 place.1)) of_register (numbered registers) (All-contains_itself (numbered registers)))))
-      | inr away ↦ rw away (of_input false pin.dout)
-    ]
-
--- outputs have such rules
-pub outputs-ruled : (fabric : Fabric) → All (λ (output : Output). IsOutputRule fabric output.rule) (outputs_of fabric)
-unfolding outputs_of
-outputs-ruled fabric =
-    All-flat_map (λ (output : Output). IsOutputRule fabric output.rule) (pin_outputs fabric.registers) (filter (λ pin. pin.output) fabric.pins)
-    (All-every (λ pin. All (λ (output : Output). IsOutputRule fabric output.rule) (pin_outputs fabric.registers pin))
-    (λ pin. All-cons (λ (output : Output). IsOutputRule fabric output.rule) (record { pin = pin; enable = false; rule = output_rule fabric.registers pin }) (enable_outputs pin)
-    (output_rule-good (IsOutputRule fabric) fabric.registers (λ bit. tt) (λ stated net. tt) (λ place there. there) pin)
-    (All-if (λ (output : Output). IsOutputRule fabric output.rule) (is_tri_state pin) (record { pin = pin; enable = true; rule = input true pin.enable } ∷ [])
-    (All-single (λ (output : Output). IsOutputRule fabric output.rule) (record { pin = pin; enable = true; rule = input true pin.enable }) tt))) (filter (λ pin. pin.output) fabric.pins))
-
--- so each input of a table is
-pub source-there : (fabric : Fabric) (ins : List LutSource) (k : ℕ) → All (IsSourceThere fabric) ins → IsSourceThere fabric (get_or ins k (Net None))
-source-there fabric [] k all = tt
-source-there fabric (source ∷ ins) zero all = All-head (IsSourceThere fabric) source ins all
-source-there fabric (source ∷ ins) (suc k) all = source-there fabric ins k (All-tail (IsSourceThere fabric) source ins all)
 
 -- what names have: those of pins and state their values, and those of some wires too
 pub record Gives (fabric : Fabric) (state : State) (pins v : List Bool) (wired : ℕ → Bool) (from : Readable) : Type 0 where
@@ -148,24 +100,28 @@ module _ (fabric : Fabric) (within : IsWithin fabric) (state : State) (pins v : 
 
     -- ---- tables
 
-    source-value : (source : LutSource) → IsSourceThere fabric source → ((n : ℕ) → source ≡ Net (Some n) → is_connected fabric n ≡ true → wired (class_of fabric.joins n) ≡ true)
-        → atom_value from (source_atom fabric source) ≡ source_value (is_connected fabric) pins (bit_in v) source
-    source-value (Net net) there wires = atom-value false net (λ n found. wires n (ap Net found))
-    source-value (SourcePin place) there wires = rw (gives.pin place there) refl
+    pub signal-value : (source : Signal) → IsSignalThere fabric source
+        → ((n : ℕ) → has (signal_nets source) n ≡ true → is_connected fabric n ≡ true → wired (class_of fabric.joins n) ≡ true)
+        → atom_value from (signal_atom fabric source) ≡ signal_value (is_connected fabric) state pins (bit_in v) source
+    signal-value (signal.Net net otherwise) there wires = atom-value otherwise net (λ n found. wires n (has-some net n found))
+    signal-value (signal.Input place) there wires = rw (gives.pin place there) refl
+    signal-value (signal.Register place) there wires =
+        let at = item-at fabric.registers place there.0 in
+        rw (at.1.named register_name, gives.register place at.0 at.1.numbered) refl
 
     table-value : (table : LutTable) (k : ℕ) → IsPlaceIn fabric (table_entry table) → ReadsWired (table_entry table)
-        → atom_value from (table_atom fabric table k) ≡ table_input (is_connected fabric) pins (bit_in v) table k
+        → atom_value from (table_atom fabric table k) ≡ table_input (is_connected fabric) state pins (bit_in v) table k
     unfolding nets_read
     table-value table k there wires =
-        source-value (get_or table.ins k (Net None)) (source-there fabric table.ins k there) (λ n found. wires n (has-source table.ins k n found))
+        signal-value (get_or table.ins k (net_or_0 None)) (signal-there fabric table.ins k there) (λ n found. wires n (has-source table.ins k n found))
 
     pub table-written : (table : LutTable) → IsPlaceIn fabric (table_entry table) → ReadsWired (table_entry table)
-        → right_value from (right_of fabric (table_entry table)) ≡ lut_value (is_connected fabric) pins (bit_in v) table
+        → right_value from (right_of fabric (table_entry table)) ≡ lut_value (is_connected fabric) state pins (bit_in v) table
     unfolding right_of lut_value
     table-written table there wires =
         rw (table-value table 0 there wires, table-value table 1 there wires, table-value table 2 there wires, table-value table 3 there wires)
-        (table-entry table.word (table_input (is_connected fabric) pins (bit_in v) table 0) (table_input (is_connected fabric) pins (bit_in v) table 1)
-        (table_input (is_connected fabric) pins (bit_in v) table 2) (table_input (is_connected fabric) pins (bit_in v) table 3))
+        (table-entry table.word (table_input (is_connected fabric) state pins (bit_in v) table 0) (table_input (is_connected fabric) state pins (bit_in v) table 1)
+        (table_input (is_connected fabric) state pins (bit_in v) table 2) (table_input (is_connected fabric) state pins (bit_in v) table 3))
 
     majority-written : (a b c : Option ℕ) → ReadsWired (majority_of a b c)
         → right_value from (right_of fabric (majority_of a b c)) ≡ value_of (is_connected fabric) state pins (bit_in v) (majority_of a b c)
@@ -253,8 +209,7 @@ module _ (fabric : Fabric) (within : IsWithin fabric) (state : State) (pins v : 
     unfolding right_of value_of nets_read
     right-written (pin_bit place) there wires = rw (gives.pin place there) refl
     right-written (constant bit) there wires = refl
-    right-written (input stated net) there wires =
-        right-alone from (input_atom fabric stated net) ∙ atom-value stated net (λ n found. wires n (has-some net n found))
+    right-written (input source) there wires = right-alone from (signal_atom fabric source) ∙ signal-value source there wires
     right-written (table_entry table) there wires = table-written table there wires
     right-written (majority_of a b c) there wires = majority-written a b c wires
     right-written (register_bit place register) there wires = register-written place register there wires

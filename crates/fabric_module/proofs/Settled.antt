@@ -21,19 +21,20 @@ use Rattle.fabric_model.specs.declared.register.Register.{Register}
 use Rattle.fabric_model.specs.Fabric.{Fabric, numbered, inputs_of}
 use Rattle.fabric_model.specs.Outputs.{Output, outputs_of}
 use Rattle.fabric_model.proofs.Apart.{apart-numbered}
-use Rattle.fabric_model.specs.Drivers.{Rule, Drive, drives_of, is_driven}
-use Rattle.fabric_model.specs.Drivers.Rule.{pin_bit, constant, input, table_entry, majority_of, register_bit, read_bit, copied}
-use Rattle.fabric_model.specs.Values.{State, settled_bit, value_of, bit_in, is_connected, IsConsistent}
+use Rattle.fabric_model.specs.declared.signal.Signal.{Signal}
+use Rattle.fabric_model.specs.Drivers.{Drive, drives_of, is_driven}
+use Rattle.fabric_model.specs.Values.{State, settled_bit, signal_value, bit_in, is_connected, IsConsistent}
 use Rattle.fabric_model.specs.Steps.{Entry, settled_bits, settled_state, output_values, IsEntry}
 use Rattle.graph_order.specs.Wiring.{has, IsWriteOrder}
 use Rattle.fabric_model.specs.Wiring.{wiring_of}
 use Rattle.graph_order.proofs.OneOrder.{has-none, has-first, has-cases, Continues, order-continues}
 use Rattle.graph_order.proofs.OneOrder.Continues.{whole, next}
 use Rattle.fabric_model.proofs.Facts.{has-left, has-right}
-use Rattle.fabric_model.proofs.Settling.{numbered-read, consistent-unsettled, settled-twice}
+use Rattle.fabric_model.proofs.Signals.{IsSignalThere, HasSignals}
+use Rattle.fabric_model.proofs.Settling.{outputs-have, consistent-unsettled}
 use Rattle.fabric_model.proofs.OneValue.{IsWithin, driven-is, count-is, driven-below}
 use Rattle.fabric_module.specs.Names.{port_name, output_name, register_name, read_name, memory_name, wire_name}
-use Rattle.fabric_module.specs.Rights.{output_atom, input_name, read_at, setting_wire, class_right}
+use Rattle.fabric_module.specs.Rights.{signal_atom, input_name, read_at, setting_wire, class_right}
 use Rattle.fabric_module.specs.Written.{class_wire, output_assign, items_by, register_items, items_of, module_of}
 use Rattle.fabric_module.specs.Matching.{HasValues, HasWires, Matches}
 use Rattle.fabric_module.proofs.Lists.{NamesDiffer, Apart, flat_map-numbered, entries-are, made-names, made-values, place-there, name-there, value_in-front, value_in-behind, value_in-at, names-absent, map-map}
@@ -41,7 +42,7 @@ use Rattle.fabric_module.proofs.Sections.{Skips, fold-section, wires-section, as
 use Rattle.fabric_module.proofs.Fills.{FillsOwn, filled}
 use Rattle.fabric_module.proofs.Apart.{port-no_register, port-no_wire, register-no_wire}
 use Rattle.fabric_module.proofs.Ports.{ports_of, port_label, inputs-apart, outputs-apart, outputs-start}
-use Rattle.fabric_module.proofs.Rights.{IsSourceThere, IsPlaceIn, IsOutputRule, outputs-ruled, Gives, atom-value, unless_set, unless-settles, class-written}
+use Rattle.fabric_module.proofs.Rights.{IsPlaceIn, Gives, signal-value, unless_set, unless-settles, class-written}
 
 -- ---- premises
 
@@ -50,7 +51,7 @@ use Rattle.fabric_module.proofs.Rights.{IsSourceThere, IsPlaceIn, IsOutputRule, 
 pub record IsWritable (fabric : Fabric) : Type 0 where
   pub few : fabric.nets ≤ 2 ^ 64
   pub places : (drive : Drive) → Contains (drives_of fabric) drive → IsPlaceIn fabric drive.rule
-  pub tables : All (λ register. All (IsSourceThere fabric) register.table.ins) fabric.registers
+  pub tables : All (HasSignals fabric) fabric.registers
   pub ports : Apart port_label (ports_of fabric)
   pub registers : Apart register_name fabric.registers
   pub reads : Apart read_name fabric.rams
@@ -195,7 +196,7 @@ module _ (fabric : Fabric) (from : Readable) where
 
 -- an assignment gives its output the value
 output-fills : (fabric : Fabric) (from : Readable)
-    → FillsOwn output_name (output_step from) (λ output. output_assign fabric output ∷ []) (λ output old. atom_value from (output_atom fabric output.rule))
+    → FillsOwn output_name (output_step from) (λ output. output_assign fabric output ∷ []) (λ output old. atom_value from (signal_atom fabric output.source))
 output-fills fabric from = record {
   own = λ output old rest. rw (bytes_eq-same (output_name output) (output_name output) refl) refl;
   past = λ output entry rest away. rw away refl;
@@ -349,47 +350,32 @@ module _ (fabric : Fabric) (within : IsWithin fabric) (writable : IsWritable fab
 
     -- ---- outputs
 
-    -- once the state has settled, the atom of an output has its value
-    output-value : settled_bits fabric (bit_in v) state.bits ≡ state.bits → (rule : Rule) → IsOutputRule fabric rule
-        → atom_value from_all (output_atom fabric rule) ≡ value_of (is_connected fabric) state pins (bit_in v) rule
-    unfolding value_of
-    output-value rested (input stated net) there =
-        atom-value fabric within state pins v is (is_driven fabric) from_all (gives-read (map (wire_of v) order) wires-hold)
-        stated net (λ n found connected. connected)
-    output-value rested (constant bit) there = refl
-    output-value rested (register_bit place register) there =
-        let gives = gives-read (map (wire_of v) order) wires-hold in
-        let settles : settled_bit (is_connected fabric) (bit_in v) register (get_or state.bits place false) ≡ get_or state.bits place false =
-        sym (numbered-read (λ (p : ℕ × Register). settled_bit (is_connected fabric) (bit_in v) p.1 (get_or state.bits p.0 false)) false fabric.registers (place, register) there)
-        ∙ ap (λ bits. get_or bits place false) rested in
-        (rw (gives.register place register there) refl) ∙ sym settles
-    output-value rested (pin_bit place) there = absurd there
-    output-value rested (table_entry table) there = absurd there
-    output-value rested (majority_of a b c) there = absurd there
-    output-value rested (read_bit ram bit) there = absurd there
-    output-value rested (copied net) there = absurd there
+    -- the atom of an output has its value
+    output-value : (source : Signal) → IsSignalThere fabric source
+        → atom_value from_all (signal_atom fabric source) ≡ signal_value (is_connected fabric) state pins (bit_in v) source
+    output-value source there =
+        signal-value fabric within state pins v is (is_driven fabric) from_all (gives-read (map (wire_of v) order) wires-hold) source there (λ n found connected. connected)
 
     outputs-are : fold (output_step from_all) (flat_map output_start (ports_of fabric)) (items_of fabric order)
-        ≡ map (λ output. (output_name output, atom_value from_all (output_atom fabric output.rule))) (outputs_of fabric)
+        ≡ map (λ output. (output_name output, atom_value from_all (signal_atom fabric output.source))) (outputs_of fabric)
     outputs-are =
         fold-section 6 (output_step from_all) (output-skips from_all) (flat_map output_start (ports_of fabric)) (items_of fabric order)
         ∙ (ap (fold (output_step from_all) (flat_map output_start (ports_of fabric)))
         (assigns-section fabric order ∙ sym (flat_map_single (output_assign fabric) (outputs_of fabric)))
         ∙ (ap (λ given. fold (output_step from_all) given (flat_map (λ output. output_assign fabric output ∷ []) (outputs_of fabric))) (outputs-start fabric)
-        ∙ filled output_name (output_step from_all) (λ output. output_assign fabric output ∷ []) (λ output old. atom_value from_all (output_atom fabric output.rule))
+        ∙ filled output_name (output_step from_all) (λ output. output_assign fabric output ∷ []) (λ output old. atom_value from_all (signal_atom fabric output.source))
         (output-fills fabric from_all) (λ output. false) (outputs_of fabric) (outputs-apart fabric writable.ports)))
 
-    outputs-hold : settled_bits fabric (bit_in v) state.bits ≡ state.bits
-        → HasValues (map (λ output. (output_name output, atom_value from_all (output_atom fabric output.rule))) (outputs_of fabric))
+    outputs-hold : HasValues (map (λ output. (output_name output, atom_value from_all (signal_atom fabric output.source))) (outputs_of fabric))
         (map output_name (outputs_of fabric)) (output_values fabric state pins v)
     unfolding output_values
-    outputs-hold rested = record {
-      named = map-map (λ output. (output_name output, atom_value from_all (output_atom fabric output.rule))) (λ entry. entry.0) (outputs_of fabric);
-      valued = map-map (λ output. (output_name output, atom_value from_all (output_atom fabric output.rule))) (λ entry. entry.1) (outputs_of fabric)
-          ∙ map-same (λ output. atom_value from_all (output_atom fabric output.rule)) (λ output. value_of (is_connected fabric) state pins (bit_in v) output.rule) (outputs_of fabric)
-          (All-weaker (λ (output : Output). IsOutputRule fabric output.rule)
-          (λ (output : Output). atom_value from_all (output_atom fabric output.rule) ≡ value_of (is_connected fabric) state pins (bit_in v) output.rule)
-          (λ output there. output-value rested output.rule there) (outputs_of fabric) (outputs-ruled fabric));
+    outputs-hold = record {
+      named = map-map (λ output. (output_name output, atom_value from_all (signal_atom fabric output.source))) (λ entry. entry.0) (outputs_of fabric);
+      valued = map-map (λ output. (output_name output, atom_value from_all (signal_atom fabric output.source))) (λ entry. entry.1) (outputs_of fabric)
+          ∙ map-same (λ output. atom_value from_all (signal_atom fabric output.source)) (λ output. signal_value (is_connected fabric) state pins (bit_in v) output.source) (outputs_of fabric)
+          (All-weaker (λ (output : Output). IsSignalThere fabric output.source)
+          (λ (output : Output). atom_value from_all (signal_atom fabric output.source) ≡ signal_value (is_connected fabric) state pins (bit_in v) output.source)
+          (λ output there. output-value output.source there) (outputs_of fabric) (outputs-have fabric within.closed));
     }
 
 -- ---- the whole entry
@@ -398,7 +384,7 @@ module _ (fabric : Fabric) (within : IsWithin fabric) (writable : IsWritable fab
     (entry : Entry) (is : IsEntry fabric entry) (next : State) (settles : entry.state ≡ settled_state fabric (bit_in entry.v) next)
     (inputs registers : List (List ℕ × Bool)) (words : List (List ℕ × ℕ)) (holding : Holding fabric next entry.pins inputs registers words) where
   before : IsConsistent fabric next entry.pins entry.v
-  before = consistent-unsettled fabric next entry.pins entry.v (subst (λ state. IsConsistent fabric state entry.pins entry.v) settles is.consistent)
+  before = consistent-unsettled fabric within.closed next entry.pins entry.v (subst (λ state. IsConsistent fabric state entry.pins entry.v) settles is.consistent)
 
   -- the registers and the outputs that settle with some wires
   abbrev rests_with : List (List ℕ × Bool) → List (List ℕ × Bool)
@@ -426,13 +412,6 @@ module _ (fabric : Fabric) (within : IsWithin fabric) (writable : IsWritable fab
   after : Holding fabric entry.state entry.pins inputs (rests_with (map (wire_of entry.v) order)) words
   after = record { input = holding.input; register = registers-match; word = words-match }
 
-  -- the state has settled
-  rested : settled_bits fabric (bit_in entry.v) entry.state.bits ≡ entry.state.bits
-  unfolding settled_state
-  rested =
-      ap (λ (state : State). state.bits)
-      (ap (settled_state fabric (bit_in entry.v)) settles ∙ (settled-twice fabric (bit_in entry.v) next ∙ sym settles))
-
   outputs-match : HasValues (outputs_with (map (wire_of entry.v) order)) (map output_name (outputs_of fabric)) entry.outputs
   outputs-match =
       subst (λ list. HasValues list (map output_name (outputs_of fabric)) entry.outputs)
@@ -441,10 +420,10 @@ module _ (fabric : Fabric) (within : IsWithin fabric) (writable : IsWritable fab
         output_name output,
         atom_value
             (from_all fabric within writable entry.state entry.pins entry.v is.consistent inputs (rests_with (map (wire_of entry.v) order)) words after order ordered)
-            (output_atom fabric output.rule),
+            (signal_atom fabric output.source),
       )) (outputs_of fabric)) (map output_name (outputs_of fabric)) values)
       (sym is.outputs)
-      (outputs-hold fabric within writable entry.state entry.pins entry.v is.consistent inputs (rests_with (map (wire_of entry.v) order)) words after order ordered rested))
+      (outputs-hold fabric within writable entry.state entry.pins entry.v is.consistent inputs (rests_with (map (wire_of entry.v) order)) words after order ordered))
 
   -- a module whose inputs, registers and memories hold pins and a state settles to the values of the fabric's entry
   pub settled-matches : (memories : List (List ℕ × List ℕ)) → HasValues memories (map memory_name fabric.rams) (map (map word_of) next.words)

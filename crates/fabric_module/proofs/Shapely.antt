@@ -18,6 +18,7 @@ use Rattle.fabric_model.specs.declared.cell.LogicCell.{LogicCell}
 use Rattle.fabric_model.specs.declared.lut_inputs.LutInputs.{LutInputs}
 use Rattle.fabric_model.specs.declared.register.LutTable.{LutTable}
 use Rattle.fabric_model.specs.declared.register.Register.{Register}
+use Rattle.fabric_model.specs.declared.signal.Signal.{Signal}
 use Rattle.fabric_model.specs.Registers.{table_of, register_of, registers_of, pin_register, pin_registers_of}
 use Rattle.fabric_model.specs.declared.driver.ClockUser.TheVariants.{Input, Output}
 use Rattle.fabric_model.specs.declared.ram.RamCell.{RamCell}
@@ -29,16 +30,15 @@ use Rattle.fabric_model.specs.Cells.{cell_bit, entry_bits, cell_bits, cell_with,
 use Rattle.fabric_model.specs.Rams.{first_data_bit, is_ram_used, ram_at, rams_of, start_word, start_words}
 use Rattle.fabric_model.specs.Pins.{pins_of, is_registered}
 use Rattle.fabric_model.specs.Fabric.{Fabric, numbered, inputs_of, fabric_with}
-use Rattle.fabric_model.specs.Drivers.{Rule, Drive, drives_if, pin_drives, output_rule, back_drives, lut_drives, drives_by, flip_driver, flip_drives, lout_drives, carry_drives, set_drives, read_data_rule, ram_drive, ram_drives, global_rule, global_drives, buffer_drives, pin_register_driver, pin_register_drives, drives_of, is_driver_of, drivers_of}
+use Rattle.fabric_model.specs.Drivers.{Rule, Drive, drives_if, pin_drives, output_signal, back_drives, lut_drives, drives_by, flip_driver, flip_drives, lout_drives, carry_drives, set_drives, read_data_rule, ram_drive, ram_drives, global_rule, global_drives, buffer_drives, pin_register_driver, pin_register_drives, drives_of, is_driver_of, drivers_of}
 use Rattle.fabric_model.specs.Drivers.Rule.{pin_bit, constant, input, table_entry, majority_of, register_bit, read_bit, copied}
 use Rattle.fabric_model.proofs.Within.{All-flat_map, All-item_if, All-if, All-unless, All-single, All-over_tiles}
 use Rattle.fabric_model.proofs.Apart.{All-every}
 use Rattle.fabric_module.specs.Names.{user_number, register_name, read_name, memory_name}
-use Rattle.fabric_module.specs.Rights.{input_atom, atom_or_0, setting_wire, register_right, right_alone, right_of, right_by, class_right}
+use Rattle.fabric_module.specs.Rights.{atom_or_0, signal_atom, setting_wire, register_right, right_alone, right_of, right_by, class_right}
 use Rattle.fabric_module.specs.Written.{pin_ports}
 use Rattle.fabric_module.proofs.Apart.{IsSmall}
 use Rattle.fabric_module.proofs.Ports.{port_label}
-use Rattle.fabric_module.proofs.Rights.{output_rule-good}
 use Rattle.fabric_module.proofs.Configured.{PinSmall, CellSmall, RamSmall, each-port, pins-small, cell-at, ram-placed}
 use Rattle.fabric_module.proofs.Named.{port-named, enable-named, register-named, read-named, memory-named}
 use Rattle.fabric_module.proofs.Declared.{AreNamed}
@@ -69,9 +69,9 @@ module _ (fabric : Fabric) (tables : All (λ lc. lc.lut < 65536) fabric.lcs) whe
   unfolding right_of
   constant-right bit = tt
 
-  input-right : (stated : Bool) (net : Option ℕ) → IsRight (right_of fabric (input stated net))
+  input-right : (source : Signal) → IsRight (right_of fabric (input source))
   unfolding right_of
-  input-right stated net = alone-right (input_atom fabric stated net)
+  input-right source = alone-right (signal_atom fabric source)
 
   table-right : (table : LutTable) → table.word < 65536 → IsRight (right_of fabric (table_entry table))
   unfolding right_of
@@ -127,8 +127,7 @@ module _ (fabric : Fabric) (tables : All (λ lc. lc.lut < 65536) fabric.lcs) whe
   unfolding drives_of
   all-right =
       then-right _ _ (any-right pin_drives (λ place. All-unless IsDriveRight (is_registered place.1) _ (if-right _ (pin_bit place.0) place.1.din (pin-right place.0))) (numbered (inputs_of fabric)))
-      (then-right _ _ (any-right (back_drives fabric.registers) (λ pin. if-right _ (output_rule fabric.registers pin) pin.din
-      (output_rule-good (λ rule. IsRight (right_of fabric rule)) fabric.registers constant-right input-right (λ place there. register-right place.0 place.1) pin)) (filter (λ pin. pin.back) fabric.pins))
+      (then-right _ _ (any-right (back_drives fabric) (λ pin. if-right _ (input (output_signal fabric pin)) pin.din (input-right (output_signal fabric pin))) (filter (λ pin. pin.back) fabric.pins))
       (then-right _ _ (cells-right (lut_drives fabric.lut_inputs) (λ lc small. if-right _ (table_entry (table_of fabric.lut_inputs lc)) lc.out (table-right (table_of fabric.lut_inputs lc) small)) (filter (λ lc. not lc.flip) fabric.lcs) (All-filter (λ lc. not lc.flip) (λ lc. lc.lut < 65536) fabric.lcs tables))
       (then-right _ _ (any-right flip_drives (λ place. by-drives place (flip_driver place.1 place.1.user)) (numbered fabric.registers))
       (then-right _ _ (cells-right (lout_drives fabric.lut_inputs) (λ lc small. if-right _ (table_entry (table_of fabric.lut_inputs lc)) lc.lout (table-right (table_of fabric.lut_inputs lc) small)) fabric.lcs tables)

@@ -10,6 +10,7 @@ use Rattle.narrow_words.specs.Narrow.{share}
 use Rattle.fabric_model.specs.Rams.{data_bit}
 use Rattle.fabric_model.proofs.OneValue.{each_below-length}
 use Rattle.fabric_model.proofs.Within.{All-single}
+use Rattle.fabric_model.proofs.Signals.{HasSignals}
 use Rattle.vlog_module.specs.declared.sort.Sort.{Sort}
 use Rattle.vlog_module.specs.declared.sort.Sort.TheVariants as sort
 use Rattle.vlog_module.specs.declared.atoms.Atom.{Atom}
@@ -22,15 +23,13 @@ use Rattle.fabric_model.specs.declared.register.Register.{Register}
 use Rattle.fabric_model.specs.declared.ram.RamCell.{RamCell}
 use Rattle.fabric_model.specs.Fabric.{Fabric}
 use Rattle.fabric_model.specs.Drivers.{is_driven}
-use Rattle.fabric_model.specs.Drivers.Rule.{table_entry}
 use Rattle.fabric_module.specs.Names.{register_name, read_name, memory_name}
-use Rattle.fabric_module.specs.Rights.{input_atom, atom_or_0, atom_or_1, port_atoms, lut_of, pattern_of, shift_atom, shift_atoms, data_atoms}
+use Rattle.fabric_module.specs.Rights.{input_atom, atom_or_0, atom_or_1, signal_atom, port_atoms, lut_of, pattern_of, shift_atom, shift_atoms, data_atoms}
 use Rattle.fabric_module.specs.Written.{is_falling, flip_item, at_once_item, items_by, read_item, write_item}
 use Rattle.fabric_module.proofs.Narrow.{pattern-small}
 use Rattle.fabric_module.proofs.Sections.{read-section, write-section}
 use Rattle.fabric_module.proofs.Beginning.{IsPorted}
-use Rattle.fabric_module.proofs.Rights.{IsPlaceIn}
-use Rattle.fabric_module.proofs.Used.{IsFine, fine-allowed, IsThere, Knows, knows-allows, atom-fine, atoms-fine, ports-fine, table-fine}
+use Rattle.fabric_module.proofs.Used.{IsFine, fine-allowed, IsThere, Knows, knows-allows, atom-fine, signal-fine, atoms-fine, ports-fine, table-fine}
 use Rattle.fabric_module.proofs.Assigned.{AssignsOne, unassigned}
 use Rattle.fabric_module.proofs.Wired.{atom-none, atoms-none}
 
@@ -89,11 +88,15 @@ module _ (fabric : Fabric) (scope : Scope) (knows : Knows fabric scope (is_drive
   list-fine : (ports : List (Option ℕ)) → All (IsFine scope) (atoms_uses (port_atoms fabric ports))
   list-fine ports = ports-fine fabric (is_driven fabric) (IsFine scope) (knows-allows fabric scope (is_driven fabric) knows) ports (λ net n found connected. connected)
 
-  module _ (register : Register) (few : register.table.word < 65536) (sources : IsPlaceIn fabric (table_entry register.table))
+  module _ (register : Register) (few : register.table.word < 65536) (sources : HasSignals fabric register)
       (there : IsThere scope (register_name register) sort.Register) (low : scope.section ≤ 7) (away : All (λ n. bytes_eq n (register_name register) ≡ false) scope.assigned) where
     of_table : All (IsFine scope) (lut_uses (lut_of fabric register.table))
     of_table =
-        table-fine fabric (is_driven fabric) (IsFine scope) (knows-allows fabric scope (is_driven fabric) knows) register.table sources (λ n reads connected. connected)
+        table-fine fabric (is_driven fabric) (IsFine scope) (knows-allows fabric scope (is_driven fabric) knows) register.table sources.ins (λ n reads connected. connected)
+
+    enable-fine : All (IsFine scope) (atom_uses (signal_atom fabric register.enable))
+    enable-fine =
+        signal-fine fabric (is_driven fabric) (IsFine scope) (knows-allows fabric scope (is_driven fabric) knows) register.enable sources.enable (λ n reads connected. connected)
 
     assigns-fine : IsFine scope (Assigns sort.Register (register_name register))
     assigns-fine = record { named = there.named; in_range = tt; known = rw (there.declared) refl; first = unassigned scope.assigned (register_name register) away }
@@ -110,24 +113,24 @@ module _ (fabric : Fabric) (scope : Scope) (knows : Knows fabric scope (is_drive
 
     flip-allowed : (clock : List ℕ) → IsThere scope clock sort.Input → IsAllowed scope (flip_item fabric register clock)
     flip-allowed clock of_clock =
-        let enable = atom_uses (atom_or_1 fabric register.cen) in
+        let enable = atom_uses (signal_atom fabric register.enable) in
         let reset = atom_uses (atom_or_0 fabric register.sr) in
         fine-allowed scope (flip_item fabric register clock) (few, refl) low
         (All-cons (IsFine scope) (Takes sort.Input clock) ((enable ++ reset) ++ (Assigns sort.Register (register_name register) ∷ lut_uses (lut_of fabric register.table))) (takes-fine clock of_clock)
         (All-append (IsFine scope) (enable ++ reset) (Assigns sort.Register (register_name register) ∷ lut_uses (lut_of fabric register.table))
-        (All-append (IsFine scope) enable reset (input-fine true register.cen) (input-fine false register.sr))
+        (All-append (IsFine scope) enable reset (enable-fine) (input-fine false register.sr))
         (All-cons (IsFine scope) (Assigns sort.Register (register_name register)) (lut_uses (lut_of fabric register.table)) assigns-fine of_table)))
 
     is_async-allowed : (wire clock : List ℕ) → IsWay scope register (acts wire clock) → IsAllowed scope (at_once_item fabric register wire clock)
     is_async-allowed wire clock is =
-        let enable = atom_uses (atom_or_1 fabric register.cen) in
+        let enable = atom_uses (signal_atom fabric register.enable) in
         let assigns = AssignsAsync wire register.«set» (register_name register) in
         let rest = enable ++ lut_uses (lut_of fabric register.table) in
         fine-allowed scope (at_once_item fabric register wire clock) (few, refl) low
         (All-cons (IsFine scope) (Takes sort.Input clock) (Takes sort.Wire wire ∷ assigns ∷ rest) (takes-fine clock is.0)
         (All-cons (IsFine scope) (Takes sort.Wire wire) (assigns ∷ rest) (takes-wire wire is.1)
         (All-cons (IsFine scope) assigns rest (is_async-fine wire is.2)
-        (All-append (IsFine scope) enable (lut_uses (lut_of fabric register.table)) (input-fine true register.cen) of_table))))
+        (All-append (IsFine scope) enable (lut_uses (lut_of fabric register.table)) (enable-fine) of_table))))
 
     set-allowed : (wire : List ℕ) → IsWay scope register (sets wire) → IsAllowed scope (AsyncReset wire register.«set» (register_name register))
     set-allowed wire is =
@@ -271,16 +274,16 @@ module _ {A : Type 0} (each : Use → List A) where
 module _ (fabric : Fabric) where
   module _ {A : Type 0} (each : Use → List A) (of_whole : (name : List ℕ) → each (Reads name) ≡ []) (of_bit : (name : List ℕ) (k : ℕ) → each (ReadsBit name k) ≡ []) where
     -- an enable and a table
-    behind-none : (register : Register) → flat_map each (atom_uses (atom_or_1 fabric register.cen) ++ lut_uses (lut_of fabric register.table)) ≡ []
+    behind-none : (register : Register) → flat_map each (atom_uses (signal_atom fabric register.enable) ++ lut_uses (lut_of fabric register.table)) ≡ []
     behind-none register =
-        joined-then each (atom_uses (atom_or_1 fabric register.cen)) (lut_uses (lut_of fabric register.table)) (atom-none each of_whole of_bit (atom_or_1 fabric register.cen))
+        joined-then each (atom_uses (signal_atom fabric register.enable)) (lut_uses (lut_of fabric register.table)) (atom-none each of_whole of_bit (signal_atom fabric register.enable))
         ∙ atoms-none each of_whole of_bit (lut_of fabric register.table).ins
 
     waits-then : (register : Register)
-        → flat_map each ((atom_uses (atom_or_1 fabric register.cen) ++ atom_uses (atom_or_0 fabric register.sr)) ++ (Assigns sort.Register (register_name register) ∷ lut_uses (lut_of fabric register.table)))
+        → flat_map each ((atom_uses (signal_atom fabric register.enable) ++ atom_uses (atom_or_0 fabric register.sr)) ++ (Assigns sort.Register (register_name register) ∷ lut_uses (lut_of fabric register.table)))
         ≡ each (Assigns sort.Register (register_name register))
     waits-then register =
-        assigned-then each of_whole of_bit (atom_or_1 fabric register.cen) (atom_or_0 fabric register.sr) (Assigns sort.Register (register_name register)) (lut_of fabric register.table).ins
+        assigned-then each of_whole of_bit (signal_atom fabric register.enable) (atom_or_0 fabric register.sr) (Assigns sort.Register (register_name register)) (lut_of fabric register.table).ins
 
   register-section : (register : Register) (way : Way) → section_of (item_in fabric register way) ≡ 7
   register-section register (waits clock) = refl

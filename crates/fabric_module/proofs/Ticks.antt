@@ -109,7 +109,7 @@ pin-place fabric writable place there =
 rule-pin : (connected : ℕ → Bool) (rule : Rule) (place : ℕ) (turned : Bool) → turn_by connected rule ≡ ends (at_pin place turned) → rule ≡ pin_bit place
 rule-pin connected (pin_bit from) place turned is = cc
 rule-pin connected (constant bit) place turned is = absurd cc
-rule-pin connected (input stated source) place turned is = absurd cc
+rule-pin connected (input source) place turned is = absurd cc
 rule-pin connected (table_entry table) place turned is = absurd (pass-no_pin place turned (pass_of connected table) is)
 rule-pin connected (majority_of a b c) place turned is = absurd cc
 rule-pin connected (register_bit from register) place turned is = absurd cc

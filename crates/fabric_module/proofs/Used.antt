@@ -13,22 +13,24 @@ use Rattle.vlog_module.specs.Names.{IsName}
 use Rattle.vlog_module.specs.Uses.{Use, used_name, atom_uses, atoms_uses, lut_uses, right_uses, uses_of}
 use Rattle.vlog_module.specs.Uses.Use.{Reads, ReadsBit, Takes, Chooses}
 use Rattle.vlog_module.specs.WellFormed.{section_of, Scope, is_known, is_first, IsInRange, IsShaped, IsAllowed}
-use Rattle.fabric_model.specs.declared.register.LutSource.{LutSource}
-use Rattle.fabric_model.specs.declared.register.LutSource.TheVariants.{Net, Pin as SourcePin}
+use Rattle.fabric_model.specs.declared.signal.Signal.{Signal}
+use Rattle.fabric_model.specs.declared.signal.Signal.TheVariants as signal
 use Rattle.fabric_model.specs.declared.register.LutTable.{LutTable}
 use Rattle.fabric_model.specs.declared.register.Register.{Register}
 use Rattle.fabric_model.specs.Joins.{class_of}
 use Rattle.fabric_model.specs.Fabric.{Fabric, inputs_of}
+use Rattle.fabric_model.specs.Signals.{net_or_0, signal_nets}
 use Rattle.fabric_model.specs.Drivers.{Rule, nets_read}
 use Rattle.fabric_model.specs.Drivers.Rule.{pin_bit, constant, input, table_entry, majority_of, register_bit, read_bit, copied}
 use Rattle.fabric_model.specs.Values.{is_connected}
 use Rattle.graph_order.specs.Wiring.{has}
 use Rattle.fabric_model.proofs.Within.{All-single}
+use Rattle.fabric_model.proofs.Signals.{IsSignalThere, signal-there, item-at}
 use Rattle.fabric_model.proofs.Facts.{has-left, has-right, has-some, has-source}
 use Rattle.fabric_module.specs.Names.{register_name, wire_name}
-use Rattle.fabric_module.specs.Rights.{input_atom, atom_or_0, port_atoms, input_name, read_at, source_atom, table_atom, lut_of, driven_wire, setting_wire, register_right, right_alone, right_of}
+use Rattle.fabric_module.specs.Rights.{input_atom, atom_or_0, port_atoms, input_name, read_at, register_at, signal_atom, table_atom, lut_of, driven_wire, setting_wire, register_right, right_alone, right_of}
 use Rattle.fabric_module.proofs.Lists.{value_in-front, item-there}
-use Rattle.fabric_module.proofs.Rights.{IsSourceThere, IsPlaceIn, source-there}
+use Rattle.fabric_module.proofs.Rights.{IsPlaceIn}
 
 -- a use that is allowed
 pub record IsFine (scope : Scope) (used : Use) : Type 0 where
@@ -135,15 +137,21 @@ module _ (fabric : Fabric) (wired : ℕ → Bool) where
     alone-uses (Whole name) = refl
     alone-uses (Part name k) = refl
 
-    source-fine : (source : LutSource) → IsSourceThere fabric source → ((n : ℕ) → source ≡ Net (Some n) → is_connected fabric n ≡ true → wired (class_of fabric.joins n) ≡ true)
-        → All P (atom_uses (source_atom fabric source))
-    source-fine (Net net) there wires = atom-fine false net (λ n found. wires n (ap Net found))
-    source-fine (SourcePin place) there wires = All-single P (Reads (input_name fabric place)) (allows.input place there)
+    -- what an input reads
+    pub signal-fine : (source : Signal) → IsSignalThere fabric source
+        → ((n : ℕ) → has (signal_nets source) n ≡ true → is_connected fabric n ≡ true → wired (class_of fabric.joins n) ≡ true) → All P (atom_uses (signal_atom fabric source))
+    signal-fine (signal.Net net otherwise) there wires = atom-fine otherwise net (λ n found. wires n (has-some net n found))
+    signal-fine (signal.Input place) there wires = All-single P (Reads (input_name fabric place)) (allows.input place there)
+    signal-fine (signal.Register place) there wires =
+        let at = item-at fabric.registers place there.0 in
+        let steady : at.0.is_async ≡ false = sym (at.1.tested (λ register. register.is_async)) ∙ there.1 in
+        let unset : setting_wire fabric at.0 ≡ None = rw steady refl in
+        All-single P (Reads (register_at fabric place)) (subst (λ name. P (Reads name)) (sym (at.1.named register_name)) (allows.register at.0 at.1.there unset))
 
     table_atom-fine : (table : LutTable) (k : ℕ) → IsPlaceIn fabric (table_entry table) → ReadsWired (table_entry table) → All P (atom_uses (table_atom fabric table k))
     unfolding nets_read
     table_atom-fine table k there wires =
-        source-fine (get_or table.ins k (Net None)) (source-there fabric table.ins k there) (λ n found. wires n (has-source table.ins k n found))
+        signal-fine (get_or table.ins k (net_or_0 None)) (signal-there fabric table.ins k there) (λ n found. wires n (has-source table.ins k n found))
 
     -- a table
     pub table-fine : (table : LutTable) → IsPlaceIn fabric (table_entry table) → ReadsWired (table_entry table) → All P (lut_uses (lut_of fabric table))
@@ -181,8 +189,7 @@ module _ (fabric : Fabric) (wired : ℕ → Bool) where
     unfolding right_of nets_read
     right-fine (pin_bit place) there wires = All-single P (Reads (input_name fabric place)) (allows.input place there)
     right-fine (constant bit) there wires = All-nil P
-    right-fine (input stated net) there wires =
-        subst (All P) (sym (alone-uses (input_atom fabric stated net))) (atom-fine stated net (λ n found. wires n (has-some net n found)))
+    right-fine (input source) there wires = subst (All P) (sym (alone-uses (signal_atom fabric source))) (signal-fine source there wires)
     right-fine (table_entry table) there wires = table-fine table there wires
     right-fine (majority_of a b c) there wires = majority-fine a b c wires
     right-fine (register_bit place register) there wires =

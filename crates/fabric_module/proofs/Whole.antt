@@ -109,7 +109,7 @@ module _ (fabric : Fabric) (within : IsWithin fabric) (writable : IsWritable fab
   ends-grow : (scope : Scope) → Standing fabric 5 [] scope → Grows scope ends
   unfolding ends
   ends-grow scope standing =
-      let outputs = outputs-grow fabric writable scope standing in
+      let outputs = outputs-grow fabric within.closed writable scope standing in
       Grows-append scope (map (output_assign fabric) (outputs_of fabric)) _ outputs.0 (clocked-end (fold grown scope (map (output_assign fabric) (outputs_of fabric))) outputs.1)
 
   state : List Item

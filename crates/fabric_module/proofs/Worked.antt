@@ -13,8 +13,9 @@ use Rattle.fabric_model.specs.declared.ram.RamCell.{RamCell}
 use Rattle.fabric_model.specs.declared.pin.Pin.{Pin}
 use Rattle.fabric_model.specs.declared.pin.PinKind.TheVariants.{Plain, Registered, TriState}
 use Rattle.fabric_model.specs.declared.driver.ClockUser.TheVariants.{Input as InputUser, Output as OutputUser}
-use Rattle.fabric_model.specs.declared.register.LutSource.{LutSource}
-use Rattle.fabric_model.specs.declared.register.LutSource.TheVariants.{Net, Pin as SourcePin}
+use Rattle.fabric_model.specs.declared.signal.Signal.{Signal}
+use Rattle.fabric_model.specs.declared.signal.Signal.TheVariants as signal
+use Rattle.fabric_model.specs.Signals.{net_or_0, net_or_1}
 use Rattle.fabric_model.specs.declared.register.LutTable.{LutTable}
 use Rattle.fabric_model.specs.declared.register.Register.{Register}
 use Rattle.fabric_model.specs.Outputs.{outputs_of}
@@ -221,8 +222,8 @@ narrow_read = refl
 
 -- ---- a registered output pin, a registered input pin and an output that can be switched off
 
-abbrev pin_table : LutSource → LutTable
-pin_table source = record { word = 43690; ins = source ∷ Net None ∷ Net None ∷ Net None ∷ [] }
+abbrev pin_table : Signal → LutTable
+pin_table source = record { word = 43690; ins = source ∷ net_or_0 None ∷ net_or_0 None ∷ net_or_0 None ∷ [] }
 
 abbrev output_register : Register
 output_register = record {
@@ -232,11 +233,11 @@ output_register = record {
   out = None;
   clk = Some 1;
   neg = false;
-  cen = None;
+  enable = net_or_1 None;
   sr = None;
   «set» = false;
   is_async = false;
-  table = pin_table (Net (Some 3));
+  table = pin_table (net_or_0 (Some 3));
 }
 
 abbrev registering : Fabric
@@ -245,7 +246,7 @@ registering = record inverting {
   pins =
       input_pin ∷ record output_pin { kind = Registered } ∷ record input_pin { y = 3; kind = Registered; din = Some 4 }
       ∷ record output_pin { y = 4; kind = TriState; enable = Some 2 } ∷ [];
-  registers = output_register ∷ record output_register { y = 3; user = InputUser 0; out = Some 4; neg = true; table = pin_table (SourcePin 1) } ∷ [];
+  registers = output_register ∷ record output_register { y = 3; user = InputUser 0; out = Some 4; neg = true; table = pin_table (signal.Input 1) } ∷ [];
 }
 
 registering_module : module_of registering (0 ∷ 1 ∷ 2 ∷ 3 ∷ 4 ∷ []) (codes "top") ≡ record {

@@ -6,10 +6,11 @@ use Rattle.vlog_module.specs.declared.atoms.Atom.TheVariants.{Bit, Whole, Part}
 use Rattle.vlog_module.specs.declared.item.Lut.{Lut}
 use Rattle.vlog_module.specs.declared.item.Right.{Right}
 use Rattle.vlog_module.specs.declared.item.Right.TheVariants.{Bit as RightBit, Whole as RightWhole, Part as RightPart, Lut as RightLut, Majority, Choose}
-use Rattle.fabric_model.specs.declared.register.LutSource.{LutSource}
-use Rattle.fabric_model.specs.declared.register.LutSource.TheVariants.{Net, Pin as SourcePin}
+use Rattle.fabric_model.specs.declared.signal.Signal.{Signal}
+use Rattle.fabric_model.specs.declared.signal.Signal.TheVariants as signal
 use Rattle.fabric_model.specs.declared.register.LutTable.{LutTable}
 use Rattle.fabric_model.specs.declared.register.Register.{Register}
+use Rattle.fabric_model.specs.Signals.{net_or_0}
 use Rattle.fabric_model.specs.Tiles.{each_below}
 use Rattle.fabric_model.specs.Rams.{data_bit}
 use Rattle.fabric_model.specs.Joins.{class_of}
@@ -48,16 +49,23 @@ input_name fabric place = get_or (map port_name (inputs_of fabric)) place []
 abbrev pub read_at : Fabric → ℕ → List ℕ
 read_at fabric place = get_or (map read_name fabric.rams) place []
 
--- ---- tables
+-- the register with an index
+abbrev pub register_at : Fabric → ℕ → List ℕ
+register_at fabric place = get_or (map register_name fabric.registers) place []
 
--- what an input of a table reads: a net, or an input pin
-abbrev pub source_atom : Fabric → LutSource → Atom
-source_atom fabric (Net net) = atom_or_0 fabric net
-source_atom fabric (SourcePin place) = Whole (input_name fabric place)
+-- ---- what inputs read
+
+-- a net, the port of an input pin, or a register
+abbrev pub signal_atom : Fabric → Signal → Atom
+signal_atom fabric (signal.Net net otherwise) = input_atom fabric otherwise net
+signal_atom fabric (signal.Input place) = Whole (input_name fabric place)
+signal_atom fabric (signal.Register place) = Whole (register_at fabric place)
+
+-- ---- tables
 
 -- input k of a table
 abbrev pub table_atom : Fabric → LutTable → ℕ → Atom
-table_atom fabric table k = source_atom fabric (get_or table.ins k (Net None))
+table_atom fabric table k = signal_atom fabric (get_or table.ins k (net_or_0 None))
 
 -- a table with its four inputs, in_0 first
 abbrev pub lut_of : Fabric → LutTable → Lut
@@ -100,15 +108,6 @@ shift_atoms fabric mode ports = shift_atom fabric mode ports 0 ∷ shift_atom fa
 abbrev pub data_atoms : Fabric → ℕ → List (Option ℕ) → List Atom
 data_atoms fabric mode ports = each_below 16 (λ j. atom_or_0 fabric (get_or ports (data_bit mode (j / share mode)) None))
 
--- ---- atoms of outputs
-
--- the atom that has the value of an output; outputs have no other rules
-abbrev pub output_atom : Fabric → Rule → Atom
-output_atom fabric (input stated net) = input_atom fabric stated net
-output_atom fabric (register_bit place register) = Whole (register_name register)
-output_atom fabric (constant bit) = Bit bit
-output_atom fabric _ = Bit false
-
 -- ---- right-hand sides
 
 -- an atom as a right-hand side
@@ -121,7 +120,7 @@ right_alone (Part name k) = RightPart name k
 unfoldable pub right_of : Fabric → Rule → Right
 right_of fabric (pin_bit place) = RightWhole (input_name fabric place)
 right_of fabric (constant bit) = RightBit bit
-right_of fabric (input stated net) = right_alone (input_atom fabric stated net)
+right_of fabric (input source) = right_alone (signal_atom fabric source)
 right_of fabric (table_entry table) = RightLut (lut_of fabric table)
 right_of fabric (majority_of a b c) = Majority (atom_or_0 fabric a) (atom_or_0 fabric b) (atom_or_0 fabric c)
 right_of fabric (register_bit place register) = register_right register (setting_wire fabric register)

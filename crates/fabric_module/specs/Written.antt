@@ -16,7 +16,7 @@ use Rattle.fabric_model.specs.ClockLuts.{turned_bit}
 use Rattle.fabric_model.specs.Clocks.{ClockEnd, is_turned, clock_end}
 use Rattle.fabric_model.specs.Clocks.ClockEnd.{at_pin, still, logic}
 use Rattle.fabric_module.specs.Names.{port_name, enable_name, output_name, register_name, read_name, memory_name, wire_name}
-use Rattle.fabric_module.specs.Rights.{atom_or_0, atom_or_1, port_atoms, lut_of, input_name, setting_wire, pattern_of, shift_atoms, data_atoms, output_atom, class_right}
+use Rattle.fabric_module.specs.Rights.{atom_or_0, atom_or_1, port_atoms, lut_of, input_name, setting_wire, pattern_of, shift_atoms, data_atoms, signal_atom, class_right}
 
 -- ---- clocks
 
@@ -72,18 +72,18 @@ class_wire fabric class = Wire (wire_name class) (class_right fabric class)
 
 -- the assignment of an output
 abbrev pub output_assign : Fabric → Output → Item
-output_assign fabric output = Assign (output_name output) (output_atom fabric output.rule)
+output_assign fabric output = Assign (output_name output) (signal_atom fabric output.source)
 
 -- a register with a synchronous set or reset: its clock enable, its set or reset, and its LUT
 abbrev pub flip_item : Fabric → Register → List ℕ → Item
 flip_item fabric register clock =
-    FlipFlop (is_falling fabric register.neg register.clk) clock (atom_or_1 fabric register.cen) (atom_or_0 fabric register.sr) register.«set» (register_name register)
+    FlipFlop (is_falling fabric register.neg register.clk) clock (signal_atom fabric register.enable) (atom_or_0 fabric register.sr) register.«set» (register_name register)
     (lut_of fabric register.table)
 
 -- a register with an asynchronous set or reset, and a clock
 abbrev pub at_once_item : Fabric → Register → List ℕ → List ℕ → Item
 at_once_item fabric register wire clock =
-    AsyncFlipFlop (is_falling fabric register.neg register.clk) clock wire register.«set» (register_name register) (atom_or_1 fabric register.cen) (lut_of fabric register.table)
+    AsyncFlipFlop (is_falling fabric register.neg register.clk) clock wire register.«set» (register_name register) (signal_atom fabric register.enable) (lut_of fabric register.table)
 
 -- what a register is written as, by the wire of its asynchronous set or reset and by its clock, each of which may be missing
 abbrev pub items_by : Fabric → Register → Option (List ℕ) → Option (List ℕ) → List Item

@@ -4,8 +4,6 @@ pub mod Passed
 pub mod Same
 -- the driver of a class, and the nets that it reads
 pub mod Drives
--- what is found among the items of a list with their places
-pub mod FoundPlaces
 -- the ends of chains, found along the write order
 pub mod Following
 -- rows and marks of the classes of a fabric
@@ -16,5 +14,5 @@ pub mod Grid
 pub mod Sooner
 -- the first user whose clock comes from logic is the first fault of the clocks of a fabric
 pub mod Clocked
--- a source that a table reads is one of those of its inputs
-pub mod Sources
+-- a net that an input of a table reads
+pub mod Signals

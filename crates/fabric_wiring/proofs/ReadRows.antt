@@ -1,5 +1,5 @@
 -- Rows and marks of the classes of a fabric.
-use Rattle.std.proofs.Common.{◌≡◌, ℕ, ◌+◌, ◌<◌, ◌≤◌, Bool, true, false, List, [], ◌∷◌, ◌++◌, length, take, map, get_or, refl, sym, ◌∙◌, ap, subst, inl, inr, arith}
+use Rattle.std.proofs.Common.{◌≡◌, ℕ, ◌+◌, ◌<◌, ◌≤◌, true, false, List, [], ◌∷◌, ◌++◌, length, take, map, get_or, refl, sym, ◌∙◌, ap, subst, inl, inr, arith}
 use Rattle.std.proofs.Math.Seq.{get_or-append_seam}
 use Rattle.std.specs.Prelude.{flat_map, option_to_list, Option, Some, None, is_some, IfSome}
 use Rattle.std.specs.declared.vec.Vec.{Vec}
@@ -7,6 +7,8 @@ use Rattle.std.proofs.Math.ListN.{get_or-append}
 use Rattle.std.proofs.lemmas.Bool.{cases_lt, cases_Bool}
 use Rattle.std.proofs.lemmas.List.{map-append, append-nil, get_or_past}
 use Rattle.shared_lemmas.proofs.Lists.{map-every, flat_map-more}
+use Rattle.fabric_model.specs.declared.signal.Signal.{Signal}
+use Rattle.fabric_model.specs.Signals.{signal_nets}
 use Rattle.fabric_model.specs.Joins.{class_of}
 use Rattle.fabric_model.specs.Fabric.{Fabric}
 use Rattle.fabric_model.specs.Drivers.{Drive, drivers_of, is_driven, nets_read}
@@ -57,10 +59,10 @@ reads-more change nets i d there =
     ap (map change) (flat_map-more option_to_list nets i d there)
     ∙ map-append change (flat_map option_to_list (take i nets)) (option_to_list (get_or nets i d))
 
--- the nets that a rule reads, from a list of those that may be missing
-pub read-input : (stated : Bool) (net : Option ℕ) → option_to_list net ++ [] ≡ nets_read (input stated net)
+-- the nets that a rule reads, from a list of what its inputs read
+pub read-input : (source : Signal) → signal_nets source ++ [] ≡ nets_read (input source)
 unfolding nets_read
-read-input stated net = append-nil (option_to_list net)
+read-input source = append-nil (signal_nets source)
 
 pub read-majority : (a b c : Option ℕ) → option_to_list a ++ (option_to_list b ++ (option_to_list c ++ [])) ≡ nets_read (majority_of a b c)
 unfolding nets_read

@@ -9,7 +9,7 @@ use Rattle.fabric_wiring.specs.declared.drive.Drive.{Drive as KeptDrive}
 abbrev pub rule_of : KeptRule → Rule
 rule_of (PinBit place) = pin_bit place
 rule_of (Constant it) = constant it
-rule_of (Input stated net) = input stated net
+rule_of (Input source) = input source
 rule_of (TableEntry table) = table_entry table
 rule_of (MajorityOf a b c) = majority_of a b c
 rule_of (RegisterBit place register) = register_bit place register

@@ -2,7 +2,7 @@
 use Rattle.std.specs.Prelude.{◌≡◌, ℕ, length, map}
 use Rattle.fabric_model.specs.Joins.{class_of}
 use Rattle.fabric_model.specs.Fabric.{Fabric, Buffer}
-use Rattle.fabric_model.specs.Within.{HasNetsIn}
+use Rattle.fabric_model.specs.Within.{IsClosed}
 use Rattle.fabric_model.specs.Links.{class_in}
 use Rattle.fabric_wiring.specs.declared.parts.Buffer.{Buffer as KeptBuffer}
 use Rattle.fabric_wiring.specs.declared.parts.Parts.{Parts}
@@ -14,7 +14,7 @@ buffer_of buffer = record { line = buffer.line; src = buffer.src; dst = buffer.d
 -- Parts are the parts of a fabric if each list is that of the fabric, the LUTs read the same inputs, and each net has the class of joined
 -- nets that the routings of the fabric give it. All nets that such a fabric names are below the number of its nets.
 pub record ArePartsOf (fabric : Fabric) (parts : Parts) : Type 0 where
-  pub within : HasNetsIn fabric
+  pub within : IsClosed fabric
   pub nets : length parts.links.classes ≡ fabric.nets
   pub classes : (net : ℕ) → class_in parts.links net ≡ class_of fabric.joins net
   pub buffers : map buffer_of parts.buffers.items ≡ fabric.buffers

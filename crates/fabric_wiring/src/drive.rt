@@ -1,6 +1,6 @@
 // Drivers, and how they make their values.
 
-use fabric_model::{Driver, LutTable, Register};
+use fabric_model::{Driver, LutTable, Register, Signal};
 
 /// How a driver makes its value.
 #[derive(Clone, Copy, Debug, PartialEq, Eq)]
@@ -9,8 +9,8 @@ pub enum Rule {
     PinBit(u32),
     /// A bit that is always the same.
     Constant(bool),
-    /// An input, which has the stated value if it is unconnected.
-    Input { stated: bool, net: Option<u32> },
+    /// The value of what an input reads.
+    Input(Signal),
     /// The value of a LUT.
     TableEntry(LutTable),
     /// The majority of three inputs.

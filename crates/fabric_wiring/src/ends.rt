@@ -3,11 +3,12 @@ ghost use Rattle.std.specs.Prelude.{◌≡◌, ℕ, ◌<◌, Bool, true, false, 
 ghost use Rattle.fabric_model.specs.Fabric.{Fabric};
 ghost use Rattle.graph_order.specs.Wiring.{IsWriteOrder};
 ghost use Rattle.fabric_model.specs.Wiring.{wiring_of};
-ghost use Rattle.fabric_model.specs.declared.register.LutSource.TheVariants.{Net};
+ghost use Rattle.fabric_model.specs.declared.signal.Signal.TheVariants.{Net};
 ghost use Rattle.fabric_model.specs.ClockLuts.{can_be_1, pass_of};
 ghost use Rattle.fabric_model.specs.Clocks.{turned_end, turn_through, turn_by, turn_of, end_by};
 ghost use Rattle.fabric_model.specs.Clocks.ClockEnd.{still};
-ghost use Rattle.fabric_model.specs.Drivers.{nets_read, source_nets};
+ghost use Rattle.fabric_model.specs.Drivers.{nets_read};
+ghost use Rattle.fabric_model.specs.Signals.{net_or_0, signal_nets};
 ghost use Rattle.graph_order.specs.Wiring.{has};
 ghost use Rattle.fabric_model.specs.Within.{IsNetIn};
 ghost use Rattle.fabric_model.specs.Links.{class_in};
@@ -17,7 +18,7 @@ ghost use Rattle.fabric_wiring.specs.DriverLists.{AreDriversOf, driver_in, is_co
 ghost use Rattle.fabric_wiring.specs.Ends.{end_of, end_in, AreEndsOf};
 
 use crate::{Drivers, Parts, Rule};
-use fabric_model::{Links, LutPass, LutSource, LutTable, pass_of};
+use fabric_model::{Links, LutPass, LutTable, Signal, pass_of};
 use std::alloc::{AllocError, Global};
 
 /// Where the clock chain from a class of joined nets ends. It leads from class to class, along buffers, along global networks that a net
@@ -111,7 +112,7 @@ fn end_along(links: &Links, drivers: &Drivers, ends: &[ClockEnd], rule: Rule) ->
 fn end_through(links: &Links, drivers: &Drivers, ends: &[ClockEnd], table: &LutTable) -> ClockEnd
     ghost connected: { ℕ → Bool }
     requires connected { connected ≡ is_connected_in links.now drivers.now }
-    requires reads { (net : ℕ) → has (flat_map source_nets table.now.ins) net ≡ true → net < length links.now.classes }
+    requires reads { (net : ℕ) → has (flat_map signal_nets table.now.ins) net ≡ true → net < length links.now.classes }
     ensures { end_of result ≡ end_by (λ net. end_in ends.now (class_in links.now net)) (turn_through (pass_of connected table.now)) }
 {
     match pass_of(table, open_inputs(links, drivers, &table.ins)) {
@@ -122,9 +123,9 @@ fn end_through(links: &Links, drivers: &Drivers, ends: &[ClockEnd], table: &LutT
 }
 
 /// Which inputs of a LUT can be 1.
-fn open_inputs(links: &Links, drivers: &Drivers, ins: &[LutSource; 4]) -> [bool; 4]
-    requires { (net : ℕ) → has (flat_map source_nets ins.now) net ≡ true → net < length links.now.classes }
-    ensures { (k : ℕ) → k < 4 → get_or result k false ≡ can_be_1 (is_connected_in links.now drivers.now) (get_or ins.now k (Net None)) }
+fn open_inputs(links: &Links, drivers: &Drivers, ins: &[Signal; 4]) -> [bool; 4]
+    requires { (net : ℕ) → has (flat_map signal_nets ins.now) net ≡ true → net < length links.now.classes }
+    ensures { (k : ℕ) → k < 4 → get_or result k false ≡ can_be_1 (is_connected_in links.now drivers.now) (get_or ins.now k (net_or_0 None)) }
 {
     [
         can_be_1(links, drivers, ins[0]),
@@ -134,25 +135,26 @@ fn open_inputs(links: &Links, drivers: &Drivers, ins: &[LutSource; 4]) -> [bool;
     ]
 }
 
-/// Whether an input of a LUT can be 1: whether it reads an input pin, or a net whose class of joined nets has a driver.
-fn can_be_1(links: &Links, drivers: &Drivers, source: LutSource) -> bool
-    requires { (net : ℕ) → has (source_nets source) net ≡ true → net < length links.now.classes }
+/// Whether an input of a LUT can be 1. One that is 0 if it is unconnected can't, while it is.
+fn can_be_1(links: &Links, drivers: &Drivers, source: Signal) -> bool
+    requires { (net : ℕ) → has (signal_nets source) net ≡ true → net < length links.now.classes }
     ensures { result ≡ can_be_1 (is_connected_in links.now drivers.now) source }
 {
     match source {
-        LutSource::Net(net) => is_connected(links, drivers, net),
-        LutSource::Pin(_) => true,
+        Signal::Net { net, otherwise } => net_can_be_1(links, drivers, net, otherwise),
+        Signal::Input(_) | Signal::Register(_) => true,
     }
 }
 
-/// Whether an input is connected: whether it has a net whose class of joined nets has a driver.
-fn is_connected(links: &Links, drivers: &Drivers, net: Option<u32>) -> bool
+/// Whether an input that reads a net, and has the value `otherwise` if it is unconnected, can be 1. It is connected if the net's class of
+/// joined nets has a driver.
+fn net_can_be_1(links: &Links, drivers: &Drivers, net: Option<u32>, otherwise: bool) -> bool
     requires { IsNetIn (length links.now.classes) net }
-    ensures { result ≡ can_be_1 (is_connected_in links.now drivers.now) (Net net) }
+    ensures { result ≡ can_be_1 (is_connected_in links.now drivers.now) (Net net otherwise) }
 {
     match net {
-        None => false,
-        Some(net) => drivers.is_driven(links.class_of(net)),
+        None => otherwise,
+        Some(net) => otherwise || drivers.is_driven(links.class_of(net)),
     }
 }
 

@@ -8,6 +8,7 @@ ghost use Rattle.fabric_wiring.specs.Parts.{buffer_of, ArePartsOf};
 use crate::cells::{append_carries, append_louts, append_luts, append_sets};
 use crate::drive::{Drive, Rule};
 use crate::parts::{Buffer, Parts};
+use crate::pin_places::pin_places;
 use crate::pins::{append_backs, append_globals, append_pins};
 use crate::push::push_if;
 use crate::rams::append_rams;
@@ -31,9 +32,10 @@ pub(crate) fn all_drives(alloc: Global, parts: &Parts) -> Result<Vec<Drive>, All
     ensures { IfOk result (λ drives. (fabric : Fabric) → ArePartsOf fabric parts.now → map drive_of drives.items ≡ drives_of fabric) }
 {
     let inputs = inputs(alloc, &parts.pins)?;
+    let places = pin_places(alloc, parts)?;
     let mut drives = Vec::new(alloc);
     append_pins(&mut drives, &inputs)?;
-    append_backs(&mut drives, &parts.registers, &parts.pins)?;
+    append_backs(&mut drives, &places, &parts.pins)?;
     append_luts(&mut drives, parts.lut_inputs, &parts.lcs)?;
     append_flips(&mut drives, &parts.registers)?;
     append_louts(&mut drives, parts.lut_inputs, &parts.lcs)?;

@@ -14,6 +14,7 @@ mod fault;
 mod gather;
 mod output_pins;
 mod parts;
+mod pin_places;
 mod pins;
 mod places;
 mod push;

@@ -1,13 +1,14 @@
 // What pins and global networks drive.
 ghost use Rattle.std.specs.Prelude.{◌≡◌, ◌∷◌, [], ◌++◌, map, filter, flat_map, IfOk, OnOk};
 ghost use Rattle.fabric_model.specs.Fabric.{numbered};
-ghost use Rattle.fabric_model.specs.Drivers.{pin_drives, back_drives, global_rule, global_drives};
+ghost use Rattle.fabric_model.specs.Drivers.{pin_drives, global_rule, global_drives};
 ghost use Rattle.fabric_wiring.specs.Drives.{drive_of, rule_of};
+ghost use Rattle.fabric_wiring.specs.Outputs.{back_from};
 
 use crate::drive::{Drive, Rule};
-use crate::output_pins::output_rule;
+use crate::pin_places::{PinPlaces, output_signal};
 use crate::push::push_if;
-use fabric_model::{Driver, GlobalFrom, GlobalNet, Pin, Register, place_among, place_of};
+use fabric_model::{Driver, GlobalFrom, GlobalNet, Pin, place_among, place_of};
 use std::alloc::AllocError;
 
 /// Appends what an input pin drives, given its index: nothing if it has a register.
@@ -36,8 +37,8 @@ pub(crate) fn append_pins(drives: &mut Vec<Drive>, inputs: &[Pin]) -> Result<(),
 }
 
 /// Appends the readback of an output pin, if it has one.
-fn append_back(drives: &mut Vec<Drive>, registers: &[Register], pin: Pin) -> Result<(), AllocError>
-    ensures { OnOk result (map drive_of drives.new.items ≡ map drive_of drives.old.items ++ flat_map (back_drives registers.now) (filter (λ pin. pin.back) (pin ∷ []))) }
+fn append_back(drives: &mut Vec<Drive>, places: &PinPlaces, pin: Pin) -> Result<(), AllocError>
+    ensures { OnOk result (map drive_of drives.new.items ≡ map drive_of drives.old.items ++ flat_map (back_from places.now.flips places.now.pins.items) (filter (λ pin. pin.back) (pin ∷ []))) }
 {
     if !pin.back {
         return Ok(());
@@ -47,19 +48,20 @@ fn append_back(drives: &mut Vec<Drive>, registers: &[Register], pin: Pin) -> Res
         y: pin.y,
         n: pin.n,
     };
-    push_if(drives, driver, output_rule(registers, pin)?, pin.din)
+    let rule = Rule::Input(output_signal(places, pin)?);
+    push_if(drives, driver, rule, pin.din)
 }
 
 /// Appends the readbacks of the output pins that have one.
 pub(crate) fn append_backs(
     drives: &mut Vec<Drive>,
-    registers: &[Register],
+    places: &PinPlaces,
     pins: &[Pin],
 ) -> Result<(), AllocError>
-    ensures { OnOk result (map drive_of drives.new.items ≡ map drive_of drives.old.items ++ flat_map (back_drives registers.now) (filter (λ pin. pin.back) pins.now)) }
+    ensures { OnOk result (map drive_of drives.new.items ≡ map drive_of drives.old.items ++ flat_map (back_from places.now.flips places.now.pins.items) (filter (λ pin. pin.back) pins.now)) }
 {
     for pin in pins {
-        append_back(drives, registers, *pin)?;
+        append_back(drives, places, *pin)?;
     }
     Ok(())
 }

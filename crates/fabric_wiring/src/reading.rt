@@ -1,7 +1,8 @@
 // Which classes of joined nets have a driver, and which classes each reads.
 ghost use Rattle.std.specs.Prelude.{◌≡◌, ℕ, ◌<◌, ◌≤◌, true, is_some, length, map, flat_map, option_to_list, [], if◌then◌else◌, IfOk, IfSome};
 ghost use Rattle.fabric_model.specs.Fabric.{Fabric};
-ghost use Rattle.fabric_model.specs.Drivers.{source_nets, nets_read};
+ghost use Rattle.fabric_model.specs.Drivers.{nets_read};
+ghost use Rattle.fabric_model.specs.Signals.{signal_nets};
 ghost use Rattle.graph_order.specs.Wiring.{has};
 ghost use Rattle.graph_order.specs.Rows.{is_marked, row_at};
 ghost use Rattle.fabric_model.specs.Links.{class_in};
@@ -13,7 +14,7 @@ ghost use Rattle.fabric_wiring.specs.Wires.{AreWiresOf};
 
 use crate::wires_type::Wires;
 use crate::{Drive, Drivers, Parts, Rule};
-use fabric_model::{Links, LutSource, Register};
+use fabric_model::{Links, Register, Signal};
 use std::alloc::{AllocError, Global};
 
 /// Finds what the classes of joined nets of a fabric read. It gives each class, in ascending order, a mark, whether it has a driver, and a
@@ -92,8 +93,8 @@ fn row_by(alloc: Global, links: &Links, rule: Rule) -> Result<Vec<u32>, AllocErr
     ensures { IfOk result (λ row. row.items ≡ classes_read links.now rule) }
 {
     match rule {
-        Rule::Input { net, .. } => classes_of(alloc, links, &[net]),
-        Rule::TableEntry(table) => classes_of_sources(alloc, links, &table.ins),
+        Rule::Input(source) => classes_of_signals(alloc, links, &[source]),
+        Rule::TableEntry(table) => classes_of_signals(alloc, links, &table.ins),
         Rule::MajorityOf(a, b, c) => classes_of(alloc, links, &[a, b, c]),
         Rule::RegisterBit { register, .. } => classes_of_reset(alloc, links, &register),
         Rule::Copied(net) => classes_of(alloc, links, &[Some(net)]),
@@ -117,19 +118,25 @@ fn classes_of_reset(
     }
 }
 
-/// The classes of joined nets that the inputs of a table read.
-fn classes_of_sources(
-    alloc: Global,
-    links: &Links,
-    ins: &[LutSource],
-) -> Result<Vec<u32>, AllocError>
-    requires { (net : ℕ) → has (flat_map source_nets ins.now) net ≡ true → net < length links.now.classes }
-    ensures { IfOk result (λ row. row.items ≡ map (class_in links.now) (flat_map source_nets ins.now)) }
+/// The net that an input reads, if it reads one.
+fn net_of(source: Signal) -> Option<u32>
+    ensures { option_to_list result ≡ signal_nets source }
+{
+    match source {
+        Signal::Net { net, .. } => net,
+        Signal::Input(_) | Signal::Register(_) => None,
+    }
+}
+
+/// The classes of joined nets that inputs read.
+fn classes_of_signals(alloc: Global, links: &Links, ins: &[Signal]) -> Result<Vec<u32>, AllocError>
+    requires { (net : ℕ) → has (flat_map signal_nets ins.now) net ≡ true → net < length links.now.classes }
+    ensures { IfOk result (λ row. row.items ≡ map (class_in links.now) (flat_map signal_nets ins.now)) }
 {
     let mut row = Vec::new(alloc);
     for source in ins {
-        if let LutSource::Net(Some(net)) = source {
-            row.push(links.class_of(*net))?;
+        if let Some(net) = net_of(*source) {
+            row.push(links.class_of(net))?;
         }
     }
     Ok(row)

@@ -1,5 +1,5 @@
 // Registers, and what they drive.
-ghost use Rattle.std.specs.Prelude.{◌≡◌, ◌++◌, [], ◌∷◌, map, flat_map, filter, IfOk, OnOk, Some};
+ghost use Rattle.std.specs.Prelude.{◌≡◌, ◌++◌, map, flat_map, IfOk, OnOk, Some};
 ghost use Rattle.fabric_model.specs.Fabric.{numbered};
 ghost use Rattle.fabric_model.specs.Registers.{table_of, register_of, registers_of};
 ghost use Rattle.fabric_model.specs.Drivers.{drives_by, flip_drives, pin_register_drives};
@@ -8,7 +8,8 @@ ghost use Rattle.fabric_wiring.specs.Drives.{drive_of};
 use crate::drive::{Drive, Rule};
 use crate::push::push_if;
 use fabric_model::{
-    ClockUser, Driver, LogicCell, LutInputs, LutSource, LutTable, Register, inputs_read, place_of,
+    ClockUser, Driver, LogicCell, LutInputs, LutTable, Register, inputs_read, net_or_0, net_or_1,
+    place_of,
 };
 use std::alloc::{AllocError, Global};
 
@@ -20,10 +21,10 @@ pub(crate) fn table_of(inputs: LutInputs, lc: &LogicCell) -> LutTable
     LutTable {
         word: lc.lut,
         ins: [
-            LutSource::Net(ins[0]),
-            LutSource::Net(ins[1]),
-            LutSource::Net(ins[2]),
-            LutSource::Net(ins[3]),
+            net_or_0(ins[0]),
+            net_or_0(ins[1]),
+            net_or_0(ins[2]),
+            net_or_0(ins[3]),
         ],
     }
 }
@@ -40,7 +41,7 @@ fn register_of(inputs: LutInputs, lc: &LogicCell) -> Register
         out: lc.out,
         clk: lc.clk,
         neg: lc.neg,
-        cen: lc.cen,
+        enable: net_or_1(lc.cen),
         sr: lc.sr,
         set: lc.set,
         is_async: lc.is_async,

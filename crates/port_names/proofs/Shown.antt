@@ -97,7 +97,7 @@ module _ (named : List PinName) where
     abbrev IsShown : Output → Type 0
     IsShown output = new_name (port_renaming named fabric.pins) (output_name output) ≡ named_output named output
 
-    shown-pin : (pin : Pin) → Contains fabric.pins pin → All IsShown (pin_outputs fabric.registers pin)
+    shown-pin : (pin : Pin) → Contains fabric.pins pin → All IsShown (pin_outputs fabric pin)
     shown-pin pin there =
         All-cons IsShown _ (enable_outputs pin) (shown-port pin there)
         (elim (cases_Bool (is_tri_state pin)) [
@@ -108,8 +108,8 @@ module _ (named : List PinName) where
     shown-outputs : All IsShown (outputs_of fabric)
     unfolding outputs_of
     shown-outputs =
-        All-flat_map IsShown (pin_outputs fabric.registers) (filter (λ pin. pin.output) fabric.pins)
-        (All-weaker (Contains fabric.pins) (λ pin. All IsShown (pin_outputs fabric.registers pin)) shown-pin (filter (λ pin. pin.output) fabric.pins)
+        All-flat_map IsShown (pin_outputs fabric) (filter (λ pin. pin.output) fabric.pins)
+        (All-weaker (Contains fabric.pins) (λ pin. All IsShown (pin_outputs fabric pin)) shown-pin (filter (λ pin. pin.output) fabric.pins)
         (All-filter (λ pin. pin.output) (Contains fabric.pins) fabric.pins (All-contains_itself fabric.pins)))
 
     shown-inputs : All (λ pin. new_name (port_renaming named fabric.pins) (port_name pin) ≡ named_port named pin) (inputs_of fabric)

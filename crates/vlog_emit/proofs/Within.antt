@@ -5,17 +5,18 @@ use Rattle.std.proofs.lemmas.Bool.{cases_Bool}
 use Rattle.std.proofs.lemmas.List.Elements.{All-from_get_or, All-nil, All-cons, All-head, All-tail, All-contains, All-contains_itself, All-weaker}
 use Rattle.shared_lemmas.proofs.Lists.{All-both}
 use Rattle.fabric_model.specs.Fabric.{Fabric, fabric_with}
-use Rattle.fabric_model.specs.declared.register.LutSource.{LutSource}
-use Rattle.fabric_model.specs.declared.register.LutSource.TheVariants.{Net, Pin as SourcePin}
+use Rattle.fabric_model.specs.declared.signal.Signal.{Signal}
+use Rattle.fabric_model.specs.declared.signal.Signal.TheVariants as signal
 use Rattle.fabric_model.specs.declared.register.Register.{Register}
-use Rattle.fabric_model.specs.Within.{IsNetIn, IsPinIn, IsRamIn, IsSourceIn as IsNetSourceIn, IsRegisterIn as IsNetRegisterIn}
+use Rattle.fabric_model.specs.Within.{IsNetIn, IsPinIn, IsRamIn, IsSignalIn as IsNetSignalIn, IsRegisterIn as IsNetRegisterIn}
 use Rattle.fabric_model.specs.Drivers.{drivers_of, drives_of, is_driven, nets_read}
 use Rattle.fabric_model.specs.Outputs.{Output, outputs_of}
-use Rattle.fabric_model.specs.Drivers.{Rule}
-use Rattle.fabric_model.specs.Drivers.Rule.{pin_bit, constant, input, table_entry, majority_of, register_bit, read_bit, copied}
+use Rattle.fabric_model.specs.Signals.{net_or_0, signal_nets}
 use Rattle.fabric_model.specs.Clocks.{clock_end}
 use Rattle.fabric_model.specs.Clocks.ClockEnd.{at_pin}
 use Rattle.graph_order.specs.Wiring.{has}
+use Rattle.fabric_model.proofs.Signals.{IsSignalThere, HasSignals, signal-there}
+use Rattle.fabric_model.proofs.Settling.{outputs-have}
 use Rattle.fabric_model.proofs.Facts.{has-some, has-source, has-left, has-right}
 use Rattle.graph_order.proofs.OneOrder.{has-first}
 use Rattle.fabric_model.proofs.OneValue.{first-driver, first-is, none-driven, count-is}
@@ -32,13 +33,13 @@ use Rattle.fabric_wiring.specs.Ends.{end_in}
 use Rattle.fabric.specs.Kept.{Kept}
 use Rattle.fabric.specs.Design.{IsDesign}
 use Rattle.fabric_module.proofs.Lists.{item-there}
-use Rattle.fabric_module.proofs.Rights.{IsSourceThere, IsPlaceIn, IsOutputRule, source-there, outputs-ruled}
+use Rattle.fabric_module.proofs.Rights.{IsPlaceIn}
 use Rattle.fabric_module.proofs.Beginning.{IsPorted}
 use Rattle.fabric_module.proofs.Configured.{fabric-started}
 use Rattle.fabric_module.proofs.Settled.{IsWritable}
 use Rattle.fabric_module.proofs.Ticks.{leads-place}
 use Rattle.fabric_module.proofs.Design.{fabric-writable}
-use Rattle.vlog_emit.specs.Each.{nets_in, IsSourceIn, IsRegisterIn, IsRuleIn}
+use Rattle.vlog_emit.specs.Each.{nets_in, IsSignalIn, IsRegisterIn, IsRuleIn}
 use Rattle.vlog_emit.proofs.Kept.{end-is}
 
 -- ---- nets that may be missing
@@ -48,10 +49,11 @@ net-from : (nets : ℕ) (net : Option ℕ) → ((n : ℕ) → net ≡ Some n →
 net-from nets None each = tt
 net-from nets (Some n) each = each n refl
 
--- so is the net of an input of a table
-source-from : (nets : ℕ) (source : LutSource) → ((n : ℕ) → source ≡ Net (Some n) → n < nets) → IsNetSourceIn nets source
-source-from nets (Net net) each = net-from nets net (λ n at. each n (ap Net at))
-source-from nets (SourcePin place) each = tt
+-- so is the net that an input reads
+signal-from : (nets : ℕ) (source : Signal) → ((n : ℕ) → has (signal_nets source) n ≡ true → n < nets) → IsNetSignalIn nets source
+signal-from nets (signal.Net net otherwise) each = net-from nets net (λ n at. each n (has-some net n at))
+signal-from nets (signal.Input place) each = tt
+signal-from nets (signal.Register place) each = tt
 
 -- what holds of each item of a changed list holds of each item, once it is changed
 all-unmapped : {A B : Type 0} (P : B → Type 0) (change : A → B) (list : List A) → All P (map change list) → All (λ item. P (change item)) list
@@ -59,17 +61,6 @@ all-unmapped P change [] all = All-nil (λ item. P (change item))
 all-unmapped P change (item ∷ list) all =
     All-cons (λ one. P (change one)) item list (All-head P (change item) (map change list) all)
     (all-unmapped P change list (All-tail P (change item) (map change list) all))
-
--- what the rule of an output names is there
-output-place : (fabric : Fabric) (rule : Rule) → IsOutputRule fabric rule → IsPlaceIn fabric rule
-output-place fabric (pin_bit place) is = absurd is
-output-place fabric (constant bit) is = tt
-output-place fabric (input stated net) is = tt
-output-place fabric (table_entry table) is = absurd is
-output-place fabric (majority_of a b c) is = absurd is
-output-place fabric (register_bit place register) is = is
-output-place fabric (read_bit ram bit) is = absurd is
-output-place fabric (copied net) is = absurd is
 
 -- ---- the parts
 
@@ -83,25 +74,26 @@ module _ (design : Kept) (is : IsDesign design) where
   writable : IsWritable fabric
   writable = fabric-writable design.parts.lut_inputs is.0 is.1 is.2.fit is.2.few is.2.taken
 
-  -- what an input of a table reads is there
-  source-in : (source : LutSource) → IsNetSourceIn (nets_in design) source → IsSourceThere fabric source → IsSourceIn design source
-  source-in (Net net) net_in there = net_in
-  source-in (SourcePin place) net_in there = subst (λ pins. place < length pins) (sym is.2.kept.inputs) there
+  -- what an input reads is there
+  signal-in : (source : Signal) → IsNetSignalIn (nets_in design) source → IsSignalThere fabric source → IsSignalIn design source
+  signal-in (signal.Net net otherwise) net_in there = net_in
+  signal-in (signal.Input place) net_in there = subst (λ pins. place < length pins) (sym is.2.kept.inputs) there
+  signal-in (signal.Register place) net_in there = subst (λ registers. place < length registers) (sym is.2.kept.parts.registers) there.0
 
-  register-in : (register : Register) → IsNetRegisterIn fabric.nets register → All (IsSourceThere fabric) register.table.ins → IsRegisterIn design register
+  register-in : (register : Register) → IsNetRegisterIn fabric.nets register → HasSignals fabric register → IsRegisterIn design register
   register-in register nets there =
       let counted : IsNetRegisterIn (nets_in design) register = subst (λ n. IsNetRegisterIn n register) (sym count) nets in
       record {
         clk = counted.clk;
-        cen = counted.cen;
+        enable = signal-in register.enable counted.enable there.enable;
         sr = counted.sr;
-        table = All-both (IsNetSourceIn (nets_in design)) (IsSourceThere fabric) (IsSourceIn design) source-in register.table.ins counted.ins there;
+        table = All-both (IsNetSignalIn (nets_in design)) (IsSignalThere fabric) (IsSignalIn design) signal-in register.table.ins counted.ins there.ins;
       }
 
   pub registers-within : All (IsRegisterIn design) design.parts.registers.items
   registers-within =
       subst (All (IsRegisterIn design)) (sym is.2.kept.parts.registers)
-      (All-both (IsNetRegisterIn fabric.nets) (λ register. All (IsSourceThere fabric) register.table.ins) (IsRegisterIn design) register-in
+      (All-both (IsNetRegisterIn fabric.nets) (HasSignals fabric) (IsRegisterIn design) register-in
       fabric.registers is.2.kept.parts.within.registers writable.tables)
 
   pub pins-within : All (IsPinIn (nets_in design)) design.parts.pins.items
@@ -139,11 +131,11 @@ module _ (design : Kept) (is : IsDesign design) where
   unfolding nets_read
   rule-in (PinBit place) there reads = subst (λ pins. place < length pins) (sym is.2.kept.inputs) there
   rule-in (Constant bit) there reads = tt
-  rule-in (Input stated net) there reads = net-from (nets_in design) net (λ n at. reads n (has-some net n at))
+  rule-in (Input source) there reads = signal-in source (signal-from (nets_in design) source reads) there
   rule-in (TableEntry table) there reads =
-      All-from_get_or (IsSourceIn design) table.ins (Net None)
-      (λ k less. source-in (get_or table.ins k (Net None)) (source-from (nets_in design) (get_or table.ins k (Net None)) (λ n at. reads n (has-source table.ins k n at)))
-      (source-there fabric table.ins k there))
+      All-from_get_or (IsSignalIn design) table.ins (net_or_0 None)
+      (λ k less. signal-in (get_or table.ins k (net_or_0 None)) (signal-from (nets_in design) (get_or table.ins k (net_or_0 None)) (λ n at. reads n (has-source table.ins k n at)))
+      (signal-there fabric table.ins k there))
   rule-in (MajorityOf a b c) there reads =
       let first = option_to_list a in
       let second = option_to_list b in
@@ -159,26 +151,24 @@ module _ (design : Kept) (is : IsDesign design) where
   rule-in (ReadBit ram bit) there reads = subst (λ rams. ram < length rams) (sym is.2.kept.parts.rams) there.0
   rule-in (Copied net) there reads = reads net (has-first net [])
 
-  -- the rule of an output names what is there
-  abbrev RuleThere : Output → Type 0
-  RuleThere output =
-      IsOutputRule fabric output.rule
-      × ((net : ℕ) → has (nets_read output.rule) net ≡ true → net < fabric.nets)
+  -- what an output reads is there
+  abbrev OutputThere : Output → Type 0
+  OutputThere output = IsSignalThere fabric output.source × ((net : ℕ) → has (signal_nets output.source) net ≡ true → net < fabric.nets)
 
-  outputs-there : All RuleThere (outputs_of fabric)
+  outputs-there : All OutputThere (outputs_of fabric)
   outputs-there =
-      All-weaker (Contains (outputs_of fabric)) RuleThere
+      All-weaker (Contains (outputs_of fabric)) OutputThere
       (λ output there. (
-        All-contains (λ (one : Output). IsOutputRule fabric one.rule) (outputs_of fabric) output (outputs-ruled fabric) there,
+        All-contains (λ (one : Output). IsSignalThere fabric one.source) (outputs_of fabric) output (outputs-have fabric is.2.kept.parts.within) there,
         read-by-outputs fabric is.2.kept.parts.within output there,
       )) (outputs_of fabric) (All-contains_itself (outputs_of fabric))
 
-  pub outputs-within : All (λ output. IsRuleIn design output.rule) design.outputs
+  pub outputs-within : All (λ output. IsSignalIn design output.source) design.outputs
   outputs-within =
-      All-weaker (λ output. RuleThere (output_of output)) (λ output. IsRuleIn design output.rule)
-      (λ output there. rule-in output.rule (output-place fabric (rule_of output.rule) there.0)
-      (λ net reads. let below : net < fabric.nets = there.1 net reads in let nets = count in omega arith))
-      design.outputs (all-unmapped RuleThere output_of design.outputs (subst (All RuleThere) (sym is.2.kept.outputs) outputs-there))
+      All-weaker (λ output. OutputThere (output_of output)) (λ output. IsSignalIn design output.source)
+      (λ output there. signal-in output.source (signal-from (nets_in design) output.source
+      (λ net reads. let below : net < fabric.nets = there.1 net reads in let nets = count in omega arith)) there.0)
+      design.outputs (all-unmapped OutputThere output_of design.outputs (subst (All OutputThere) (sym is.2.kept.outputs) outputs-there))
 
   -- what the driver of a class names
   pub driver-within : (class : ℕ) → class < nets_in design → (drive : KeptDrive) → driver_in design.drivers class ≡ Some drive → IsRuleIn design drive.rule

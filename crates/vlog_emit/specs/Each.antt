@@ -1,7 +1,7 @@
 -- What is known of the fabrics whose design is kept.
 use Rattle.std.specs.Prelude.{ℕ, ◌<◌, All, length}
-use Rattle.fabric_model.specs.declared.register.LutSource.{LutSource}
-use Rattle.fabric_model.specs.declared.register.LutSource.TheVariants.{Net, Pin as SourcePin}
+use Rattle.fabric_model.specs.declared.signal.Signal.{Signal}
+use Rattle.fabric_model.specs.declared.signal.Signal.TheVariants as signal
 use Rattle.fabric_model.specs.declared.register.LutTable.{LutTable}
 use Rattle.fabric_model.specs.declared.register.Register.{Register}
 use Rattle.fabric_model.specs.Fabric.{Fabric}
@@ -18,19 +18,20 @@ EachFabric design Holds = (fabric : Fabric) → IsKeptOf fabric design → Holds
 abbrev pub nets_in : Kept → ℕ
 nets_in design = length design.drivers.places
 
--- the net or the input pin that an input of a LUT reads exists
-abbrev pub IsSourceIn : Kept → LutSource → Type 0
-IsSourceIn design (Net net) = IsNetIn (nets_in design) net
-IsSourceIn design (SourcePin place) = place < length design.inputs
+-- the net, the input pin or the register that an input reads exists
+abbrev pub IsSignalIn : Kept → Signal → Type 0
+IsSignalIn design (signal.Net net otherwise) = IsNetIn (nets_in design) net
+IsSignalIn design (signal.Input place) = place < length design.inputs
+IsSignalIn design (signal.Register place) = place < length design.parts.registers.items
 
--- the nets and the input pins that the inputs of a LUT read exist
+-- what the inputs of a LUT read exists
 abbrev pub IsTableIn : Kept → LutTable → Type 0
-IsTableIn design table = All (IsSourceIn design) table.ins
+IsTableIn design table = All (IsSignalIn design) table.ins
 
--- the nets and the input pins that a register reads exist
+-- what a register reads exists
 pub record IsRegisterIn (design : Kept) (register : Register) : Type 0 where
   pub clk : IsNetIn (nets_in design) register.clk
-  pub cen : IsNetIn (nets_in design) register.cen
+  pub enable : IsSignalIn design register.enable
   pub sr : IsNetIn (nets_in design) register.sr
   pub table : IsTableIn design register.table
 
@@ -38,7 +39,7 @@ pub record IsRegisterIn (design : Kept) (register : Register) : Type 0 where
 abbrev pub IsRuleIn : Kept → Rule → Type 0
 IsRuleIn design (PinBit place) = place < length design.inputs
 IsRuleIn design (Constant bit) = Unit {0}
-IsRuleIn design (Input stated net) = IsNetIn (nets_in design) net
+IsRuleIn design (Input source) = IsSignalIn design source
 IsRuleIn design (TableEntry table) = IsTableIn design table
 IsRuleIn design (MajorityOf a b c) = IsNetIn (nets_in design) a × IsNetIn (nets_in design) b × IsNetIn (nets_in design) c
 IsRuleIn design (RegisterBit place register) = IsRegisterIn design register

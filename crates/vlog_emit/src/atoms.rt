@@ -1,19 +1,17 @@
 // Atoms: what is read of nets and pins.
 ghost use Rattle.std.specs.Prelude.{◌≡◌, ◌<◌, ◌≤◌, ◌/◌, ◌∷◌, [], All, get_or, length, Some, None, if◌then◌else◌, IfOk};
-ghost use Rattle.fabric_model.specs.declared.register.LutSource.TheVariants.{Net};
+ghost use Rattle.fabric_model.specs.Signals.{net_or_0};
 ghost use Rattle.narrow_words.specs.Narrow.{share};
 ghost use Rattle.fabric_model.specs.Rams.{data_bit};
 ghost use Rattle.fabric_model.specs.Joins.{class_of};
 ghost use Rattle.fabric_model.specs.Values.{is_connected};
 ghost use Rattle.fabric_model.specs.Within.{IsNetIn};
-ghost use Rattle.fabric_wiring.specs.Drives.{rule_of};
-ghost use Rattle.fabric_module.specs.Rights.{input_atom, port_atoms, input_name, source_atom, table_atom, lut_of, driven_wire, setting_wire, pattern_of, shift_atom, shift_atoms, data_atoms, output_atom};
-ghost use Rattle.vlog_emit.specs.Each.{EachFabric, IsRuleIn, IsSourceIn, IsTableIn, nets_in};
+ghost use Rattle.fabric_module.specs.Rights.{input_atom, port_atoms, input_name, register_at, signal_atom, table_atom, lut_of, driven_wire, setting_wire, pattern_of, shift_atom, shift_atoms, data_atoms};
+ghost use Rattle.vlog_emit.specs.Each.{EachFabric, IsSignalIn, IsTableIn, nets_in};
 
 use fabric::Design;
-use fabric_model::{LutSource, LutTable, Register};
+use fabric_model::{LutTable, Register, Signal};
 use fabric_module::{port_name, register_name, wire_name};
-use fabric_wiring::Rule;
 use std::alloc::{AllocError, Global};
 use vlog_module::{Atom, Atoms, Lut, Name};
 
@@ -163,22 +161,6 @@ pub(crate) fn pattern_of(mode: u8) -> u16
     }
 }
 
-/// The atom that has the value of an output. Outputs have no other rules.
-pub(crate) fn output_atom(alloc: Global, design: &Design, rule: &Rule) -> Result<Atom, AllocError>
-    requires { IsRuleIn design.now rule.now }
-    ensures { IfOk result (λ atom. EachFabric design.now (λ fabric. atom ≡ output_atom fabric (rule_of rule.now))) }
-{
-    match rule {
-        Rule::Input { stated, net } => input_atom(alloc, design, *stated, *net),
-        Rule::RegisterBit { register, .. } => {
-            let name = register_name(alloc, register)?;
-            Ok(Atom::Whole(name))
-        }
-        Rule::Constant(bit) => Ok(Atom::Bit(*bit)),
-        _ => Ok(Atom::Bit(false)),
-    }
-}
-
 /// The name of the port of the input pin with that index.
 pub(crate) fn input_name(alloc: Global, design: &Design, place: usize) -> Result<Name, AllocError>
     requires { place < length design.now.inputs }
@@ -188,17 +170,28 @@ pub(crate) fn input_name(alloc: Global, design: &Design, place: usize) -> Result
     port_name(alloc, &inputs[place])
 }
 
-/// What an input of a LUT reads.
-fn source_atom(alloc: Global, design: &Design, source: LutSource) -> Result<Atom, AllocError>
-    requires { IsSourceIn design.now source }
-    ensures { IfOk result (λ atom. EachFabric design.now (λ fabric. atom ≡ source_atom fabric source)) }
+/// The name of the register with an index.
+fn register_at(alloc: Global, design: &Design, place: usize) -> Result<Name, AllocError>
+    requires { place < length design.now.parts.registers.items }
+    ensures { IfOk result (λ name. EachFabric design.now (λ fabric. name ≡ register_at fabric place)) }
+{
+    let registers = design.registers();
+    register_name(alloc, &registers[place])
+}
+
+/// What an input reads.
+pub(crate) fn signal_atom(
+    alloc: Global,
+    design: &Design,
+    source: Signal,
+) -> Result<Atom, AllocError>
+    requires { IsSignalIn design.now source }
+    ensures { IfOk result (λ atom. EachFabric design.now (λ fabric. atom ≡ signal_atom fabric source)) }
 {
     match source {
-        LutSource::Net(net) => input_atom(alloc, design, false, net),
-        LutSource::Pin(place) => {
-            let name = input_name(alloc, design, place as usize)?;
-            Ok(Atom::Whole(name))
-        }
+        Signal::Net { net, otherwise } => input_atom(alloc, design, otherwise, net),
+        Signal::Input(place) => Ok(Atom::Whole(input_name(alloc, design, place as usize)?)),
+        Signal::Register(place) => Ok(Atom::Whole(register_at(alloc, design, place as usize)?)),
     }
 }
 
@@ -210,10 +203,10 @@ fn table_atom(
     k: usize,
 ) -> Result<Atom, AllocError>
     requires place { k < 4 }
-    requires within { IsSourceIn design.now (get_or table.now.ins k (Net None)) }
+    requires within { IsSignalIn design.now (get_or table.now.ins k (net_or_0 None)) }
     ensures { IfOk result (λ atom. EachFabric design.now (λ fabric. atom ≡ table_atom fabric table.now k)) }
 {
-    source_atom(alloc, design, table.ins[k])
+    signal_atom(alloc, design, table.ins[k])
 }
 
 /// A LUT with its four inputs.

@@ -6,11 +6,11 @@ ghost use Rattle.fabric_wiring.specs.Outputs.{output_of};
 ghost use Rattle.fabric.specs.Design.{IsDesign};
 ghost use Rattle.fabric_module.specs.Names.{output_name, register_name};
 ghost use Rattle.fabric_module.specs.Written.{clock_name, is_falling, port_of, pin_ports, register_item, read_register, ram_memory, class_wire, output_assign, flip_item, at_once_item, items_by, register_items, read_item, read_items, write_item, write_items};
-ghost use Rattle.vlog_emit.specs.Each.{EachFabric, IsRegisterIn, IsRuleIn, nets_in};
+ghost use Rattle.vlog_emit.specs.Each.{EachFabric, IsRegisterIn, IsSignalIn, nets_in};
 
 use crate::atoms::{
-    data_atoms, input_atom, input_name, lut_of, output_atom, pattern_of, port_atoms, setting_wire,
-    shift_atoms,
+    data_atoms, input_atom, input_name, lut_of, pattern_of, port_atoms, setting_wire, shift_atoms,
+    signal_atom,
 };
 use crate::rights::class_right;
 use fabric::Design;
@@ -107,11 +107,11 @@ pub(crate) fn output_assign(
     design: &Design,
     output: &Output,
 ) -> Result<Item, AllocError>
-    requires { IsRuleIn design.now output.now.rule }
+    requires { IsSignalIn design.now output.now.source }
     ensures { IfOk result (λ item. EachFabric design.now (λ fabric. item ≡ output_assign fabric (output_of output.now))) }
 {
     let name = output_name(alloc, output)?;
-    let value = output_atom(alloc, design, &output.rule)?;
+    let value = signal_atom(alloc, design, output.source)?;
     Ok(Item::Assign { name, value })
 }
 
@@ -166,7 +166,7 @@ fn flip_item(
     requires { IsRegisterIn design.now register.now }
     ensures { IfOk result (λ item. EachFabric design.now (λ fabric. item ≡ flip_item fabric register.now clock)) }
 {
-    let enable = input_atom(alloc, design, true, register.cen)?;
+    let enable = signal_atom(alloc, design, register.enable)?;
     let reset = input_atom(alloc, design, false, register.sr)?;
     let target = register_name(alloc, register)?;
     let lut = lut_of(alloc, design, &register.table)?;
@@ -193,7 +193,7 @@ fn at_once_item(
     ensures { IfOk result (λ item. EachFabric design.now (λ fabric. item ≡ at_once_item fabric register.now reset clock)) }
 {
     let target = register_name(alloc, register)?;
-    let enable = input_atom(alloc, design, true, register.cen)?;
+    let enable = signal_atom(alloc, design, register.enable)?;
     let lut = lut_of(alloc, design, &register.table)?;
     Ok(Item::AsyncFlipFlop {
         falling: is_falling(design, register.neg, register.clk),

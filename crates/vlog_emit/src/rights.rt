@@ -4,12 +4,12 @@ ghost use Rattle.fabric_model.specs.Within.{IsNetIn};
 ghost use Rattle.fabric_wiring.specs.Drives.{rule_of};
 ghost use Rattle.fabric.specs.Design.{IsDesign};
 ghost use Rattle.fabric_module.specs.Names.{register_name};
-ghost use Rattle.fabric_module.specs.Rights.{input_atom, atom_or_0, read_at, setting_wire, register_right, right_alone, right_of, class_right};
-ghost use Rattle.vlog_emit.specs.Each.{EachFabric, IsRuleIn, nets_in};
+ghost use Rattle.fabric_module.specs.Rights.{atom_or_0, signal_atom, read_at, setting_wire, register_right, right_alone, right_of, class_right};
+ghost use Rattle.vlog_emit.specs.Each.{EachFabric, IsSignalIn, IsRuleIn, nets_in};
 
-use crate::atoms::{input_atom, input_name, lut_of, setting_wire};
+use crate::atoms::{input_atom, input_name, lut_of, setting_wire, signal_atom};
 use fabric::Design;
-use fabric_model::Register;
+use fabric_model::{Register, Signal, net_or_0};
 use fabric_module::{read_name, register_name};
 use fabric_wiring::Rule;
 use std::alloc::{AllocError, Global};
@@ -35,17 +35,12 @@ fn right_alone(atom: Atom) -> Right
     }
 }
 
-/// The value of an input.
-fn right_of_input(
-    alloc: Global,
-    design: &Design,
-    stated: bool,
-    net: Option<u32>,
-) -> Result<Right, AllocError>
-    requires { IsNetIn (nets_in design.now) net }
-    ensures { IfOk result (λ right. EachFabric design.now (λ fabric. right ≡ right_alone (input_atom fabric stated net))) }
+/// The value of what an input reads.
+fn right_of_signal(alloc: Global, design: &Design, source: Signal) -> Result<Right, AllocError>
+    requires { IsSignalIn design.now source }
+    ensures { IfOk result (λ right. EachFabric design.now (λ fabric. right ≡ right_alone (signal_atom fabric source))) }
 {
-    let atom = input_atom(alloc, design, stated, net)?;
+    let atom = signal_atom(alloc, design, source)?;
     Ok(right_alone(atom))
 }
 
@@ -106,7 +101,7 @@ fn right_of(alloc: Global, design: &Design, rule: Rule) -> Result<Right, AllocEr
     match rule {
         Rule::PinBit(place) => Ok(Right::Whole(input_name(alloc, design, place as usize)?)),
         Rule::Constant(bit) => Ok(Right::Bit(bit)),
-        Rule::Input { stated, net } => right_of_input(alloc, design, stated, net),
+        Rule::Input(source) => right_of_signal(alloc, design, source),
         Rule::TableEntry(table) => Ok(Right::Lut(lut_of(alloc, design, &table)?)),
         Rule::MajorityOf(a, b, c) => right_of_majority(alloc, design, a, b, c),
         Rule::RegisterBit { register, .. } => right_of_register(alloc, design, &register),
@@ -114,7 +109,7 @@ fn right_of(alloc: Global, design: &Design, rule: Rule) -> Result<Right, AllocEr
             name: read_at(alloc, design, ram as usize)?,
             k: bit,
         }),
-        Rule::Copied(net) => right_of_input(alloc, design, false, Some(net)),
+        Rule::Copied(net) => right_of_signal(alloc, design, net_or_0(Some(net))),
     }
 }
 

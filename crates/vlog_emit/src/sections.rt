@@ -5,7 +5,7 @@ ghost use Rattle.fabric_model.specs.Within.{IsRamIn};
 ghost use Rattle.fabric_wiring.specs.Outputs.{output_of};
 ghost use Rattle.fabric.specs.Design.{IsDesign};
 ghost use Rattle.fabric_module.specs.Written.{pin_ports, register_item, read_register, ram_memory, class_wire, output_assign, register_items, read_items, write_items, start_items};
-ghost use Rattle.vlog_emit.specs.Each.{EachFabric, IsRegisterIn, IsRuleIn, nets_in};
+ghost use Rattle.vlog_emit.specs.Each.{EachFabric, IsRegisterIn, IsSignalIn, nets_in};
 
 use crate::items::{
     append_ports, append_read, append_register, append_write, class_wire, output_assign,
@@ -99,7 +99,7 @@ pub(crate) fn append_outputs(
     outputs: &[Output],
     items: &mut Vec<Item>,
 ) -> Result<(), AllocError>
-    requires { All (λ output. IsRuleIn design.now output.rule) outputs.now }
+    requires { All (λ output. IsSignalIn design.now output.source) outputs.now }
     ensures { OnOk result (EachFabric design.now (λ fabric. items.new.items ≡ items.old.items ++ map (output_assign fabric) (map output_of outputs.now))) }
 {
     for output in outputs {

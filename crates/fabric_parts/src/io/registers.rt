@@ -11,7 +11,8 @@ ghost use Rattle.fabric_model.specs.declared.driver.ClockUser.TheVariants.{Input
 
 use chipdb_reader::ChipDb;
 use fabric_model::{
-    ClockUser, LutSource, LutTable, Pin, Register, inputs, is_on, place_among, place_of,
+    ClockUser, LutTable, Pin, Register, Signal, inputs, is_on, net_or_0, net_or_1, place_among,
+    place_of,
 };
 use ice_image::AnyImage;
 use plane_map::TileKind;
@@ -92,18 +93,13 @@ fn pin_register(
         out: if pin.output { None } else { pin.din },
         clk: clock(db, pin),
         neg: is_on(db, image, TileKind::Io, pin.x, pin.y, b"NegClk"),
-        cen: db.net_of(pin.x, pin.y, b"io_global/cen"),
+        enable: net_or_1(db.net_of(pin.x, pin.y, b"io_global/cen")),
         sr: None,
         set: false,
         is_async: false,
         table: LutTable {
             word: SAME,
-            ins: [
-                source,
-                LutSource::Net(None),
-                LutSource::Net(None),
-                LutSource::Net(None),
-            ],
+            ins: [source, net_or_0(None), net_or_0(None), net_or_0(None)],
         },
     })
 }
@@ -131,12 +127,12 @@ fn clock(db: &ChipDb, pin: Pin) -> Option<u32>
 }
 
 /// What the register of a pin takes: `io_n/D_OUT_0` for an output pin, and the pin's value for an input pin.
-fn source(inputs: &[Pin], pin: Pin) -> Result<LutSource, AllocError>
+fn source(inputs: &[Pin], pin: Pin) -> Result<Signal, AllocError>
     ensures { IfOk result (λ source. source ≡ pin_source inputs.now pin) }
 {
     if pin.output {
-        return Ok(LutSource::Net(pin.dout));
+        return Ok(net_or_0(pin.dout));
     }
     let place = place_of(place_among(inputs, pin.x, pin.y, pin.n))?;
-    Ok(LutSource::Pin(place))
+    Ok(Signal::Input(place))
 }

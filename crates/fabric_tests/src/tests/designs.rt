@@ -1,7 +1,7 @@
 // Designs of a clocked inverter, and of one that is fed back.
 
 use super::{Case, Gives, is_so};
-use fabric_model::{ClockUser, LutInputs, LutSource, LutTable, Register};
+use fabric_model::{ClockUser, LutInputs, LutTable, Register, Signal};
 use sample_images::{INVERTER, SampleBit};
 use std::alloc::Global;
 
@@ -89,6 +89,12 @@ const SETS: SampleBit = (1, 1, 1, 44);
 
 const AT_ONCE: SampleBit = (1, 1, 1, 45);
 
+/// What an input reads that has no net, and is 0.
+const ZERO: Signal = Signal::Net {
+    net: None,
+    otherwise: false,
+};
+
 /// The register of the inverter, which the pin sets asynchronously.
 const REGISTER: Register = Register {
     x: 1,
@@ -97,17 +103,23 @@ const REGISTER: Register = Register {
     out: Some(2),
     clk: Some(4),
     neg: true,
-    cen: None,
+    enable: Signal::Net {
+        net: None,
+        otherwise: true,
+    },
     sr: Some(5),
     set: true,
     is_async: true,
     table: LutTable {
         word: 0x5555,
         ins: [
-            LutSource::Net(Some(1)),
-            LutSource::Net(None),
-            LutSource::Net(None),
-            LutSource::Net(None),
+            Signal::Net {
+                net: Some(1),
+                otherwise: false,
+            },
+            ZERO,
+            ZERO,
+            ZERO,
         ],
     },
 };

@@ -118,18 +118,12 @@ fn a_pin_that_can_be_switched_off_has_two_outputs(rt: HostRuntime) {
         Output {
             pin: SWITCHED,
             enable: false,
-            rule: Rule::Input {
-                stated: false,
-                net: Some(3),
-            },
+            source: net_or_0(Some(3)),
         },
         Output {
             pin: SWITCHED,
             enable: true,
-            rule: Rule::Input {
-                stated: true,
-                net: None,
-            },
+            source: net_or_1(None),
         },
     ];
     assert!(rt; are_outputs(rt.alloc(), &outputs));

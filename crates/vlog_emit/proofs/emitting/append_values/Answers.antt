@@ -1,6 +1,6 @@
 use Rattle.std.proofs.Common.{◌<◌, sym, subst}
 use Rattle.std.specs.Prelude.{All}
-use Rattle.vlog_emit.specs.Each.{nets_in, IsRuleIn}
+use Rattle.vlog_emit.specs.Each.{nets_in, IsSignalIn}
 use Rattle.vlog_emit.proofs.Within.{order-within, outputs-within}
 use Rattle.vlog_emit.proofs.emitting.append_values.Goals as goal
 
@@ -9,4 +9,4 @@ append_wires-requires-clause-within c = subst (All (λ class. class < nets_in c.
 
 pub append_outputs-requires : goal.append_outputs-requires
 append_outputs-requires c =
-    subst (All (λ output. IsRuleIn c.args.design.now output.rule)) (sym c.outputs.ensures.outputs) (outputs-within c.args.design.now c.outputs.ensures.design)
+    subst (All (λ output. IsSignalIn c.args.design.now output.source)) (sym c.outputs.ensures.outputs) (outputs-within c.args.design.now c.outputs.ensures.design)

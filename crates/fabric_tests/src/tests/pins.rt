@@ -1,7 +1,7 @@
 // Pins and global networks.
 
 use super::{Case, Gives, is_so};
-use fabric_model::{GlobalFrom, GlobalNet, Pin, PinKind};
+use fabric_model::{GlobalFrom, GlobalNet, Pin, PinKind, net_or_0, net_or_1};
 use fabric_wiring::{Output, Rule};
 use sample_images::SampleBit;
 use std::alloc::Global;

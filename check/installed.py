@@ -125,11 +125,16 @@ def layout_of(prefix):
     return ["--layout", str(prefix / "share/icestorm/silicon.layout")]
 
 
+def stat_of(prefix):
+    """The arguments that icebox_stat always has."""
+    return layout_of(prefix) + ["--all-pins"]
+
+
 def try_arguments(tries):
     """What the scripts make of their arguments."""
     prefix = tries.install("a prefix", tries.teller("teller"))
     layout = layout_of(prefix)
-    vlog = layout + ["--used-inputs"]
+    vlog, stat = layout + ["--all-pins", "--used-inputs"], stat_of(prefix)
     small, large = str(tries.databases / "chipdb-1k.txt"), str(tries.databases / "chipdb-8k.txt")
 
     def gets(words, wanted, **more):
@@ -152,11 +157,11 @@ def try_arguments(tries):
     gets(["icebox_explain", "b.asc"], layout + [large, "b.asc"])
     gets(["icebox_explain", "a.bin"], layout + [small, "a.bin"])
     gets(["icebox_vlog", "b.bin"], vlog + [large, "b.bin"])
-    gets(["icebox_stat", "b.bin"], layout + [large, "b.bin"])
-    gets(["icebox_stat", "with a space.asc"], layout + [large, "with a space.asc"], source=b"not read")
-    gets(["icebox_stat", "blanks.asc"], layout + [large, "blanks.asc"])
+    gets(["icebox_stat", "b.bin"], stat + [large, "b.bin"])
+    gets(["icebox_stat", "with a space.asc"], stat + [large, "with a space.asc"], source=b"not read")
+    gets(["icebox_stat", "blanks.asc"], stat + [large, "blanks.asc"])
     gets(["icebox_vlog", "none.asc"], vlog + [small, "none.asc"])
-    gets(["icebox_stat", "odd.asc"], layout + [small, "odd.asc"])
+    gets(["icebox_stat", "odd.asc"], stat + [small, "odd.asc"])
 
     # options with values, names behind --
     gets(["icebox_explain", "-t", "1 1", "b.asc"], layout + [large, "-t", "1 1", "b.asc"])
@@ -169,22 +174,24 @@ def try_arguments(tries):
     gets(["icebox_vlog", "b.asc", "-ppins.pcf"], vlog + ["-d", "ct256", large, "b.asc", "-ppins.pcf"])
     gets(["icebox_vlog", "-d", "qn84", "-p", "pins.pcf", "a.asc"], vlog + [small, "-d", "qn84", "-p", "pins.pcf", "a.asc"])
     gets(["icebox_vlog", "-n", "-p", "a.asc"], vlog + [small, "-n", "-p", "a.asc"])
-    gets(["icebox_vlog", "--used-inputs", "a.asc"], layout + [small, "--used-inputs", "a.asc"])
+    gets(["icebox_vlog", "--used-inputs", "a.asc"], layout + ["--all-pins", small, "--used-inputs", "a.asc"])
+    gets(["icebox_vlog", "--all-pins", "a.asc"], layout + ["--used-inputs", small, "--all-pins", "a.asc"])
+    gets(["icebox_stat", "--all-pins", "a.asc"], layout + [small, "--all-pins", "a.asc"])
 
     # pipes: none is named, or one that can't be read twice
     gets(["icebox_explain"], layout + [small], source=TEXT_1K)
     gets(["icebox_vlog", "-n", "top"], vlog + [large, "-n", "top"], source=TEXT_8K)
-    gets(["icebox_stat"], layout + [large], source=(tries.work / "b.bin").read_bytes())
-    gets(["icebox_stat"], layout + [small], source=BEHIND_PIPE)
+    gets(["icebox_stat"], stat + [large], source=(tries.work / "b.bin").read_bytes())
+    gets(["icebox_stat"], stat + [small], source=BEHIND_PIPE)
     gets(["icebox_vlog", "/dev/stdin", "-n", "top"], vlog + [large, "-n", "top"], source=TEXT_8K)
-    gets(["icebox_stat"], layout + [small], source=b"")
+    gets(["icebox_stat"], stat + [small], source=b"")
 
     # a database is named, or what isn't for the script to judge
-    gets(["icebox_stat", small], layout + [small], source=TEXT_8K)
+    gets(["icebox_stat", small], stat + [small], source=TEXT_8K)
     gets(["icebox_explain", large, "a.asc"], layout + [large, "a.asc"], source=b"not read")
     gets(["icebox_vlog", "a.asc", "b.asc"], vlog + ["a.asc", "b.asc"])
     gets(["icebox_vlog", "missing.asc"], vlog + ["missing.asc"])
-    gets(["icebox_stat", "/"], layout + ["/"])
+    gets(["icebox_stat", "/"], stat + ["/"])
     gets(["icebox_vlog", "--version"], ["--version"])
     try_places(tries, prefix)
     try_pipe(tries, prefix)
@@ -193,16 +200,16 @@ def try_arguments(tries):
 
 def try_places(tries, prefix):
     """Where databases are looked for, and what is said where there is none."""
-    stat, own, layout = ["icebox_stat", "a.asc"], prefix / "share/icestorm/chipdb", layout_of(prefix)
+    stat, own, always = ["icebox_stat", "a.asc"], prefix / "share/icestorm/chipdb", stat_of(prefix)
     if (CHIPDB / "chipdb-1k.txt").exists():
-        tries.gets(prefix, stat, layout + [str(CHIPDB / "chipdb-1k.txt"), "a.asc"], variables={})
+        tries.gets(prefix, stat, always + [str(CHIPDB / "chipdb-1k.txt"), "a.asc"], variables={})
     tries.stops(prefix, ["icebox_stat", "other.asc"], ("chipdb-2k.txt", str(own), str(CHIPDB), "ICEBOX_CHIPDB"), variables={})
     tries.stops(prefix, stat, ("chipdb-1k.txt", "no place", "ICEBOX_CHIPDB"), variables={"ICEBOX_CHIPDB": "no place"})
     tries.stops(prefix, ["icebox_vlog"], ("chipdb-8k.txt", "no place"), source=TEXT_8K, variables={"ICEBOX_CHIPDB": "no place"})
     shutil.copytree(tries.databases, own)
-    tries.gets(prefix, stat, layout + [str(own / "chipdb-1k.txt"), "a.asc"], variables={})
+    tries.gets(prefix, stat, always + [str(own / "chipdb-1k.txt"), "a.asc"], variables={})
     shutil.copytree(tries.databases, tries.work / "-d")
-    tries.gets(prefix, stat, layout + ["./-d/chipdb-1k.txt", "a.asc"], variables={"ICEBOX_CHIPDB": "-d"})
+    tries.gets(prefix, stat, always + ["./-d/chipdb-1k.txt", "a.asc"], variables={"ICEBOX_CHIPDB": "-d"})
     tries.stops(prefix, ["icebox_stat"], ("temporary",), source=TEXT_1K, variables={"TMPDIR": "/no/place"})
     tries.stops(prefix, ["icebox_stat"], ("can't be read",), preexec_fn=lambda: os.close(0))
     tries.tell("no temporary file is left", ", ".join(path.name for path in tries.copies.iterdir()))
@@ -217,7 +224,7 @@ def try_pipe(tries, prefix):
         run = tries.run_script(prefix, ["icebox_stat", "/dev/fd/%d" % reading], b"not read", {"ICEBOX_CHIPDB": str(tries.databases)}, shell,
                                pass_fds=[reading])
         os.close(reading)
-        words = ["icebox_stat", *layout_of(prefix), str(tries.databases / "chipdb-8k.txt")]
+        words = ["icebox_stat", *stat_of(prefix), str(tries.databases / "chipdb-8k.txt")]
         wanted = "".join(word + "\n" for word in words).encode() + TEXT_8K
         tries.tell("%s: icebox_stat of a pipe" % " ".join(shell), "" if run.stdout == wanted else "it gets: " + first_lines(run.stdout + run.stderr))
 
@@ -226,7 +233,7 @@ def try_terminal(tries, prefix):
     """At a terminal a script waits for no image: the program says its usage."""
     ours, theirs = pty.openpty()
     os.write(ours, b"\4" * len(tries.shells))
-    tries.gets(prefix, ["icebox_stat"], layout_of(prefix), stdin=theirs)
+    tries.gets(prefix, ["icebox_stat"], stat_of(prefix), stdin=theirs)
     os.close(ours)
     os.close(theirs)
 

@@ -81,10 +81,12 @@ def database_of(device: str, share: Path) -> str:
     raise Stop(READING, "there is no %s in %s" % (name, folder if folder else "%s or %s" % (share / "chipdb", DATABASES)))
 
 
-def module_text(request: Request, database: str, tools: Tools) -> str:
-    """The module that icebox_vlog writes of the configuration. Raises Stop with what it says if it refuses it."""
+def module_text(request: Request, database: str, share: Path, tools: Tools) -> str:
+    """The module that icebox_vlog writes of the configuration, without pins of every kind, which the modules that are read here don't have.
+    Raises Stop with what it says if it refuses it."""
     image = str(Path(request.bitstream or request.text).absolute())
-    ended = tools.run("icebox_vlog", [str(tools.here / "icebox_vlog"), "--", str(Path(database).absolute()), image], "module.v")
+    words = [str(tools.here / "icestorm"), "icebox_vlog", "--used-inputs", "--layout", str((share / "silicon.layout").absolute())]
+    ended = tools.run("icebox_vlog", words + ["--", str(Path(database).absolute()), image], "module.v")
     if ended.returncode != 0:
         said = ended.stderr.decode(errors="replace").strip().splitlines()
         status = ended.returncode if 0 < ended.returncode <= 6 else READING
@@ -116,7 +118,7 @@ def verify(request: Request, tools: Tools) -> int:
     database = database_of(routed.device, share)
     pins = pins_of(request, routed.device, database, tools)
     tools.progress("icebox_vlog writes the module")
-    module = read_module(module_text(request, database, tools))
+    module = read_module(module_text(request, database, share, tools))
     tools.progress("yosys reads the models of the cells")
     kinds = list(dict.fromkeys(kind_of(cell) for cell in netlist.cells if cell.type not in RAMS and cell.type != SWITCH))
     built = Builder(netlist, read_models(kinds, tools) if kinds else {}).build()

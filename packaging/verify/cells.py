@@ -17,7 +17,7 @@ RAMS = {"SB_RAM40_4K": (RISING, RISING), "SB_RAM40_4KNR": (FALLING, RISING), "SB
 PINS = "SB_IO", "SB_GB_IO"
 FLIP_FLOPS = tuple("SB_DFF" + edge + kind for edge in ("", "N") for kind in ("", "E", "SR", "R", "SS", "S", "ESR", "ER", "ESS", "ES"))
 KNOWN = ("SB_LUT4", "SB_CARRY", "SB_GB") + PINS + FLIP_FLOPS
-# the types of pins that icebox_vlog takes: the upper four bits of PIN_TYPE, and the lower two
+# the types of pins that icebox_vlog takes without --all-pins: the upper four bits of PIN_TYPE, and the lower two
 PIN_OUTPUTS, PIN_INPUTS = ("0000", "0110", "0101", "1010"), ("00", "01")
 
 GATES = {"$_BUF_": ("A", 0b10), "$_NOT_": ("A", 0b01), "$_AND_": ("AB", 0b1000), "$_NAND_": ("AB", 0b0111), "$_OR_": ("AB", 0b1110),

@@ -8,7 +8,7 @@ use Rattle.vlog_semantics.specs.Entries.{Entry as ModuleEntry}
 use Rattle.vlog_run.specs.Events.{events_of}
 use Rattle.vlog_semantics.specs.Run.{module_run}
 use Rattle.vlog_run.specs.Text.{bit_digit, word_text, registers_text, entry_line, run_text}
-use Rattle.fabric_model.specs.declared.pin.Pin.{Pin}
+use Rattle.fabric_model.specs.declared.input_port.InputPort.{InputPort}
 use Rattle.fabric_model.specs.Fabric.{Fabric}
 use Rattle.fabric_model.specs.Outputs.{Output}
 use Rattle.fabric_model.specs.Steps.{Entry}
@@ -17,7 +17,7 @@ use Rattle.design_answers.specs.Lines.{fabric_event, fabric_events, fabric_line,
 
 -- ---- lines
 
-module _ (input_name : Pin → List ℕ) (name_of : Output → List ℕ) (fabric : Fabric) where
+module _ (input_name : InputPort → List ℕ) (name_of : Output → List ℕ) (fabric : Fabric) where
   -- the registers of a module are the state of the fabric
   state-shown : (entry : Entry) (other : ModuleEntry) → MatchesAs input_name name_of fabric entry other → registers_text other ≡ state_text entry.state
   state-shown entry other matches =
@@ -48,7 +48,7 @@ same-events (event ∷ events) = ap (λ rest. event ∷ rest) (same-events event
 -- ---- the text
 
 -- The lines of a module's run, if it matches the run of a fabric.
-pub run-shown : (input_name : Pin → List ℕ) (name_of : Output → List ℕ) (fabric : Fabric) (m : Parts) (registers : Bool) (events : List ℕ) (entries : List Entry)
+pub run-shown : (input_name : InputPort → List ℕ) (name_of : Output → List ℕ) (fabric : Fabric) (m : Parts) (registers : Bool) (events : List ℕ) (entries : List Entry)
     → AllZip (MatchesAs input_name name_of fabric) entries (module_run m (map module_event (fabric_events m.ports events)))
     → run_text m (events_of m.ports events) registers ≡ fabric_text registers entries
 unfolding run_text

@@ -18,14 +18,14 @@ use Rattle.pin_file.specs.declared.pin_name.PinName.{PinName}
 use Rattle.pin_file.specs.declared.fault.PinFileFault.{PinFileFault}
 use Rattle.pin_file.specs.Faults.{pin_fault_of, ports_of}
 use Rattle.pin_file.specs.Packages.{Package, package_of}
-use Rattle.port_names.specs.Named.{AreAccepted, named_module, named_output, named_port, named_ports, port_pins}
+use Rattle.port_names.specs.Named.{AreAccepted, named_input, named_module, named_output, named_ports, port_pins}
 use Rattle.port_names.specs.NamedLaw.{RunsNamed}
 use Rattle.port_names.proofs.IsFabric.{named-is-fabric}
 use Rattle.vlog_forms.specs.Printed.{printed}
 use Rattle.vlog_forms.proofs.PrintedTokens.{printed-spells}
 use Rattle.vlog_forms.proofs.Spelled.{one-module}
-use Rattle.fabric_model.specs.declared.lut_inputs.LutInputs.{LutInputs}
-use Rattle.fabric_model.specs.Fabric.{fabric_with, fabric_of}
+use Rattle.fabric_model.specs.declared.options.FabricOptions.{FabricOptions}
+use Rattle.fabric_model.specs.Fabric.{Fabric, fabric_with}
 use Rattle.graph_order.specs.Wiring.{IsWriteOrder}
 use Rattle.fabric_model.specs.Wiring.{wiring_of}
 use Rattle.fabric_model.specs.Faults.{Fault, design_fault}
@@ -39,41 +39,45 @@ use Rattle.tool_inputs.specs.Databases.{database_read}
 use Rattle.tool_inputs.specs.Images.{image_read}
 use Rattle.tool_run.specs.Runs.{Does, Outside, Scene}
 use Rattle.tool_run.specs.Tasks.{Answer, Done, Task, usage_error}
-use Rattle.tool_inputs.specs.Commands.{has_flag, is_taken}
+use Rattle.tool_inputs.specs.Commands.{is_taken}
 use Rattle.tool_inputs.specs.Outcomes.{asked}
 use Rattle.design_tools.specs.declared.request.TheConstants.{ICEBOX_VLOG_HELP}
 use Rattle.design_tools.specs.Names.{name_given}
 use Rattle.design_answers.specs.Lines.{fabric_events}
 use Rattle.design_answers.specs.Order.{write_order}
 use Rattle.design_tools.specs.Pins.{database_text, pin_text}
-use Rattle.design_tools.specs.Vlog.{Named, icebox_vlog, inputs_wanted, module_with_names, named_answer, named_by, named_where, named_with, pins_in, written, written_module, written_named, written_with, vlog_answer, vlog_command, vlog_name, vlog_outcome, vlog_task_by, vlog_task_of, vlog_usage}
-use Rattle.design_tools.specs.Fabric.{HasNoPinFault, PromisesFabric, SpellsFabric, WritesFabric, layout_given, names_given, package_given, texts_of_design}
+use Rattle.design_tools.specs.Vlog.{Named, icebox_vlog, module_with_names, named_answer, named_by, named_where, named_with, options_in, pins_in, written, written_module, written_named, written_with, vlog_answer, vlog_command, vlog_name, vlog_outcome, vlog_task_by, vlog_task_of, vlog_usage}
+use Rattle.design_tools.specs.Fabric.{HasNoPinFault, PromisesFabric, SpellsFabric, WritesFabric, fabric_meant, layout_given, names_given, options_given, package_given, texts_of_design}
 use Rattle.tool_inputs.proofs.Appended.{first_gives, helped-kept}
 use Rattle.tool_inputs.proofs.Databases.{read-few, read-fit}
+use Rattle.design_tools.proofs.FewNets.{few-nets}
 use Rattle.design_answers.proofs.Lines.{run-shown}
 use Rattle.design_answers.proofs.Order.{order-is}
 
 -- ---- the module
 
 -- if there is no fault, the order that the function gives is the write order
-ordered : (inputs : LutInputs) (db : Database) (image : Configuration) → IsFit db → design_fault inputs db image ≡ None
-    → IsWriteOrder (wiring_of (fabric_with inputs db image)) (write_order (wiring_of (fabric_with inputs db image)))
-ordered inputs db image fit none =
-    let fabric = fabric_with inputs db image in
+ordered : (options : FabricOptions) (db : Database) (image : Configuration) → IsFit db → design_fault options db image ≡ None
+    → IsWriteOrder (wiring_of (fabric_with options db image)) (write_order (wiring_of (fabric_with options db image)))
+ordered options db image fit none =
+    let fabric = fabric_with options db image in
     let wiring = wiring_of fabric in
-    let order = taken-order image.layout.device fabric (design-taken inputs db image none).fabric (fabric-within db image fit inputs) in
+    let order = taken-order image.layout.device fabric (design-taken options db image none).fabric (fabric-within db image fit options) in
     subst (IsWriteOrder wiring) (order-is wiring order.it order.is) order.is
 
-module _ (inputs : LutInputs) (name : List ℕ) (is_name : IsName name) (db : Database) (image : Configuration) (fit : IsFit db) (few : db.chip.nets ≤ 2 ^ 64)
-    (none : design_fault inputs db image ≡ None) where
+module _ (options : FabricOptions) (name : List ℕ) (is_name : IsName name) (db : Database) (image : Configuration) (fit : IsFit db) (few : (fabric_with options db image).nets ≤ 2 ^ 64)
+    (none : design_fault options db image ≡ None) where
   abbrev order : List ℕ
-  order = write_order (wiring_of (fabric_with inputs db image))
+  order = write_order (wiring_of (fabric_with options db image))
 
-  order-right : IsWriteOrder (wiring_of (fabric_with inputs db image)) order
-  order-right = ordered inputs db image fit none
+  abbrev meant : Fabric
+  meant = fabric_meant options db image
+
+  order-right : IsWriteOrder (wiring_of (fabric_with options db image)) order
+  order-right = ordered options db image fit none
 
   -- a module that runs as the fabric
-  spelled : (named : List PinName) (m : Parts) → IsModule m → RunsNamed named db image m → SpellsFabric named db image (printed m)
+  spelled : (named : List PinName) (m : Parts) → IsModule m → RunsNamed named options db image m → SpellsFabric named meant (printed m)
   spelled named m whole runs =
       let spells = printed-spells m whole in
       record {
@@ -82,50 +86,50 @@ module _ (inputs : LutInputs) (name : List ℕ) (is_name : IsName name) (db : Da
         one_run = runs.one_run;
         alike = runs.alike;
         lines = λ registers events entries run.
-            run-shown (named_port named) (named_output named) (fabric_of db image) m registers events entries
+            run-shown (named_input named) (named_output named) meant m registers events entries
             (runs.alike (fabric_events m.ports events) entries
-            (subst (λ ports. IsRun (fabric_of db image) (fabric_events ports events) entries) (sym runs.ports) run));
+            (subst (λ ports. IsRun meant (fabric_events ports events) entries) (sym runs.ports) run));
       }
 
-  own-runs : RunsNamed [] db image (module_of (fabric_with inputs db image) order name)
+  own-runs : RunsNamed [] options db image (module_of (fabric_with options db image) order name)
   unfolding module_of fabric_with named_ports
   own-runs = record {
     ports = refl;
-    one_run = λ events. design-run inputs db image fit none events;
-    alike = λ events entries run. design-is-module inputs db image fit few none order order-right name events entries run;
+    one_run = λ events. design-run options db image fit none events;
+    alike = λ events entries run. design-is-module options db image fit few none order order-right name events entries run;
   }
 
-  own-spelled : SpellsFabric [] db image (printed (written_module inputs name db image))
+  own-spelled : SpellsFabric [] meant (printed (written_module options name db image))
   unfolding written_module
   own-spelled =
-      spelled [] (module_of (fabric_with inputs db image) order name) (design-well_formed inputs db image fit few none order order-right name is_name) own-runs
+      spelled [] (module_of (fabric_with options db image) order name) (design-well_formed options db image fit few none order order-right name is_name) own-runs
 
-  named-spelled : (named : List PinName) → AreAccepted (fabric_of db image).pins named → SpellsFabric named db image (printed (module_with_names named inputs name db image))
+  named-spelled : (named : List PinName) → AreAccepted meant.pins named → SpellsFabric named meant (printed (module_with_names named options name db image))
   unfolding module_with_names
   named-spelled named accepted =
-      let law = named-is-fabric named inputs db image fit few none accepted order name order-right is_name in
-      spelled named (named_module named (fabric_with inputs db image) order name) law.0 law.1
+      let law = named-is-fabric named options db image fit few none accepted order name order-right is_name in
+      spelled named (named_module named (fabric_with options db image) order name) law.0 law.1
 
 -- ---- the answer
 
 -- what the bytes are, by the package of a pin file if there is one
-IsWritten : Option (List ℕ) → List (List ℕ) → List ℕ → Database → Configuration → Type 0
-IsWritten package_name texts bytes db image =
-    HasNoPinFault package_name texts × SpellsFabric (names_given package_name texts (fabric_of db image).pins) db image bytes
+IsWritten : FabricOptions → Option (List ℕ) → List (List ℕ) → List ℕ → Database → Configuration → Type 0
+IsWritten options package_name texts bytes db image =
+    HasNoPinFault package_name texts × SpellsFabric (names_given package_name texts (fabric_meant options db image).pins) (fabric_meant options db image) bytes
 
-own-done : (inputs : LutInputs) (name : List ℕ) → IsName name → (db : Database) (image : Configuration) → IsFit db → db.chip.nets ≤ 2 ^ 64 → (bytes : List ℕ) (fault : Option Fault)
-    → design_fault inputs db image ≡ fault → written_with inputs name db image fault ≡ Done bytes → SpellsFabric [] db image bytes
-own-done inputs name is_name db image fit few bytes (Some fault) is done = absurd cc
-own-done inputs name is_name db image fit few bytes None is done =
-    let same : printed (written_module inputs name db image) ≡ bytes = cc in
-    subst (SpellsFabric [] db image) same (own-spelled inputs name is_name db image fit few is)
+own-done : (options : FabricOptions) (name : List ℕ) → IsName name → (db : Database) (image : Configuration) → IsFit db → (fabric_with options db image).nets ≤ 2 ^ 64 → (bytes : List ℕ) (fault : Option Fault)
+    → design_fault options db image ≡ fault → written_with options name db image fault ≡ Done bytes → SpellsFabric [] (fabric_meant options db image) bytes
+own-done options name is_name db image fit few bytes (Some fault) is done = absurd cc
+own-done options name is_name db image fit few bytes None is done =
+    let same : printed (written_module options name db image) ≡ bytes = cc in
+    subst (SpellsFabric [] (fabric_meant options db image)) same (own-spelled options name is_name db image fit few is)
 
 -- the pins are the same whichever inputs LUTs read
-pins-same : (inputs : LutInputs) (db : Database) (image : Configuration) → (fabric_with inputs db image).pins ≡ (fabric_of db image).pins
+pins-same : (options : FabricOptions) (db : Database) (image : Configuration) → (fabric_with options db image).pins ≡ (fabric_meant options db image).pins
 unfolding fabric_with
-pins-same inputs db image = refl
+pins-same options db image = refl
 
-module _ (inputs : LutInputs) (name : List ℕ) (is_name : IsName name) (db : Database) (image : Configuration) (fit : IsFit db) (few : db.chip.nets ≤ 2 ^ 64)
+module _ (options : FabricOptions) (name : List ℕ) (is_name : IsName name) (db : Database) (image : Configuration) (fit : IsFit db) (few : (fabric_with options db image).nets ≤ 2 ^ 64)
     (chosen : Package) (file bytes : List ℕ) where
   -- the names that the pin file gives to the pins of a fabric
   abbrev given : List Pin → List PinName
@@ -133,27 +137,27 @@ module _ (inputs : LutInputs) (name : List ℕ) (is_name : IsName name) (db : Da
 
   -- the pin file has no fault, and bytes spell the fabric by its names
   abbrev IsNamed : Type 0
-  IsNamed = (pin_fault_of chosen file ≡ None) × SpellsFabric (given (fabric_of db image).pins) db image bytes
+  IsNamed = (pin_fault_of chosen file ≡ None) × SpellsFabric (given (fabric_meant options db image).pins) (fabric_meant options db image) bytes
 
-  accepted-done : (fault : Option PinFileFault) → design_fault inputs db image ≡ None → pin_fault_of chosen file ≡ fault
-      → named_with inputs name (given (fabric_of db image).pins) db image fault ≡ Done bytes → IsNamed
+  accepted-done : (fault : Option PinFileFault) → design_fault options db image ≡ None → pin_fault_of chosen file ≡ fault
+      → named_with options name (given (fabric_meant options db image).pins) db image fault ≡ Done bytes → IsNamed
   accepted-done (Some fault) none is done = absurd cc
   accepted-done None none is done =
-      let names = given (fabric_of db image).pins in
-      let same : printed (module_with_names names inputs name db image) ≡ bytes = cc in (
+      let names = given (fabric_meant options db image).pins in
+      let same : printed (module_with_names names options name db image) ≡ bytes = cc in (
         is,
-        subst (SpellsFabric names db image) same
-            (named-spelled inputs name is_name db image fit few none names (record { chosen = chosen; text = file; faultless = is; are = refl })),
+        subst (SpellsFabric names (fabric_meant options db image)) same
+            (named-spelled options name is_name db image fit few none names (record { chosen = chosen; text = file; faultless = is; are = refl })),
       )
 
-  named-done : (fault : Option Fault) → design_fault inputs db image ≡ fault → named_where inputs name chosen file db image fault ≡ Done bytes → IsNamed
+  named-done : (fault : Option Fault) → design_fault options db image ≡ fault → named_where options name chosen file db image fault ≡ Done bytes → IsNamed
   named-done (Some fault) is done = absurd cc
   named-done None is done =
       accepted-done (pin_fault_of chosen file) is refl
-      (subst (λ pins. named_with inputs name (given pins) db image (pin_fault_of chosen file) ≡ Done bytes) (pins-same inputs db image) done)
+      (subst (λ pins. named_with options name (given pins) db image (pin_fault_of chosen file) ≡ Done bytes) (pins-same options db image) done)
 
-module _ (package_name layout : Option (List ℕ)) (all : List (List ℕ)) (bytes : List ℕ) (answer : Database → Configuration → Answer)
-    (shown : (db : Database) (image : Configuration) → IsFit db → db.chip.nets ≤ 2 ^ 64 → answer db image ≡ Done bytes → IsWritten package_name all bytes db image) where
+module _ (options : FabricOptions) (package_name layout : Option (List ℕ)) (all : List (List ℕ)) (bytes : List ℕ) (answer : Database → Configuration → Answer)
+    (shown : (db : Database) (image : Configuration) → IsFit db → (fabric_with options db image).nets ≤ 2 ^ 64 → answer db image ≡ Done bytes → IsWritten options package_name all bytes db image) where
   abbrev texts : List (List ℕ)
   texts = texts_of_design package_name all
 
@@ -164,12 +168,12 @@ module _ (package_name layout : Option (List ℕ)) (all : List (List ℕ)) (byte
   image_text = get_or texts 1 []
 
   done-of : (layouts : Layouts) (db : Result Database (List ℕ)) (image : Result Configuration (List ℕ))
-      → layouts_for layout ≡ Ok layouts → database_read db_text ≡ db → image_read layouts image_text ≡ image → answer_of_both db image answer ≡ Done bytes → WritesFabric package_name layout all bytes
+      → layouts_for layout ≡ Ok layouts → database_read db_text ≡ db → image_read layouts image_text ≡ image → answer_of_both db image answer ≡ Done bytes → WritesFabric options package_name layout all bytes
   unfolding IsWritten
   done-of layouts (Err text) image layouts_are db_is image_is done = absurd cc
   done-of layouts (Ok db) (Err text) layouts_are db_is image_is done = absurd cc
   done-of layouts (Ok db) (Ok image) layouts_are db_is image_is done =
-      let found = shown db image (read-fit db_text db db_is) (read-few db_text db db_is) done in
+      let found = shown db image (read-fit db_text db db_is) (few-nets options db image (read-few db_text db db_is)) done in
       record {
         layouts = layouts;
         db = db;
@@ -181,27 +185,27 @@ module _ (package_name layout : Option (List ℕ)) (all : List (List ℕ)) (byte
         spells = found.1;
       }
 
-  done-under : (read : Result Layouts (List ℕ)) → layouts_for layout ≡ read → answer_under read (answer_to_both answer db_text image_text) ≡ Done bytes → WritesFabric package_name layout all bytes
+  done-under : (read : Result Layouts (List ℕ)) → layouts_for layout ≡ read → answer_under read (answer_to_both answer db_text image_text) ≡ Done bytes → WritesFabric options package_name layout all bytes
   done-under (Ok layouts) are done = done-of layouts (database_read db_text) (image_read layouts image_text) are refl refl done
   done-under (Err text) are done = absurd cc
 
 -- what is made without a pin file
-plain-writes : (inputs : LutInputs) (name : List ℕ) → IsName name → (layout : Option (List ℕ)) (texts : List (List ℕ)) (bytes : List ℕ)
-    → vlog_answer inputs layout name texts ≡ Done bytes → WritesFabric None layout texts bytes
+plain-writes : (options : FabricOptions) (name : List ℕ) → IsName name → (layout : Option (List ℕ)) (texts : List (List ℕ)) (bytes : List ℕ)
+    → vlog_answer options layout name texts ≡ Done bytes → WritesFabric options None layout texts bytes
 unfolding IsWritten
-plain-writes inputs name is_name layout texts bytes done =
-    done-under None layout texts bytes (written inputs name)
-    (λ db image fit few done. (tt, own-done inputs name is_name db image fit few bytes (design_fault inputs db image) refl done))
+plain-writes options name is_name layout texts bytes done =
+    done-under options None layout texts bytes (written options name)
+    (λ db image fit few done. (tt, own-done options name is_name db image fit few bytes (design_fault options db image) refl done))
     (layouts_for layout) refl done
 
 -- and with one
-named-writes : (inputs : LutInputs) (name package_name : List ℕ) → IsName name → (layout : Option (List ℕ)) (texts : List (List ℕ)) (bytes : List ℕ)
-    → named_answer inputs layout name package_name texts ≡ Done bytes → WritesFabric (Some package_name) layout texts bytes
+named-writes : (options : FabricOptions) (name package_name : List ℕ) → IsName name → (layout : Option (List ℕ)) (texts : List (List ℕ)) (bytes : List ℕ)
+    → named_answer options layout name package_name texts ≡ Done bytes → WritesFabric options (Some package_name) layout texts bytes
 unfolding IsWritten
-named-writes inputs name package_name is_name layout texts bytes done =
+named-writes options name package_name is_name layout texts bytes done =
     let chosen = package_of package_name (database_text texts) in
-    done-under (Some package_name) layout texts bytes (written_named inputs name chosen (pin_text texts))
-    (λ db image fit few done. named-done inputs name is_name db image fit few chosen (pin_text texts) bytes (design_fault inputs db image) refl done)
+    done-under options (Some package_name) layout texts bytes (written_named options name chosen (pin_text texts))
+    (λ db image fit few done. named-done options name is_name db image fit few chosen (pin_text texts) bytes (design_fault options db image) refl done)
     (layouts_for layout) refl done
 
 -- ---- the arguments
@@ -218,44 +222,44 @@ given-name None name is = let same : codes "chip" ≡ name = cc in subst IsName 
 given-name (Some text) name is = name-by text name (nat_le (length text) 64) (is_name text) refl is
 
 -- what a task makes of texts, the first of which is a layout file if one is named
-abbrev TaskWrites : Option (List ℕ) → Option Text → Task → Type 0
-TaskWrites package_name layout task = (texts : List (List ℕ)) (bytes : List ℕ) → task.answer texts ≡ Done bytes → UnderLayout layout (WritesFabric package_name) texts bytes
+abbrev TaskWrites : FabricOptions → Option (List ℕ) → Option Text → Task → Type 0
+TaskWrites options package_name layout task = (texts : List (List ℕ)) (bytes : List ℕ) → task.answer texts ≡ Done bytes → UnderLayout layout (WritesFabric options package_name) texts bytes
 
-task-of : (used : Bool) (name file package_name layout db image : Option Text) → ((one : Text) → name ≡ Some one → IsName one)
-    → TaskWrites package_name layout (vlog_task_of used name (named_by file package_name) layout db image)
-task-of used (Some name) None None layout (Some db) image is_name texts bytes done =
-    first_gives layout (λ given all. vlog_answer (inputs_wanted used) given name all) (WritesFabric None)
-    (λ given all made done. plain-writes (inputs_wanted used) name (is_name name refl) given all made done) texts bytes done
-task-of used (Some name) (Some file) (Some package_name) layout (Some db) image is_name texts bytes done =
-    first_gives layout (λ given all. named_answer (inputs_wanted used) given name package_name all) (WritesFabric (Some package_name))
-    (λ given all made done. named-writes (inputs_wanted used) name package_name (is_name name refl) given all made done) texts bytes done
-task-of used (Some name) (Some file) None layout db image is_name texts bytes done = absurd cc
-task-of used (Some name) None (Some package_name) layout db image is_name texts bytes done = absurd cc
-task-of used (Some name) None None layout None image is_name texts bytes done = absurd cc
-task-of used (Some name) (Some file) (Some package_name) layout None image is_name texts bytes done = absurd cc
-task-of used None file package_name layout db image is_name texts bytes done = absurd cc
+task-of : (options : FabricOptions) (name file package_name layout db image : Option Text) → ((one : Text) → name ≡ Some one → IsName one)
+    → TaskWrites options package_name layout (vlog_task_of options name (named_by file package_name) layout db image)
+task-of options (Some name) None None layout (Some db) image is_name texts bytes done =
+    first_gives layout (λ given all. vlog_answer options given name all) (WritesFabric options None)
+    (λ given all made done. plain-writes options name (is_name name refl) given all made done) texts bytes done
+task-of options (Some name) (Some file) (Some package_name) layout (Some db) image is_name texts bytes done =
+    first_gives layout (λ given all. named_answer options given name package_name all) (WritesFabric options (Some package_name))
+    (λ given all made done. named-writes options name package_name (is_name name refl) given all made done) texts bytes done
+task-of options (Some name) (Some file) None layout db image is_name texts bytes done = absurd cc
+task-of options (Some name) None (Some package_name) layout db image is_name texts bytes done = absurd cc
+task-of options (Some name) None None layout None image is_name texts bytes done = absurd cc
+task-of options (Some name) (Some file) (Some package_name) layout None image is_name texts bytes done = absurd cc
+task-of options None file package_name layout db image is_name texts bytes done = absurd cc
 
-task-writes : (args : List Text) → TaskWrites (package_given args) (layout_given args) (asked icebox_vlog args)
+task-writes : (args : List Text) → TaskWrites (options_given args) (package_given args) (layout_given args) (asked icebox_vlog args)
 unfolding asked
 task-writes args = by_case (is_taken vlog_command args)
   where
     rows : List Row
     rows = matches_of vlog_command args
 
-    by_case : (taken : Bool) → TaskWrites (package_given args) (layout_given args) (if taken then vlog_task_by rows else usage_error vlog_name vlog_usage)
+    by_case : (taken : Bool) → TaskWrites (options_given args) (package_given args) (layout_given args) (if taken then vlog_task_by rows else usage_error vlog_name vlog_usage)
     by_case true =
-        task-of (has_flag (codes "used-inputs") rows) (name_given (first_of (codes "name") rows)) (first_of (codes "pins") rows) (first_of (codes "package") rows)
+        task-of (options_in rows) (name_given (first_of (codes "name") rows)) (first_of (codes "pins") rows) (first_of (codes "package") rows)
         (first_of (codes "layout") rows) (first_of (codes "db") rows) (first_of (codes "image") rows) (given-name (first_of (codes "name") rows))
     by_case false = λ texts bytes done. absurd cc
 
 -- ---- a run
 
-target-of : (used : Bool) (name : Option Text) (pins : Option (Option Named)) (layout db image : Option Text) → (vlog_task_of used name pins layout db image).target ≡ None
-target-of used (Some name) (Some (Some pins)) layout (Some db) image = refl
-target-of used (Some name) (Some None) layout (Some db) image = refl
-target-of used (Some name) (Some pins) layout None image = refl
-target-of used (Some name) None layout db image = refl
-target-of used None pins layout db image = refl
+target-of : (options : FabricOptions) (name : Option Text) (pins : Option (Option Named)) (layout db image : Option Text) → (vlog_task_of options name pins layout db image).target ≡ None
+target-of options (Some name) (Some (Some pins)) layout (Some db) image = refl
+target-of options (Some name) (Some None) layout (Some db) image = refl
+target-of options (Some name) (Some pins) layout None image = refl
+target-of options (Some name) None layout db image = refl
+target-of options None pins layout db image = refl
 
 -- the module goes to standard output
 task-target : (args : List Text) → (asked icebox_vlog args).target ≡ None
@@ -267,7 +271,7 @@ task-target args = by_case (is_taken vlog_command args)
 
     by_case : (taken : Bool) → (if taken then vlog_task_by rows else usage_error vlog_name vlog_usage).target ≡ None
     by_case true =
-        target-of (has_flag (codes "used-inputs") rows) (name_given (first_of (codes "name") rows)) (pins_in rows) (first_of (codes "layout") rows)
+        target-of (options_in rows) (name_given (first_of (codes "name") rows)) (pins_in rows) (first_of (codes "layout") rows)
         (first_of (codes "db") rows) (first_of (codes "image") rows)
     by_case false = refl
 
@@ -275,4 +279,4 @@ pub promise-kept : {F I O E : Type 0} (by : Outside F I O E) (args : List Text) 
     → PromisesFabric by args status old new
 promise-kept by args status old new does done asks =
     let same : asked icebox_vlog args ≡ vlog_outcome args = helped-no vlog_name ICEBOX_VLOG_HELP.now args (asked icebox_vlog args) asks in
-    helped-kept (UnderLayout (layout_given args) (WritesFabric (package_given args))) by (asked icebox_vlog args) (vlog_outcome args) status old new same (task-writes args) (task-target args) does done
+    helped-kept (UnderLayout (layout_given args) (WritesFabric (options_given args) (package_given args))) by (asked icebox_vlog args) (vlog_outcome args) status old new same (task-writes args) (task-target args) does done

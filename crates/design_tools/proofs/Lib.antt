@@ -2,6 +2,8 @@
 mod CommandLines
 -- the texts that are taken if a pin file names the ports
 mod NamedIntakes
+-- a fabric has few nets, with the inner nets of its pins too
+mod FewNets
 -- what is written for a design, and what is told if there is none
 mod Written
 -- the text that is written for a database and an image spells their fabric

@@ -7,7 +7,7 @@ use Rattle.chipdb_reader.specs.Database.{Database}
 use Rattle.vlog_module.specs.Parts.{Parts}
 use Rattle.vlog_forms.specs.Printed.{printed}
 use Rattle.fabric_model.specs.declared.pin.Pin.{Pin}
-use Rattle.fabric_model.specs.declared.lut_inputs.LutInputs.{LutInputs}
+use Rattle.fabric_model.specs.declared.options.FabricOptions.{FabricOptions}
 use Rattle.fabric_model.specs.Fabric.{Fabric, fabric_with}
 use Rattle.fabric_model.specs.Wiring.{wiring_of}
 use Rattle.fabric_model.specs.Faults.{Fault}
@@ -34,47 +34,47 @@ use Rattle.design_answers.proofs.Order.{order-is}
 
 -- the text of the module of a design
 pub written_done : (name : List ℕ) (db : Database) (image : Configuration) (design : Kept) (m : Parts) (text : List ℕ) → IsDesignOf db image design
-    → m ≡ module_of (fabric_with design.parts.lut_inputs db image) design.order name → text ≡ printed m → written design.parts.lut_inputs name db image ≡ Done text
+    → m ≡ module_of (fabric_with design.parts.options db image) design.order name → text ≡ printed m → written design.parts.options name db image ≡ Done text
 unfolding written_module
 written_done name db image design m text is made shown =
-    let fabric = fabric_with design.parts.lut_inputs db image in
-    ap (written_with design.parts.lut_inputs name db image) is.taken
+    let fabric = fabric_with design.parts.options db image in
+    ap (written_with design.parts.options name db image) is.taken
     ∙ sym (ap Done (shown ∙ ap printed (made ∙ ap (λ order. module_of fabric order name) (order-is (wiring_of fabric) design.order is.kept.order))))
 
 -- the text of the module whose ports have the names of a pin file
 pub named_done : (named : List PinName) (name : List ℕ) (db : Database) (image : Configuration) (design : Kept) (own : List ℕ) (m : Parts) (text : List ℕ) → IsDesignOf db image design
-    → own ≡ name → m ≡ named_module named (fabric_with design.parts.lut_inputs db image) design.order own → text ≡ printed m
-    → text ≡ printed (module_with_names named design.parts.lut_inputs name db image)
+    → own ≡ name → m ≡ named_module named (fabric_with design.parts.options db image) design.order own → text ≡ printed m
+    → text ≡ printed (module_with_names named design.parts.options name db image)
 unfolding module_with_names
 named_done named name db image design own m text is same made shown =
-    let fabric = fabric_with design.parts.lut_inputs db image in
+    let fabric = fabric_with design.parts.options db image in
     shown ∙ ap printed (made ∙ ap₂ (named_module named fabric) (order-is (wiring_of fabric) design.order is.kept.order) same)
 
 -- ---- a pin file
 
 module _ (name : List ℕ) (chosen : Package) (pins : List ℕ) (db : Database) (image : Configuration) (design : Kept) (is : IsDesignOf db image design) where
-  abbrev inputs : LutInputs
-  inputs = design.parts.lut_inputs
+  abbrev options : FabricOptions
+  options = design.parts.options
 
   -- the names that the file gives to the pins of the design
   abbrev given : List PinName
   given = ports_of chosen (port_pins design.parts.pins.items) pins
 
-  fault-is : (fault : Option PinFileFault) → pin_fault_of chosen pins ≡ fault → written_named inputs name chosen pins db image ≡ named_with inputs name given db image fault
+  fault-is : (fault : Option PinFileFault) → pin_fault_of chosen pins ≡ fault → written_named options name chosen pins db image ≡ named_with options name given db image fault
   fault-is fault told =
-      ap (named_where inputs name chosen pins db image) is.taken
-      ∙ ap (λ (list : List Pin). named_with inputs name (ports_of chosen (port_pins list) pins) db image (pin_fault_of chosen pins)) (sym is.kept.parts.pins)
-      ∙ ap (named_with inputs name given db image) told
+      ap (named_where options name chosen pins db image) is.taken
+      ∙ ap (λ (list : List Pin). named_with options name (ports_of chosen (port_pins list) pins) db image (pin_fault_of chosen pins)) (sym is.kept.parts.pins)
+      ∙ ap (named_with options name given db image) told
 
   -- the text of the module whose ports have its names
   pub accepted_done : (named : List PinName) (bytes : List ℕ) → pin_fault_of chosen pins ≡ None → named ≡ given
-      → bytes ≡ printed (module_with_names named inputs name db image) → written_named inputs name chosen pins db image ≡ Done bytes
+      → bytes ≡ printed (module_with_names named options name db image) → written_named options name chosen pins db image ≡ Done bytes
   accepted_done named bytes none are shown =
-      fault-is None none ∙ ap Done (sym (shown ∙ ap (λ (ports : List PinName). printed (module_with_names ports inputs name db image)) are))
+      fault-is None none ∙ ap Done (sym (shown ∙ ap (λ (ports : List PinName). printed (module_with_names ports options name db image)) are))
 
   -- a tool that tells its fault stops as it has to
   pub pins_stop : (fault : PinFileFault) (stop : Stop) → Tells (pin_fault_of chosen pins) fault → StopsForPins fault stop
-      → StopsWith (written_named inputs name chosen pins db image) stop
+      → StopsWith (written_named options name chosen pins db image) stop
   pins_stop (At line cause) stop tells stops = subst (λ (answer : Answer). StopsWith answer stop) (sym (fault-is (Some (At line cause)) tells)) stops
   pins_stop (OutOfMemory failed) stop tells stops = rw stops tt
 
@@ -94,10 +94,10 @@ module _ (answer : Option Fault → Answer) (refuses : (fault : Fault) → answe
       → IsCause device fabric cause fault → StopsFor (told_fault fault) stop → StopsWith (answer cause) stop
   stops-caused device fabric cause fault stop is stops = stops-told cause (told_fault fault) stop (λ one told. cause-told device fabric cause fault one is told) stops
 
-pub stops_design : (inputs : LutInputs) (name : List ℕ) (db : Database) (image : Configuration) (device : DeviceName) (fabric : Fabric) (cause : Option Fault) (fault : FabricFault) (stop : Stop)
-    → IsCause device fabric cause fault → StopsFor (told_fault fault) stop → StopsWith (written_with inputs name db image cause) stop
-stops_design inputs name db image = stops-caused (written_with inputs name db image) (λ fault. refl)
+pub stops_design : (options : FabricOptions) (name : List ℕ) (db : Database) (image : Configuration) (device : DeviceName) (fabric : Fabric) (cause : Option Fault) (fault : FabricFault) (stop : Stop)
+    → IsCause device fabric cause fault → StopsFor (told_fault fault) stop → StopsWith (written_with options name db image cause) stop
+stops_design options name db image = stops-caused (written_with options name db image) (λ fault. refl)
 
-pub stops_named : (inputs : LutInputs) (name : List ℕ) (chosen : Package) (pins : List ℕ) (db : Database) (image : Configuration) (device : DeviceName) (fabric : Fabric) (cause : Option Fault)
-    (fault : FabricFault) (stop : Stop) → IsCause device fabric cause fault → StopsFor (told_fault fault) stop → StopsWith (named_where inputs name chosen pins db image cause) stop
-stops_named inputs name chosen pins db image = stops-caused (named_where inputs name chosen pins db image) (λ fault. refl)
+pub stops_named : (options : FabricOptions) (name : List ℕ) (chosen : Package) (pins : List ℕ) (db : Database) (image : Configuration) (device : DeviceName) (fabric : Fabric) (cause : Option Fault)
+    (fault : FabricFault) (stop : Stop) → IsCause device fabric cause fault → StopsFor (told_fault fault) stop → StopsWith (named_where options name chosen pins db image cause) stop
+stops_named options name chosen pins db image = stops-caused (named_where options name chosen pins db image) (λ fault. refl)

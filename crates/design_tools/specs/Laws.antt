@@ -1,23 +1,23 @@
 -- Laws of the command line of `icebox_vlog`: its command is simple, as `clap`'s statement needs it, and each task has its name.
-use Rattle.std.specs.Prelude.{◌≡◌, Bool, true, List, codes, refl, Option, None, Some}
+use Rattle.std.specs.Prelude.{◌≡◌, true, List, codes, refl, Option, None, Some}
 use Rattle.clap.specs.Words.{Row, Text, first_of, is_simple_and_free}
 use Rattle.clap.proofs.OnLiterals.{clap_on_literals}
-use Rattle.tool_inputs.specs.Commands.{has_flag}
+use Rattle.fabric_model.specs.declared.options.FabricOptions.{FabricOptions}
 use Rattle.design_tools.specs.Names.{name_given}
-use Rattle.design_tools.specs.Vlog.{Named, pins_in, vlog_command, vlog_name, vlog_task_by, vlog_task_of}
+use Rattle.design_tools.specs.Vlog.{Named, options_in, pins_in, vlog_command, vlog_name, vlog_task_by, vlog_task_of}
 
 pub vlog-simple : is_simple_and_free vlog_command ≡ true
 unfolding clap_on_literals
 vlog-simple = refl
 
-of-speaks : (used : Bool) (name : Option Text) (pins : Option (Option Named)) (layout db image : Option Text) → (vlog_task_of used name pins layout db image).tool_name ≡ vlog_name
-of-speaks used (Some name) (Some (Some pins)) layout (Some db) image = refl
-of-speaks used (Some name) (Some None) layout (Some db) image = refl
-of-speaks used (Some name) (Some pins) layout None image = refl
-of-speaks used (Some name) None layout db image = refl
-of-speaks used None pins layout db image = refl
+of-speaks : (options : FabricOptions) (name : Option Text) (pins : Option (Option Named)) (layout db image : Option Text) → (vlog_task_of options name pins layout db image).tool_name ≡ vlog_name
+of-speaks options (Some name) (Some (Some pins)) layout (Some db) image = refl
+of-speaks options (Some name) (Some None) layout (Some db) image = refl
+of-speaks options (Some name) (Some pins) layout None image = refl
+of-speaks options (Some name) None layout db image = refl
+of-speaks options None pins layout db image = refl
 
 pub vlog-speaks : (rows : List Row) → (vlog_task_by rows).tool_name ≡ vlog_name
 vlog-speaks rows =
-    of-speaks (has_flag (codes "used-inputs") rows) (name_given (first_of (codes "name") rows)) (pins_in rows) (first_of (codes "layout") rows)
+    of-speaks (options_in rows) (name_given (first_of (codes "name") rows)) (pins_in rows) (first_of (codes "layout") rows)
     (first_of (codes "db") rows) (first_of (codes "image") rows)

@@ -7,6 +7,7 @@ use Rattle.ice_image.specs.Configuration.{Configuration}
 use Rattle.chipdb_reader.specs.Database.{Database}
 use Rattle.vlog_module.specs.Parts.{Parts}
 use Rattle.vlog_forms.specs.Printed.{printed}
+use Rattle.fabric_model.specs.declared.options.FabricOptions.{FabricOptions}
 use Rattle.fabric_model.specs.declared.lut_inputs.LutInputs.{LutInputs}
 use Rattle.fabric_model.specs.declared.lut_inputs.LutInputs.TheVariants as read
 use Rattle.fabric_model.specs.Fabric.{fabric_with}
@@ -36,47 +37,47 @@ use Rattle.design_answers.specs.Faults.{design_fault_text}
 
 -- ---- the answer
 
--- the module that is written for a database and an image under this name: the module of their fabric, whose LUTs read these inputs, in the
--- write order, a topological order of the combinational logic
-unfoldable pub written_module : LutInputs → List ℕ → Database → Configuration → Parts
-written_module inputs name db image = module_of (fabric_with inputs db image) (write_order (wiring_of (fabric_with inputs db image))) name
+-- the module that is written for a database and an image under this name: the module of their fabric with these options, in the write
+-- order, a topological order of the combinational logic
+unfoldable pub written_module : FabricOptions → List ℕ → Database → Configuration → Parts
+written_module options name db image = module_of (fabric_with options db image) (write_order (wiring_of (fabric_with options db image))) name
 
 -- the module that is written if the ports have the names of a pin file
-unfoldable pub module_with_names : List PinName → LutInputs → List ℕ → Database → Configuration → Parts
-module_with_names named inputs name db image =
-    named_module named (fabric_with inputs db image) (write_order (wiring_of (fabric_with inputs db image))) name
+unfoldable pub module_with_names : List PinName → FabricOptions → List ℕ → Database → Configuration → Parts
+module_with_names named options name db image =
+    named_module named (fabric_with options db image) (write_order (wiring_of (fabric_with options db image))) name
 
 -- the text of the module, or the message for the fault of the design
-abbrev pub written_with : LutInputs → List ℕ → Database → Configuration → Option Fault → Answer
-written_with inputs name db image None = Done (printed (written_module inputs name db image))
-written_with inputs name db image (Some fault) = Refused (design_fault_text fault)
+abbrev pub written_with : FabricOptions → List ℕ → Database → Configuration → Option Fault → Answer
+written_with options name db image None = Done (printed (written_module options name db image))
+written_with options name db image (Some fault) = Refused (design_fault_text fault)
 
-abbrev pub written : LutInputs → List ℕ → Database → Configuration → Answer
-written inputs name db image = written_with inputs name db image (design_fault inputs db image)
+abbrev pub written : FabricOptions → List ℕ → Database → Configuration → Answer
+written options name db image = written_with options name db image (design_fault options db image)
 
 -- the text of the module whose ports have the names of a pin file, or the message for the fault of the file
-abbrev pub named_with : LutInputs → List ℕ → List PinName → Database → Configuration → Option PinFileFault → Answer
-named_with inputs name named db image None = Done (printed (module_with_names named inputs name db image))
-named_with inputs name named db image (Some fault) = Refused (pin_fault_text fault)
+abbrev pub named_with : FabricOptions → List ℕ → List PinName → Database → Configuration → Option PinFileFault → Answer
+named_with options name named db image None = Done (printed (module_with_names named options name db image))
+named_with options name named db image (Some fault) = Refused (pin_fault_text fault)
 
 -- the text of the module whose ports have the names of a pin file for the chosen package. A fault of the design goes before one of the pin
 -- file
-abbrev pub named_where : LutInputs → List ℕ → Package → List ℕ → Database → Configuration → Option Fault → Answer
-named_where inputs name chosen file db image None =
-    named_with inputs name (ports_of chosen (port_pins (fabric_with inputs db image).pins) file) db image (pin_fault_of chosen file)
-named_where inputs name chosen file db image (Some fault) = Refused (design_fault_text fault)
+abbrev pub named_where : FabricOptions → List ℕ → Package → List ℕ → Database → Configuration → Option Fault → Answer
+named_where options name chosen file db image None =
+    named_with options name (ports_of chosen (port_pins (fabric_with options db image).pins) file) db image (pin_fault_of chosen file)
+named_where options name chosen file db image (Some fault) = Refused (design_fault_text fault)
 
-abbrev pub written_named : LutInputs → List ℕ → Package → List ℕ → Database → Configuration → Answer
-written_named inputs name chosen file db image = named_where inputs name chosen file db image (design_fault inputs db image)
+abbrev pub written_named : FabricOptions → List ℕ → Package → List ℕ → Database → Configuration → Answer
+written_named options name chosen file db image = named_where options name chosen file db image (design_fault options db image)
 
 -- the answer for the layout file, if one is named, and for the texts after it: the pin file, the database, and the image
-abbrev pub named_answer : LutInputs → Option (List ℕ) → List ℕ → List ℕ → List (List ℕ) → Answer
-named_answer inputs layout name package_name texts =
-    input_answer layout (written_named inputs name (package_of package_name (database_text texts)) (pin_text texts)) (texts_without_pins texts)
+abbrev pub named_answer : FabricOptions → Option (List ℕ) → List ℕ → List ℕ → List (List ℕ) → Answer
+named_answer options layout name package_name texts =
+    input_answer layout (written_named options name (package_of package_name (database_text texts)) (pin_text texts)) (texts_without_pins texts)
 
 -- the answer without a pin file: for the layout file, if one is named, and for the texts after it: the database, and the image
-abbrev pub vlog_answer : LutInputs → Option (List ℕ) → List ℕ → List (List ℕ) → Answer
-vlog_answer inputs layout name texts = input_answer layout (written inputs name) texts
+abbrev pub vlog_answer : FabricOptions → Option (List ℕ) → List ℕ → List (List ℕ) → Answer
+vlog_answer options layout name texts = input_answer layout (written options name) texts
 
 -- ---- the arguments
 
@@ -84,23 +85,27 @@ abbrev pub vlog_name : List ℕ
 vlog_name = codes "icebox_vlog"
 
 abbrev pub vlog_usage : List ℕ
-vlog_usage = codes "icebox_vlog [-n NAME] [-p PCF -d PACKAGE] [--used-inputs] [--layout FILE] DB [IMAGE]"
+vlog_usage = codes "icebox_vlog [-n NAME] [-p PCF -d PACKAGE] [--used-inputs] [--all-pins] [--layout FILE] DB [IMAGE]"
 
 abbrev pub vlog_command : App
-vlog_command = command vlog_name (short_option (codes "name") 110 ∷ short_option (codes "pins") 112 ∷ short_option (codes "package") 100 ∷ long_flag (codes "used-inputs") ∷ long_option (codes "layout") ∷ positional (codes "db") ∷ positional (codes "image") ∷ [])
+vlog_command = command vlog_name (short_option (codes "name") 110 ∷ short_option (codes "pins") 112 ∷ short_option (codes "package") 100 ∷ long_flag (codes "used-inputs") ∷ long_flag (codes "all-pins") ∷ long_option (codes "layout") ∷ positional (codes "db") ∷ positional (codes "image") ∷ [])
 
 -- with `--used-inputs` LUTs read only the inputs that they use, else all
 abbrev pub inputs_wanted : Bool → LutInputs
 inputs_wanted false = read.All
 inputs_wanted true = read.Used
 
+-- with `--all-pins` pins of every kind are taken
+abbrev pub options_wanted : Bool → Bool → FabricOptions
+options_wanted used all = record { lut_inputs = inputs_wanted used; all_pins = all }
+
 -- ---- the task
 
 -- the task without a pin file: it needs the database, and the image from a file or from standard input
-abbrev pub write_task : LutInputs → Text → Option Text → Text → Option Text → Task
-write_task inputs name layout db image =
+abbrev pub write_task : FabricOptions → Text → Option Text → Text → Option Text → Task
+write_task options name layout db image =
     layout_task vlog_name layout (record { name = Some db; limit = database_limit } ∷ record { name = image; limit = image_limit } ∷ [])
-    None (λ file texts. vlog_answer inputs file name texts)
+    None (λ file texts. vlog_answer options file name texts)
 
 -- the most bytes that a pin file may have
 abbrev pub pins_limit : ℕ
@@ -112,16 +117,16 @@ pub record Named : Type 0 where
   pub package_name : Text
 
 -- the task with a pin file: it needs that, and what is needed without it
-abbrev pub named_task : LutInputs → Text → Named → Option Text → Text → Option Text → Task
-named_task inputs name pins layout db image =
+abbrev pub named_task : FabricOptions → Text → Named → Option Text → Text → Option Text → Task
+named_task options name pins layout db image =
     layout_task vlog_name layout
     (record { name = Some pins.file; limit = pins_limit } ∷ record { name = Some db; limit = database_limit } ∷ record { name = image; limit = image_limit } ∷ [])
-    None (λ file texts. named_answer inputs file name pins.package_name texts)
+    None (λ file texts. named_answer options file name pins.package_name texts)
 
 -- the task with a pin file or without
-abbrev pub task_with : LutInputs → Text → Option Named → Option Text → Text → Option Text → Task
-task_with inputs name (Some pins) layout db image = named_task inputs name pins layout db image
-task_with inputs name None layout db image = write_task inputs name layout db image
+abbrev pub task_with : FabricOptions → Text → Option Named → Option Text → Text → Option Text → Task
+task_with options name (Some pins) layout db image = named_task options name pins layout db image
+task_with options name None layout db image = write_task options name layout db image
 
 -- a pin file and a package are given together, or neither is
 abbrev pub named_by : Option Text → Option Text → Option (Option Named)
@@ -135,11 +140,15 @@ name_text None = None
 name_text (Some name) = Some name.text.now
 
 -- the name must be one, there must be a database, and no pin file without a package
-abbrev pub vlog_task_of : Bool → Option Text → Option (Option Named) → Option Text → Option Text → Option Text → Task
-vlog_task_of used (Some name) (Some pins) layout (Some db) image = task_with (inputs_wanted used) name pins layout db image
-vlog_task_of used (Some name) (Some pins) layout None image = usage_error vlog_name vlog_usage
-vlog_task_of used (Some name) None layout db image = usage_error vlog_name vlog_usage
-vlog_task_of used None pins layout db image = usage_error vlog_name vlog_usage
+abbrev pub vlog_task_of : FabricOptions → Option Text → Option (Option Named) → Option Text → Option Text → Option Text → Task
+vlog_task_of options (Some name) (Some pins) layout (Some db) image = task_with options name pins layout db image
+vlog_task_of options (Some name) (Some pins) layout None image = usage_error vlog_name vlog_usage
+vlog_task_of options (Some name) None layout db image = usage_error vlog_name vlog_usage
+vlog_task_of options None pins layout db image = usage_error vlog_name vlog_usage
+
+-- the options that the arguments give
+abbrev pub options_in : List Row → FabricOptions
+options_in rows = options_wanted (has_flag (codes "used-inputs") rows) (has_flag (codes "all-pins") rows)
 
 -- the pin file and the package that the arguments name
 abbrev pub pins_in : List Row → Option (Option Named)
@@ -147,7 +156,7 @@ pins_in rows = named_by (first_of (codes "pins") rows) (first_of (codes "package
 
 abbrev pub vlog_task_by : List Row → Task
 vlog_task_by rows =
-    vlog_task_of (has_flag (codes "used-inputs") rows) (name_given (first_of (codes "name") rows)) (pins_in rows) (first_of (codes "layout") rows)
+    vlog_task_of (options_in rows) (name_given (first_of (codes "name") rows)) (pins_in rows) (first_of (codes "layout") rows)
     (first_of (codes "db") rows) (first_of (codes "image") rows)
 
 -- the tool
@@ -170,4 +179,4 @@ pins_of_request pins = option_map pins_named pins
 abbrev pub vlog_task_for : Option Request → Task
 vlog_task_for None = usage_error vlog_name vlog_usage
 vlog_task_for (Some request) =
-    task_with request.inputs request.name.text.now (pins_of_request request.pins) (text_of request.layout) request.db.now (text_of request.image)
+    task_with request.options request.name.text.now (pins_of_request request.pins) (text_of request.layout) request.db.now (text_of request.image)

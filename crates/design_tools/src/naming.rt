@@ -27,7 +27,7 @@ use crate::request::{PinRequest, Request};
 use chipdb_reader::ChipDb;
 use design_answers::design_stop;
 use fabric::{Design, design_with};
-use fabric_model::LutInputs;
+use fabric_model::FabricOptions;
 use ice_image::AnyImage;
 use pin_file::{PackagePins, PinFileCause, PinFileFault, PinName, PinReader, PortPin, pin_names};
 use port_names::{name_ports, port_pins};
@@ -40,11 +40,11 @@ use vlog_parser::print;
 /// The most bytes that a pin file may have.
 const PINS_LIMIT: usize = 1_048_576;
 
-/// Writes the module of a database and an image under a name, with the names of a pin file for its ports. LUTs read these inputs. The pin
-/// file comes first. The image is read under the layouts of the layout file, if one is named.
+/// Writes the module of a database and an image under a name, with the names of a pin file for its ports. The options are those of the
+/// design. The pin file comes first. The image is read under the layouts of the layout file, if one is named.
 #[derive(Clone, Copy, Debug, PartialEq, Eq)]
 struct Naming<'a> {
-    inputs: LutInputs,
+    options: FabricOptions,
     name: ModuleName<'a>,
     /// The package whose pins the pin file names.
     package_name: &'a str,
@@ -58,7 +58,7 @@ impl<'a> PieceTool for Naming<'a> {
 
     type Made = Vec<u8>;
 
-    ghost answer_of = { λ tool layout texts. named_answer tool.inputs layout tool.name.text.now tool.package_name.now texts };
+    ghost answer_of = { λ tool layout texts. named_answer tool.options layout tool.name.text.now tool.package_name.now texts };
 
     ghost takes = { λ tool layout texts intake bytes. TakesNamed tool.package_name.now layout texts intake bytes };
 
@@ -77,22 +77,22 @@ impl<'a> PieceTool for Naming<'a> {
     }
 
     fn finish(&self, alloc: Global, intake: NamedIntake) -> Result<Vec<u8>, Stop<'_>> {
-        named_after(alloc, self.inputs, self.name.text.as_bytes(), intake)
+        named_after(alloc, self.options, self.name.text.as_bytes(), intake)
     }
 }
 
 // The module of the database and the image with the names of the pin file. Called after the last piece of the image.
 fn named_after(
     alloc: Global,
-    inputs: LutInputs,
+    options: FabricOptions,
     name: &[u8],
     intake: NamedIntake,
 ) -> Result<Vec<u8>, Stop<'static>>
     requires { IsName name.now }
     ensures bytes { IfOk result (λ bytes. (package_name : List ℕ) (layout : Option (List ℕ)) (texts : List (List ℕ))
-        → TakesNamed package_name layout texts intake [] → named_answer inputs layout name.now package_name texts ≡ Done bytes.items) }
+        → TakesNamed package_name layout texts intake [] → named_answer options layout name.now package_name texts ≡ Done bytes.items) }
     ensures stops { IfErr result (λ stop. (package_name : List ℕ) (layout : Option (List ℕ)) (texts : List (List ℕ))
-        → TakesNamed package_name layout texts intake [] → StopsWith (named_answer inputs layout name.now package_name texts) stop) }
+        → TakesNamed package_name layout texts intake [] → StopsWith (named_answer options layout name.now package_name texts) stop) }
 {
     let NamedIntake {
         file,
@@ -101,7 +101,7 @@ fn named_after(
         ..
     } = intake;
     match input.read(alloc) {
-        Ok((db, image)) => named_text_of(alloc, &db, &image, inputs, name, &file, pins),
+        Ok((db, image)) => named_text_of(alloc, &db, &image, options, name, &file, pins),
         Err(stop) => Err(stop),
     }
 }
@@ -111,18 +111,18 @@ fn named_text_of(
     alloc: Global,
     db: &ChipDb,
     image: &AnyImage,
-    inputs: LutInputs,
+    options: FabricOptions,
     name: &[u8],
     file: &Collected,
     pins: Option<PinReader>,
 ) -> Result<Vec<u8>, Stop<'static>>
     requires { IsName name.now }
     ensures bytes { IfOk result (λ bytes. (package_name text pin_text : List ℕ) → HasPins package_name text pins → Collects pin_text file.now
-        → written_named inputs name.now (package_of package_name text) pin_text (database_in db.now) (configuration_of image.now) ≡ Done bytes.items) }
+        → written_named options name.now (package_of package_name text) pin_text (database_in db.now) (configuration_of image.now) ≡ Done bytes.items) }
     ensures stops { IfErr result (λ stop. (package_name text pin_text : List ℕ) → HasPins package_name text pins → Collects pin_text file.now
-        → StopsWith (written_named inputs name.now (package_of package_name text) pin_text (database_in db.now) (configuration_of image.now)) stop) }
+        → StopsWith (written_named options name.now (package_of package_name text) pin_text (database_in db.now) (configuration_of image.now)) stop) }
 {
-    match design_with(alloc, db, image, inputs) {
+    match design_with(alloc, db, image, options) {
         Ok(design) => named_design_text(alloc, &design, name, file, pins),
         Err(fault) => Err(design_stop(&fault)),
     }
@@ -138,9 +138,9 @@ fn named_design_text(
 ) -> Result<Vec<u8>, Stop<'static>>
     requires { IsName name.now }
     ensures bytes { IfOk result (λ bytes. (package_name text pin_text : List ℕ) (db : Database) (image : Configuration) → HasPins package_name text pins → Collects pin_text file.now
-        → IsDesignOf db image design.now → written_named design.now.parts.lut_inputs name.now (package_of package_name text) pin_text db image ≡ Done bytes.items) }
+        → IsDesignOf db image design.now → written_named design.now.parts.options name.now (package_of package_name text) pin_text db image ≡ Done bytes.items) }
     ensures stops { IfErr result (λ stop. (package_name text pin_text : List ℕ) (db : Database) (image : Configuration) → HasPins package_name text pins → Collects pin_text file.now
-        → IsDesignOf db image design.now → StopsWith (written_named design.now.parts.lut_inputs name.now (package_of package_name text) pin_text db image) stop) }
+        → IsDesignOf db image design.now → StopsWith (written_named design.now.parts.options name.now (package_of package_name text) pin_text db image) stop) }
 {
     let pins = package_pins(pins)?;
     let text = file.text()?;
@@ -161,9 +161,9 @@ fn text_by_pins(
     requires name { IsName name.now }
     requires ports { ports.now ≡ port_pins design.now.parts.pins.items }
     ensures bytes { IfOk result (λ bytes. (db : Database) (image : Configuration) → IsDesignOf db image design.now
-        → written_named design.now.parts.lut_inputs name.now (kept_in pins.now) text.now db image ≡ Done bytes.items) }
+        → written_named design.now.parts.options name.now (kept_in pins.now) text.now db image ≡ Done bytes.items) }
     ensures stops { IfErr result (λ stop. (db : Database) (image : Configuration) → IsDesignOf db image design.now
-        → StopsWith (written_named design.now.parts.lut_inputs name.now (kept_in pins.now) text.now db image) stop) }
+        → StopsWith (written_named design.now.parts.options name.now (kept_in pins.now) text.now db image) stop) }
 {
     match pin_names(alloc, text, pins, ports) {
         Ok(named) => Ok(named_text(alloc, design, name, &named)?),
@@ -191,7 +191,7 @@ fn named_text(
     requires name { IsName name.now }
     requires accepted { AreAccepted design.now.parts.pins.items named.now }
     ensures { IfOk result (λ text. (db : Database) (image : Configuration) → IsDesignOf db image design.now
-        → text.items ≡ printed (module_with_names named.now design.now.parts.lut_inputs name.now db image)) }
+        → text.items ≡ printed (module_with_names named.now design.now.parts.options name.now db image)) }
 {
     let written = emit(alloc, design, name)?;
     let module = name_ports(alloc, design, written, named)?;
@@ -233,7 +233,7 @@ pub(crate) fn write_named<H: Host>(
     pins: PinRequest<'_>,
     host: &mut H,
 ) -> u8
-    ensures { Does H.outside (named_task request.entry.inputs request.entry.name.text.now (pins_named pins.entry) (text_of request.entry.layout) request.entry.db.now (text_of request.entry.image)) result (H.scene host.old) (H.scene host.new) }
+    ensures { Does H.outside (named_task request.entry.options request.entry.name.text.now (pins_named pins.entry) (text_of request.entry.layout) request.entry.db.now (text_of request.entry.image)) result (H.scene host.old) (H.scene host.new) }
 {
     let loads = [
         Load {
@@ -250,7 +250,7 @@ pub(crate) fn write_named<H: Host>(
         },
     ];
     let tool = Naming {
-        inputs: request.inputs,
+        options: request.options,
         name: request.name,
         package_name: pins.package_name,
     };

@@ -3,23 +3,23 @@ ghost use Rattle.std.specs.Prelude.{◌≡◌, IfOk};
 ghost use Rattle.std.specs.Option.{option_map};
 ghost use Rattle.clap.specs.Words.{app_of, found_of, rows_of};
 ghost use Rattle.tool_run.specs.Needs.{text_of};
-ghost use Rattle.design_tools.specs.Vlog.{inputs_wanted, name_text, named_by, pins_of_request, vlog_command, vlog_task_by, vlog_task_for, vlog_task_of};
+ghost use Rattle.design_tools.specs.Vlog.{inputs_wanted, options_wanted, name_text, named_by, pins_of_request, vlog_command, vlog_task_by, vlog_task_for, vlog_task_of};
 
 use crate::name::{ModuleName, name_given};
 use clap::{ArgMatches, Command};
-use fabric_model::LutInputs;
+use fabric_model::{FabricOptions, LutInputs};
 use std::alloc::{AllocError, Global};
 use tool_inputs::{has_flag, long_flag, long_option, positional, short_option, value, with};
 
 /// The command line of `icebox_vlog`.
 pub const ICEBOX_VLOG_USAGE: &str =
-    "icebox_vlog [-n NAME] [-p PCF -d PACKAGE] [--used-inputs] [--layout FILE] DB [IMAGE]";
+    "icebox_vlog [-n NAME] [-p PCF -d PACKAGE] [--used-inputs] [--all-pins] [--layout FILE] DB [IMAGE]";
 
 /// The help of `icebox_vlog`, at most 80 columns wide.
 pub const ICEBOX_VLOG_HELP: &str = "\
 icebox_vlog: writes the design of an image as a module in a subset of Verilog.
 
-Usage: icebox_vlog [-n NAME] [-p PCF -d PACKAGE] [--used-inputs]
+Usage: icebox_vlog [-n NAME] [-p PCF -d PACKAGE] [--used-inputs] [--all-pins]
                    [--layout FILE] DB [IMAGE]
 
   DB        the chip database of the image's device
@@ -30,6 +30,8 @@ Usage: icebox_vlog [-n NAME] [-p PCF -d PACKAGE] [--used-inputs]
             the package whose pins it names, as tq144 or ct256
   --used-inputs
             LUTs read only the inputs that they use, so more designs are taken
+  --all-pins
+            takes pins of every kind, apart from the few that PinMode names
   --layout FILE
             the layout file; the standard layout if it is missing
 
@@ -47,6 +49,18 @@ rd_X_Y and mem_X_Y; and a wire n_K for each net with a driver. At the start and
 after each change of an input they have the values that the configured device
 has. vlogrun runs the module.
 
+Without --all-pins a pin is taken if it is a plain or a registered input, or an
+output that is plain, registered or can be switched off and isn't read. With
+--all-pins it may also have two data rates, an inverted output, a register for
+its output enable, and a pad that is read and that it drives at times, as on a
+bus. Such a pin has a third port behind the other two, io_X_Y_N_in: what the
+outside puts on the pad where the pin doesn't drive it. If the ports are sda,
+sda_en and sda_in, `assign bus = sda_en ? sda : 1'bz;` and
+`assign sda_in = bus;` around the module join them to a bus. Further registers
+of a pin are pj_X_Y_N of its second input, pq_X_Y_N of its second output,
+pe_X_Y_N of its output enable, and ci_X_Y_N and co_X_Y_N, which keep the clock
+enable for the second input and the second output.
+
 A LUT uses an input where two of its entries differ whose numbers differ in the
 bit of that input alone: another input can't change its value. With
 --used-inputs a LUT doesn't depend on what a router led to an input that it
@@ -55,14 +69,14 @@ as without.
 
 In a pin file a line `set_io NAME PIN` gives the port at PIN a name: NAME, with
 _ for each byte that is no letter, digit or _, and without _ at the end. p_
-comes before it if that is no name, or has the form of one of those above. Its
-second port, if it has one, has that name and _en. Lists of events then use
-these names. A line counts only if its pin has a port and no earlier line names
-the pin. If an earlier line gave one of its names, the port keeps io_X_Y_N.
-Options of set_io, lines with set_frequency, and # and all behind it are passed
-over. A pin file with a fault is refused, and told by its first faulty line:
-Statement, another statement; Package or Pin, the database has no such package,
-or the package no such pin.
+comes before it if that is no name, or has the form of one of those above. The
+pin's other ports have that name, and _en or _in behind it. Lists of events then
+use these names. A line counts only if its pin has a port and no earlier line
+names the pin. If an earlier line gave one of its names, the port keeps
+io_X_Y_N. Options of set_io, lines with set_frequency, and # and all behind it
+are passed over. A pin file with a fault is refused, and told by its first
+faulty line: Statement, another statement; Package or Pin, the database has no
+such package, or the package no such pin.
 
 Example: icebox_vlog -n blink chipdb-1k.txt blink.asc >blink.v
 
@@ -74,12 +88,18 @@ fault. A design is refused for these causes, looked for in this order:
 
   Device        the database is for another device: take the one for yours
   Pll           a PLL is used; modules have none. Feed the clock to a pin
-  PinMode       a pin that is neither a plain nor a registered input, nor an
-                output that is plain, registered or can be switched off, as one
-                with two data rates, a latch or both a register and an enable;
-                or an output that can be switched off and is read; the six
-                digits are the bits of its type. Keep such pins out of the
-                design
+  PinMode       a pin of a kind that isn't taken; the six digits are the bits of
+                its type, PIN_TYPE. Without --all-pins that is a pin that is
+                neither a plain nor a registered input, nor an output that is
+                plain, registered or can be switched off, as one with two data
+                rates; or an output that can be switched off and is read: then
+                --all-pins takes the design. With it there are three such kinds.
+                The last digit but one is 1, and D_IN_0 is used: a latch may
+                hold it; make the digit 0. Or the pin is the pad of a global
+                network, as of SB_GB_IO, and drives that pad too, so the first
+                two digits aren't 00: use SB_IO, and SB_GB for the network. Or
+                its tile has LVDS, and it isn't pin 0 as an input: keep LVDS
+                outputs, and other pins of the tile, out of the design
   Cascade       block RAMs that are chained: take single ones
   TwoDrivers    two outputs drive one net: the image wasn't made by a router, or
                 the database is for another device
@@ -87,9 +107,10 @@ fault. A design is refused for these causes, looked for in this order:
                 LUTs, or through the reset of a flip-flop that resets itself at
                 once. A router may make such a loop at an input that a logic
                 cell doesn't use: then --used-inputs takes the design
-  Clock         a flip-flop or a RAM whose clock is made by logic, by more than a
-                LUT that passes one net on or inverts it: clock it by a pin, and
-                use an enable
+  Clock         a flip-flop, a register of a pin or a RAM whose clock is made by
+                logic, by more than a LUT that passes one net on or inverts it,
+                or comes from a pad that the design drives: clock it by a pin,
+                and use an enable
 
 Exit status: 0 done; 1 a file or the design is refused; 2 the command line isn't
 taken; 3 reading failed; 4 writing failed; 5 out of memory; 6 an input is longer
@@ -103,12 +124,12 @@ pub(crate) struct PinRequest<'a> {
     pub(crate) package_name: &'a str,
 }
 
-/// What the arguments ask for: the name of the module, a pin file, which inputs LUTs read, a layout file, a database and an image.
+/// What the arguments ask for: the name of the module, a pin file, the options, a layout file, a database and an image.
 #[derive(Clone, Copy)]
 pub(crate) struct Request<'a> {
     pub(crate) name: ModuleName<'a>,
     pub(crate) pins: Option<PinRequest<'a>>,
-    pub(crate) inputs: LutInputs,
+    pub(crate) options: FabricOptions,
     pub(crate) layout: Option<&'a str>,
     pub(crate) db: &'a str,
     pub(crate) image: Option<&'a str>,
@@ -123,6 +144,7 @@ pub(crate) fn command<'a>(alloc: Global) -> Result<Command<'a>, AllocError>
     let command = with(command, short_option(alloc, "pins", 'p'))?;
     let command = with(command, short_option(alloc, "package", 'd'))?;
     let command = with(command, long_flag(alloc, "used-inputs"))?;
+    let command = with(command, long_flag(alloc, "all-pins"))?;
     let command = with(command, long_option(alloc, "layout"))?;
     let command = with(command, positional(alloc, "db"))?;
     with(command, positional(alloc, "image"))
@@ -135,6 +157,16 @@ fn inputs_wanted(used: bool) -> LutInputs
     match used {
         false => LutInputs::All,
         true => LutInputs::Used,
+    }
+}
+
+// The options: which inputs LUTs read, and whether pins of every kind are taken.
+fn options_wanted(used: bool, all: bool) -> FabricOptions
+    ensures { result ≡ options_wanted used all }
+{
+    FabricOptions {
+        lut_inputs: inputs_wanted(used),
+        all_pins: all,
     }
 }
 
@@ -154,21 +186,20 @@ fn pins_wanted<'a>(
 
 // The request, from what was found in the arguments: the name must be one, there must be a database, and no pin file without a package.
 fn wanted<'a>(
-    used: bool,
+    options: FabricOptions,
     name: Option<ModuleName<'a>>,
     pins: Option<Option<PinRequest<'a>>>,
     layout: Option<&'a str>,
     db: Option<&'a str>,
     image: Option<&'a str>,
 ) -> Option<Request<'a>>
-    ensures { vlog_task_for result ≡ vlog_task_of used (name_text name.entry) (option_map pins_of_request pins.entry) (text_of layout.entry) (text_of db.entry) (text_of image.entry) }
+    ensures { vlog_task_for result ≡ vlog_task_of options (name_text name.entry) (option_map pins_of_request pins.entry) (text_of layout.entry) (text_of db.entry) (text_of image.entry) }
 {
-    let inputs = inputs_wanted(used);
     match (name, pins, db) {
         (Some(name), Some(pins), Some(db)) => Some(Request {
             name,
             pins,
-            inputs,
+            options,
             layout,
             db,
             image,
@@ -182,6 +213,8 @@ pub(crate) fn request_in<'a>(matches: &ArgMatches<'a>) -> Option<Request<'a>>
     ensures { vlog_task_for result ≡ vlog_task_by (rows_of (found_of matches.now)) }
 {
     let used = has_flag(matches, "used-inputs");
+    let all = has_flag(matches, "all-pins");
+    let options = options_wanted(used, all);
     let given = value(matches, "name");
     let name = name_given(given);
     let file = value(matches, "pins");
@@ -190,5 +223,5 @@ pub(crate) fn request_in<'a>(matches: &ArgMatches<'a>) -> Option<Request<'a>>
     let layout = value(matches, "layout");
     let db = value(matches, "db");
     let image = value(matches, "image");
-    wanted(used, name, pins, layout, db, image)
+    wanted(options, name, pins, layout, db, image)
 }

@@ -21,7 +21,7 @@ use chipdb_reader::ChipDb;
 use clap::{ArgMatches, Command};
 use design_answers::design_stop;
 use fabric::{Design, design_with};
-use fabric_model::LutInputs;
+use fabric_model::FabricOptions;
 use ice_image::AnyImage;
 use std::alloc::{AllocError, Global};
 use tool_inputs::{CommandLine, DB_LIMIT, DesignInput, IMAGE_LIMIT, Words, run_tool};
@@ -29,11 +29,11 @@ use tool_run::{Host, Job, Load, PieceTool, Stop};
 use vlog_emit::emit;
 use vlog_parser::print;
 
-/// Writes the module of a database and an image under a name. LUTs read these inputs. The image is read under the layouts of the layout
-/// file, if one is named.
+/// Writes the module of a database and an image under a name. The options are those of the design. The image is read under the layouts of
+/// the layout file, if one is named.
 #[derive(Clone, Copy, Debug, PartialEq, Eq)]
 pub(crate) struct Writing<'a> {
-    pub(crate) inputs: LutInputs,
+    pub(crate) options: FabricOptions,
     pub(crate) name: ModuleName<'a>,
 }
 
@@ -45,7 +45,7 @@ impl<'a> PieceTool for Writing<'a> {
 
     type Made = Vec<u8>;
 
-    ghost answer_of = { λ tool layout texts. vlog_answer tool.inputs layout tool.name.text.now texts };
+    ghost answer_of = { λ tool layout texts. vlog_answer tool.options layout tool.name.text.now texts };
 
     ghost takes = { λ tool layout texts intake bytes. TakesInput layout texts intake bytes };
 
@@ -64,25 +64,25 @@ impl<'a> PieceTool for Writing<'a> {
     }
 
     fn finish(&self, alloc: Global, intake: DesignInput) -> Result<Vec<u8>, Stop<'_>> {
-        written_after(alloc, self.inputs, self.name.text.as_bytes(), intake)
+        written_after(alloc, self.options, self.name.text.as_bytes(), intake)
     }
 }
 
 // The module of the database and the image. Called after the last piece of the image.
 fn written_after(
     alloc: Global,
-    inputs: LutInputs,
+    options: FabricOptions,
     name: &[u8],
     intake: DesignInput,
 ) -> Result<Vec<u8>, Stop<'static>>
     requires { IsName name.now }
     ensures bytes { IfOk result (λ bytes. (layout : Option (List ℕ)) (texts : List (List ℕ)) → TakesInput layout texts intake []
-        → vlog_answer inputs layout name.now texts ≡ Done bytes.items) }
+        → vlog_answer options layout name.now texts ≡ Done bytes.items) }
     ensures stops { IfErr result (λ stop. (layout : Option (List ℕ)) (texts : List (List ℕ)) → TakesInput layout texts intake []
-        → StopsWith (vlog_answer inputs layout name.now texts) stop) }
+        → StopsWith (vlog_answer options layout name.now texts) stop) }
 {
     match intake.read(alloc) {
-        Ok((db, image)) => text_of(alloc, &db, &image, inputs, name),
+        Ok((db, image)) => text_of(alloc, &db, &image, options, name),
         Err(stop) => Err(stop),
     }
 }
@@ -93,14 +93,14 @@ fn text_of(
     alloc: Global,
     db: &ChipDb,
     image: &AnyImage,
-    inputs: LutInputs,
+    options: FabricOptions,
     name: &[u8],
 ) -> Result<Vec<u8>, Stop<'static>>
     requires { IsName name.now }
-    ensures bytes { IfOk result (λ bytes. written inputs name.now (database_in db.now) (configuration_of image.now) ≡ Done bytes.items) }
-    ensures stops { IfErr result (StopsWith (written inputs name.now (database_in db.now) (configuration_of image.now))) }
+    ensures bytes { IfOk result (λ bytes. written options name.now (database_in db.now) (configuration_of image.now) ≡ Done bytes.items) }
+    ensures stops { IfErr result (StopsWith (written options name.now (database_in db.now) (configuration_of image.now))) }
 {
-    match design_with(alloc, db, image, inputs) {
+    match design_with(alloc, db, image, options) {
         Ok(design) => Ok(module_text(alloc, &design, name)?),
         Err(fault) => Err(design_stop(&fault)),
     }
@@ -109,7 +109,7 @@ fn text_of(
 // The text of the module of a design.
 fn module_text(alloc: Global, design: &Design, name: &[u8]) -> Result<Vec<u8>, AllocError>
     requires { IsName name.now }
-    ensures { IfOk result (λ text. (db : Database) (image : Configuration) → IsDesignOf db image design.now → written design.now.parts.lut_inputs name.now db image ≡ Done text.items) }
+    ensures { IfOk result (λ text. (db : Database) (image : Configuration) → IsDesignOf db image design.now → written design.now.parts.options name.now db image ≡ Done text.items) }
 {
     let module = emit(alloc, design, name)?;
     print(alloc, &module)
@@ -117,7 +117,7 @@ fn module_text(alloc: Global, design: &Design, name: &[u8]) -> Result<Vec<u8>, A
 
 // Does a request without a pin file: loads its files and writes the module.
 fn write_plain<H: Host>(alloc: Global, request: Request<'_>, host: &mut H) -> u8
-    ensures { Does H.outside (write_task request.entry.inputs request.entry.name.text.now (text_of request.entry.layout) request.entry.db.now (text_of request.entry.image)) result (H.scene host.old) (H.scene host.new) }
+    ensures { Does H.outside (write_task request.entry.options request.entry.name.text.now (text_of request.entry.layout) request.entry.db.now (text_of request.entry.image)) result (H.scene host.old) (H.scene host.new) }
 {
     let loads = [
         Load {
@@ -130,7 +130,7 @@ fn write_plain<H: Host>(alloc: Global, request: Request<'_>, host: &mut H) -> u8
         },
     ];
     let tool = Writing {
-        inputs: request.inputs,
+        options: request.options,
         name: request.name,
     };
     let job = Job {

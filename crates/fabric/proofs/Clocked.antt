@@ -5,8 +5,8 @@ use Rattle.ice_image.specs.Configuration.{Configuration}
 use Rattle.chipdb_reader.specs.Database.{Database}
 use Rattle.chipdb_reader.specs.Fit.{IsFit}
 use Rattle.fabric_model.specs.Joins.{class_of}
-use Rattle.fabric_model.specs.declared.lut_inputs.LutInputs.{LutInputs}
-use Rattle.fabric_model.specs.Fabric.{Fabric, fabric_with, fabric_of}
+use Rattle.fabric_model.specs.declared.options.FabricOptions.{FabricOptions}
+use Rattle.fabric_model.specs.Fabric.{Fabric, fabric_with, reading_all}
 use Rattle.fabric_model.specs.Values.{State, IsConsistent, bit_in}
 use Rattle.fabric_model.specs.Clocks.{ClockEnd, LeadsTo, clock_end}
 use Rattle.fabric_model.specs.Clocks.ClockEnd.{at_pin, still, logic}
@@ -24,15 +24,15 @@ end-bit pins (at_pin place turned) bit good has = has
 end-bit pins (still it) bit good has = has
 end-bit pins logic bit good has = absurd good
 
-module _ (inputs : LutInputs) (db : Database) (image : Configuration) (fit : IsFit db) (none : design_fault inputs db image ≡ None) where
+module _ (options : FabricOptions) (db : Database) (image : Configuration) (fit : IsFit db) (none : design_fault options db image ≡ None) where
   abbrev fabric : Fabric
-  fabric = fabric_with inputs db image
+  fabric = fabric_with options db image
 
   -- where a clock comes from is the end of its chain
   with-lead : (net : ℕ) → LeadsTo fabric (class_of fabric.joins net) (clock_end fabric net)
   with-lead =
-      let within = fabric-within db image fit inputs in
-      let order = taken-order image.layout.device fabric (design-taken inputs db image none).fabric within in
+      let within = fabric-within db image fit options in
+      let order = taken-order image.layout.device fabric (design-taken options db image none).fabric within in
       clock_end-leads fabric within order.it order.is
 
   module _ (state : State) (pins v : List Bool) (is : IsConsistent fabric state pins v) where
@@ -40,12 +40,12 @@ module _ (inputs : LutInputs) (db : Database) (image : Configuration) (fit : IsF
     has-clock None good = tt
     has-clock (Some net) good =
         end-bit pins (clock_end fabric net) (bit_in v net) good
-        (clock-value fabric (fabric-within db image fit inputs) state pins v is net (clock_end fabric net) (with-lead net))
+        (clock-value fabric (fabric-within db image fit options) state pins v is net (clock_end fabric net) (with-lead net))
 
     has-clocks : HasClocks fabric pins v
     has-clocks =
-        let taken = (design-taken inputs db image none).fabric in
-        let placed = fabric-placed db image inputs in
+        let taken = (design-taken options db image none).fabric in
+        let placed = fabric-placed db image options in
         record {
           registers = λ register there. has-clock register.clk (register-good image.layout.device fabric taken placed register there);
           reads = λ ram there. has-clock ram.rclk (read-good image.layout.device fabric taken placed ram there);
@@ -55,7 +55,7 @@ module _ (inputs : LutInputs) (db : Database) (image : Configuration) (fit : IsF
   -- ---- the same of the fabric whose LUTs read all inputs
 
   abbrev all : Fabric
-  all = fabric_of db image
+  all = fabric_with (reading_all options) db image
 
   nets-joined : fabric.joins ≡ all.joins
   unfolding fabric_with
@@ -65,25 +65,25 @@ module _ (inputs : LutInputs) (db : Database) (image : Configuration) (fit : IsF
   unfolding fabric_with
   rams-all = refl
 
-  pub ends-lead : (net : ℕ) → LeadsTo (fabric_of db image) (class_of (fabric_of db image).joins net) (clock_end (fabric_of db image) net)
+  pub ends-lead : (net : ℕ) → LeadsTo (fabric_with (reading_all options) db image) (class_of (fabric_with (reading_all options) db image).joins net) (clock_end (fabric_with (reading_all options) db image) net)
   ends-lead net =
       subst (λ joins. LeadsTo all (class_of joins net) (clock_end all net)) nets-joined
-      (leads-with inputs db image (class_of fabric.joins net) (clock_end all net)
-      (subst (LeadsTo fabric (class_of fabric.joins net)) (clock_end-with inputs db image net) (with-lead net)))
+      (leads-with options db image (class_of fabric.joins net) (clock_end all net)
+      (subst (LeadsTo fabric (class_of fabric.joins net)) (clock_end-with options db image net) (with-lead net)))
 
   module _ (pins v : List Bool) where
     clock-all : (net : Option ℕ) → HasClock fabric pins v net → HasClock all pins v net
     clock-all None has = tt
-    clock-all (Some net) has = subst (λ end. HasEndBit pins end (bit_in v net)) (clock_end-with inputs db image net) has
+    clock-all (Some net) has = subst (λ end. HasEndBit pins end (bit_in v net)) (clock_end-with options db image net) has
 
     clocks-all : HasClocks fabric pins v → HasClocks all pins v
     clocks-all has = record {
       registers = λ register there.
-          let found = pairs-first RegistersAlike fabric.registers all.registers register (registers-alike inputs db image) there in
+          let found = pairs-first RegistersAlike fabric.registers all.registers register (registers-alike options db image) there in
           subst (HasClock all pins v) (register-field found.0 register found.2 (λ r. r.clk) refl) (clock-all found.0.clk (has.registers found.0 found.1));
       reads = λ ram there. clock-all ram.rclk (has.reads ram (subst (λ rams. Contains rams ram) (sym rams-all) there));
       writes = λ ram there. clock-all ram.wclk (has.writes ram (subst (λ rams. Contains rams ram) (sym rams-all) there));
     }
 
-  pub values-have-clocks : (state : State) (pins v : List Bool) → IsConsistent (fabric_of db image) state pins v → HasClocks (fabric_of db image) pins v
-  values-have-clocks state pins v is = clocks-all pins v (has-clocks state pins v ((from-all inputs db image).consistent state pins v is))
+  pub values-have-clocks : (state : State) (pins v : List Bool) → IsConsistent (fabric_with (reading_all options) db image) state pins v → HasClocks (fabric_with (reading_all options) db image) pins v
+  values-have-clocks state pins v is = clocks-all pins v (has-clocks state pins v ((from-all options db image).consistent state pins v is))

@@ -6,7 +6,7 @@ use Rattle.plane_map.proofs.Devices.{same-device, other-device}
 use Rattle.ice_image.specs.Configuration.{Configuration}
 use Rattle.chipdb_reader.specs.Database.{Database}
 use Rattle.index_search.specs.Places.{or_else}
-use Rattle.fabric_model.specs.declared.lut_inputs.LutInputs.{LutInputs}
+use Rattle.fabric_model.specs.declared.options.FabricOptions.{FabricOptions}
 use Rattle.fabric_model.specs.Fabric.{fabric_with}
 use Rattle.fabric_model.specs.Faults.{Fault, device_faults, pins_fault, rams_fault, fabric_fault, design_fault}
 use Rattle.fabric_model.specs.declared.fault.LinkFault.{LinkFault}
@@ -22,63 +22,63 @@ use Rattle.fabric.specs.Faults.{IsCause, AreTaken}
 use Rattle.fabric.specs.Causes.{of_links, of_pins, of_rams}
 use Rattle.fabric.proofs.Evidence.{same-cause}
 
-module _ (inputs : LutInputs) (db : Database) (image : Configuration) where
+module _ (options : FabricOptions) (db : Database) (image : Configuration) where
   Refuses : Option Fault → Type 0
-  Refuses cause = design_fault inputs db image ≡ cause
+  Refuses cause = design_fault options db image ≡ cause
 
   no-device : db.chip.device ≡ image.layout.device → device_faults db image ≡ []
   unfolding device_faults
   no-device same = rw (same, same-device image.layout.device) refl
 
-  with-device : ¬ (db.chip.device ≡ image.layout.device) → design_fault inputs db image ≡ Some Fault.other_device
+  with-device : ¬ (db.chip.device ≡ image.layout.device) → design_fault options db image ≡ Some Fault.other_device
   unfolding design_fault device_faults
   with-device other = rw (other-device db.chip.device image.layout.device other) refl
 
   module _ (same : db.chip.device ≡ image.layout.device) where
-    behind-device : design_fault inputs db image
-        ≡ or_else (pins_fault db image) (or_else (rams_fault db image) (fabric_fault image.layout.device (fabric_with inputs db image)))
+    behind-device : design_fault options db image
+        ≡ or_else (pins_fault options.all_pins db image) (or_else (rams_fault db image) (fabric_fault image.layout.device (fabric_with options db image)))
     unfolding design_fault
     behind-device = rw (no-device same) refl
 
-    pins-refuse : (cause : Fault) → pins_fault db image ≡ Some cause → design_fault inputs db image ≡ Some cause
+    pins-refuse : (cause : Fault) → pins_fault options.all_pins db image ≡ Some cause → design_fault options db image ≡ Some cause
     pins-refuse cause is = behind-device ∙ rw is refl
 
-    module _ (pins-taken : pins_fault db image ≡ None) where
-      rams-refuse : (cause : Fault) → rams_fault db image ≡ Some cause → design_fault inputs db image ≡ Some cause
+    module _ (pins-taken : pins_fault options.all_pins db image ≡ None) where
+      rams-refuse : (cause : Fault) → rams_fault db image ≡ Some cause → design_fault options db image ≡ Some cause
       rams-refuse cause is = behind-device ∙ rw (pins-taken, is) refl
 
   -- the fault of the whole is that of the fabric, if the parts are taken
-  pub fabric-left : AreTaken db image → design_fault inputs db image ≡ fabric_fault image.layout.device (fabric_with inputs db image)
+  pub fabric-left : AreTaken options.all_pins db image → design_fault options db image ≡ fabric_fault image.layout.device (fabric_with options db image)
   fabric-left taken = behind-device taken.device ∙ rw (taken.pins, taken.rams) refl
 
   -- so nothing is wrong with the whole if nothing is wrong with the fabric
-  pub fabric-taken : AreTaken db image → fabric_fault db.chip.device (fabric_with inputs db image) ≡ None → design_fault inputs db image ≡ None
-  fabric-taken taken none = fabric-left taken ∙ subst (λ d. fabric_fault d (fabric_with inputs db image) ≡ None) taken.device none
+  pub fabric-taken : AreTaken options.all_pins db image → fabric_fault db.chip.device (fabric_with options db image) ≡ None → design_fault options db image ≡ None
+  fabric-taken taken none = fabric-left taken ∙ subst (λ d. fabric_fault d (fabric_with options db image) ≡ None) taken.device none
 
   -- and a cause of the fabric is one of the whole
-  pub fabric-refuses : (fault : FabricFault) → AreTaken db image
-      → IsCause db.chip.device (fabric_with inputs db image) (fabric_fault db.chip.device (fabric_with inputs db image)) fault
-      → IsCause image.layout.device (fabric_with inputs db image) (design_fault inputs db image) fault
+  pub fabric-refuses : (fault : FabricFault) → AreTaken options.all_pins db image
+      → IsCause db.chip.device (fabric_with options db image) (fabric_fault db.chip.device (fabric_with options db image)) fault
+      → IsCause image.layout.device (fabric_with options db image) (design_fault options db image) fault
   fabric-refuses fault taken is =
-      same-cause image.layout.device (fabric_with inputs db image) (fabric_fault image.layout.device (fabric_with inputs db image)) (design_fault inputs db image)
+      same-cause image.layout.device (fabric_with options db image) (fabric_fault image.layout.device (fabric_with options db image)) (design_fault options db image)
       (λ cause one. fabric-left taken ∙ one) fault
-      (subst (λ d. IsCause d (fabric_with inputs db image) (fabric_fault d (fabric_with inputs db image)) fault) taken.device is)
+      (subst (λ d. IsCause d (fabric_with options db image) (fabric_fault d (fabric_with options db image)) fault) taken.device is)
 
   -- ---- the refusals of the parts
 
   abbrev IsRefusal : FabricFault → Type 0
-  IsRefusal fault = IsCause image.layout.device (fabric_with inputs db image) (design_fault inputs db image) fault
+  IsRefusal fault = IsCause image.layout.device (fabric_with options db image) (design_fault options db image) fault
 
   pub links-cause : (fault : LinkFault) → ((fault ≡ links.Device) ↔ (¬ (db.chip.device ≡ image.layout.device))) → IsRefusal (of_links fault)
   links-cause links.Device tells = with-device (tells.0 refl)
   links-cause (links.Memory failed) tells = tt
 
-  pub pins-cause : (same : db.chip.device ≡ image.layout.device) (fault : PinFault) → IsPinCause (pins_fault db image) fault → IsRefusal (of_pins fault)
+  pub pins-cause : (same : db.chip.device ≡ image.layout.device) (fault : PinFault) → IsPinCause (pins_fault options.all_pins db image) fault → IsRefusal (of_pins fault)
   pins-cause same (pins.Pll x y) is = pins-refuse same _ is
   pins-cause same (pins.PinMode x y pio pintype) is = pins-refuse same _ is
   pins-cause same (pins.Memory failed) is = tt
 
-  pub rams-cause : (same : db.chip.device ≡ image.layout.device) → pins_fault db image ≡ None → (fault : RamFault) → IsRamCause (rams_fault db image) fault → IsRefusal (of_rams fault)
+  pub rams-cause : (same : db.chip.device ≡ image.layout.device) → pins_fault options.all_pins db image ≡ None → (fault : RamFault) → IsRamCause (rams_fault db image) fault → IsRefusal (of_rams fault)
   rams-cause same taken (rams.Cascade x y) is = rams-refuse same taken _ is
   rams-cause same taken (rams.Memory failed) is = tt
 

@@ -15,7 +15,7 @@ use Rattle.index_search.proofs.Places.{gathered_below-same}
 use Rattle.fabric_model.specs.declared.ram.RamCell.{RamCell}
 use Rattle.fabric_model.specs.Tiles.{over_grid, at_kind, each_below}
 use Rattle.fabric_model.specs.Rams.{is_ram_used, ram_at, rams_of, over_rams, start_word, start_words}
-use Rattle.fabric_model.specs.declared.lut_inputs.LutInputs.{LutInputs}
+use Rattle.fabric_model.specs.declared.options.FabricOptions.{FabricOptions}
 use Rattle.fabric_model.specs.Fabric.{fabric_with}
 use Rattle.fabric_model.proofs.Within.{All-over_grid, All-if, All-single}
 use Rattle.fabric_model.proofs.OneValue.{each_below-length, each_below-at}
@@ -67,11 +67,11 @@ module _ (db : Database) (image : Configuration) where
       ∙ gathered_below-same (grid_height image.layout.device) _ _ (λ y low.
       map-gathered_below words_of (grid_width image.layout.device) _ ∙ gathered_below-same (grid_width image.layout.device) _ _ (λ x left. used-words x y))
 
-  start-is : (inputs : LutInputs) → (fabric_with inputs db image).start ≡ map words_of (rams_of db image)
+  start-is : (options : FabricOptions) → (fabric_with options db image).start ≡ map words_of (rams_of db image)
   unfolding fabric_with
   start-is inputs = sym start-words
 
-  rams-are : (inputs : LutInputs) → (fabric_with inputs db image).rams ≡ rams_of db image
+  rams-are : (options : FabricOptions) → (fabric_with options db image).rams ≡ rams_of db image
   unfolding fabric_with
   rams-are inputs = refl
 
@@ -86,7 +86,7 @@ module _ (db : Database) (image : Configuration) where
       each_below-at 256 word (ram_word_of image ram.x ram.y) 0 below
       ∙ sym (ap word_of (each_below-at 256 word (start_word image ram.x ram.y) [] below))
 
-  pub words-are : (inputs : LutInputs) → AreWordsOf (fabric_with inputs db image) (flat_map values_of (rams_of db image))
+  pub words-are : (options : FabricOptions) → AreWordsOf (fabric_with options db image) (flat_map values_of (rams_of db image))
   words-are inputs = record {
     count = count-of_parts 256 values_of (rams_of db image) (λ ram. each_below-length 256 _) ∙ ap (λ rams. length rams * 256) (sym (rams-are inputs));
     each = λ ram word inside below.

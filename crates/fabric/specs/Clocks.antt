@@ -20,7 +20,7 @@ abbrev pub HasClock : Fabric → (pins v : List Bool) → Option ℕ → Type 0
 HasClock fabric pins v None = Unit {0}
 HasClock fabric pins v (Some net) = HasEndBit pins (clock_end fabric net) (bit_in v net)
 
--- with these values of the input pins and of nets the clock of each register and each RAM port has the value at the end of its clock chain
+-- with these values of the input ports and of nets the clock of each register and each RAM port has the value at the end of its clock chain
 pub record HasClocks (fabric : Fabric) (pins v : List Bool) : Type 0 where
   pub registers : (register : Register) → Contains fabric.registers register → HasClock fabric pins v register.clk
   pub reads : (ram : RamCell) → Contains fabric.rams ram → HasClock fabric pins v ram.rclk

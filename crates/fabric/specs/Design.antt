@@ -4,7 +4,8 @@ use Rattle.ice_image.specs.Configuration.{Configuration}
 use Rattle.chipdb_reader.specs.Database.{Database}
 use Rattle.chipdb_reader.specs.Fit.{IsFit}
 use Rattle.chipdb_reader.specs.declared.items.PinXy.{PinXy}
-use Rattle.fabric_model.specs.declared.pin.Pin.{Pin}
+use Rattle.fabric_model.specs.declared.input_port.InputPort.{InputPort}
+use Rattle.fabric_model.specs.declared.input_port.InputPort.TheVariants.{Pad, Outside}
 use Rattle.fabric_model.specs.Fabric.{fabric_with}
 use Rattle.fabric_model.specs.Clocks.{ClockEnd}
 use Rattle.fabric_model.specs.Clocks.ClockEnd.{at_pin, still, logic}
@@ -13,21 +14,26 @@ use Rattle.fabric_wiring.specs.declared.parts.Buffer.{Buffer}
 use Rattle.fabric.specs.declared.design_type.LinkEnds.{LinkEnds}
 use Rattle.fabric.specs.Kept.{Kept, IsKeptOf}
 
--- A design is the design of a database and an image if these two have no fault, and it keeps what they configure. Both hold for LUTs that
--- read the inputs that the design says.
+-- A design is the design of a database and an image if these two have no fault, and it keeps what they configure, both with the options of
+-- the design.
 pub record IsDesignOf (db : Database) (image : Configuration) (design : Kept) : Type 0 where
   pub fit : IsFit db
-  pub few : db.chip.nets ≤ 2 ^ 64
-  pub taken : design_fault design.parts.lut_inputs db image ≡ None
-  pub kept : IsKeptOf (fabric_with design.parts.lut_inputs db image) design
+  pub few : (fabric_with design.parts.options db image).nets ≤ 2 ^ 64
+  pub taken : design_fault design.parts.options db image ≡ None
+  pub kept : IsKeptOf (fabric_with design.parts.options db image) design
 
 -- a design of some database and image
 abbrev pub IsDesign : Kept → Type 0
 IsDesign design = (db : Database) × (image : Configuration) × IsDesignOf db image design
 
--- the pin at which a clock chain ends, if it ends at one
-abbrev pub end_pin : List Pin → ClockEnd → Option PinXy
-end_pin inputs (at_pin place turned) = option_map (λ pin. record { x = pin.x; y = pin.y; n = pin.n }) (slice_get inputs place)
+-- the pin of an input port
+abbrev pub pin_of : InputPort → PinXy
+pin_of (Pad x y n) = record { x = x; y = y; n = n }
+pin_of (Outside x y n) = record { x = x; y = y; n = n }
+
+-- the pin at whose input port a clock chain ends, if it ends at one
+abbrev pub end_pin : List InputPort → ClockEnd → Option PinXy
+end_pin inputs (at_pin place turned) = option_map pin_of (slice_get inputs place)
 end_pin inputs (still bit) = None
 end_pin inputs logic = None
 

@@ -1,5 +1,5 @@
 -- Why a database and an image aren't taken, with the evidence.
-use Rattle.std.specs.Prelude.{◌≡◌, ◌≢◌, ℕ, ◌<◌, List, ◌∷◌, Contains, Option, Some, None}
+use Rattle.std.specs.Prelude.{◌≡◌, ◌≢◌, ℕ, ◌<◌, Bool, List, ◌∷◌, Contains, Option, Some, None}
 use Rattle.ice_image.specs.Configuration.{Configuration}
 use Rattle.fabric_model.specs.declared.driver.Driver.{Driver}
 use Rattle.fabric_model.specs.declared.driver.ClockUser.{ClockUser}
@@ -61,8 +61,8 @@ IsCause device fabric fault (Memory failed) = Unit {0}
 
 -- ---- what is taken
 
--- the devices are the same, and pins and RAMs have no fault
-pub record AreTaken (db : Database) (image : Configuration) : Type 0 where
+-- the devices are the same, and pins, of every kind or not, and RAMs have no fault
+pub record AreTaken (all : Bool) (db : Database) (image : Configuration) : Type 0 where
   pub device : db.chip.device ≡ image.layout.device
-  pub pins : pins_fault db image ≡ None
+  pub pins : pins_fault all db image ≡ None
   pub rams : rams_fault db image ≡ None

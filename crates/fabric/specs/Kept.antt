@@ -1,7 +1,7 @@
 -- What is kept of a design, and when it is the design of a fabric.
 use Rattle.std.specs.Prelude.{◌≡◌, ℕ, ◌+◌, ◌*◌, ◌<◌, List, [], length, map, get_or}
 use Rattle.bit_plane.specs.BitList.{word_of}
-use Rattle.fabric_model.specs.declared.pin.Pin.{Pin}
+use Rattle.fabric_model.specs.declared.input_port.InputPort.{InputPort}
 use Rattle.fabric_model.specs.Fabric.{Fabric, inputs_of}
 use Rattle.graph_order.specs.Wiring.{IsWriteOrder}
 use Rattle.fabric_model.specs.Wiring.{wiring_of}
@@ -14,11 +14,11 @@ use Rattle.fabric_wiring.specs.Ends.{AreEndsOf}
 use Rattle.fabric_wiring.specs.declared.output_pins.Output.{Output}
 use Rattle.fabric_wiring.specs.Outputs.{output_of}
 
--- the parts of a fabric, its input pins, its outputs and its drivers, the write order of its classes of joined nets (a topological order of
+-- the parts of a fabric, its input ports, its outputs and its drivers, the write order of its classes of joined nets (a topological order of
 -- the combinational logic), where the clock chain from each class ends, and the start words of the used RAMs, 256 for each
 pub record Kept : Type 0 where
   pub parts : Parts
-  pub inputs : List Pin
+  pub inputs : List InputPort
   pub outputs : List Output
   pub drivers : DriverSet
   pub order : List ℕ

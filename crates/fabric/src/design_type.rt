@@ -9,10 +9,12 @@ ghost use Rattle.fabric_model.specs.Links.{class_in};
 ghost use Rattle.fabric_wiring.specs.DriverLists.{driver_in};
 ghost use Rattle.fabric_wiring.specs.Ends.{end_in, end_of};
 ghost use Rattle.fabric.specs.Kept.{word_in, IsKeptOf};
-ghost use Rattle.fabric.specs.Design.{IsDesign, end_pin, ends_of, link_in};
+ghost use Rattle.fabric.specs.Design.{IsDesign, pin_of, end_pin, ends_of, link_in};
 
 use chipdb_reader::PinXy;
-use fabric_model::{CarrySet, Driver, GlobalNet, LogicCell, LutInputs, Pin, RamCell, Register};
+use fabric_model::{
+    CarrySet, Driver, FabricOptions, GlobalNet, InputPort, LogicCell, Pin, RamCell, Register,
+};
 use fabric_wiring::{Buffer, ClockEnd, Drive, Drivers, Output, Parts, Rule};
 use std::marker::Model;
 
@@ -30,7 +32,7 @@ pub struct LinkEnds {
 #[derive(Drop)]
 pub struct Design {
     parts: Parts,
-    inputs: Vec<Pin>,
+    inputs: Vec<InputPort>,
     outputs: Vec<Output>,
     drivers: Drivers,
     order: Vec<u32>,
@@ -62,11 +64,20 @@ fn ends_of_line(buffers: &[Buffer], line: u32) -> Option<LinkEnds>
     }
 }
 
+/// The pin of an input port.
+fn pin_of(port: InputPort) -> PinXy
+    ensures { result ≡ pin_of port }
+{
+    match port {
+        InputPort::Pad { x, y, n } | InputPort::Outside { x, y, n } => PinXy { x, y, n },
+    }
+}
+
 impl Design {
     /// The design of these parts.
     pub(crate) fn of(
         parts: Parts,
-        inputs: Vec<Pin>,
+        inputs: Vec<InputPort>,
         outputs: Vec<Output>,
         drivers: Drivers,
         order: Vec<u32>,
@@ -95,15 +106,16 @@ impl Design {
         &self.parts.pins
     }
 
-    /// The input pins, by tile and number.
-    pub fn inputs(&self) -> &[Pin]
+    /// The input ports, in the order of the pins.
+    pub fn inputs(&self) -> &[InputPort]
         ensures inputs { result.now ≡ self.now.inputs }
         ensures design { IsDesign self.now }
     {
         &self.inputs
     }
 
-    /// The outputs of the output pins, in the order of the pins. A tri-state pin has two: its value, then its output enable.
+    /// The outputs of the pins that drive their pads, in the order of the pins. One that drives it at times has two: what it drives it with,
+    /// then when it does.
     pub fn outputs(&self) -> &[Output]
         ensures outputs { result.now ≡ self.now.outputs }
         ensures design { IsDesign self.now }
@@ -111,11 +123,11 @@ impl Design {
         &self.outputs
     }
 
-    /// Which inputs the LUTs of the cells read. No tool of this project needs it: it is for users of the library.
-    pub fn lut_inputs(&self) -> LutInputs
-        ensures { result ≡ self.now.parts.lut_inputs }
+    /// What is taken, and which inputs the LUTs of the cells read. No tool of this project needs it: it is for users of the library.
+    pub fn options(&self) -> FabricOptions
+        ensures { result ≡ self.now.parts.options }
     {
-        self.parts.lut_inputs
+        self.parts.options
     }
 
     /// The used logic cells, by tile and index.
@@ -213,18 +225,16 @@ impl Design {
             .unwrap_or(ClockEnd::Still(false))
     }
 
-    /// The pin at which the clock chain from a net of the database ends, or `None` if it ends elsewhere. No tool of this project needs it:
+    /// The pin at whose input port the clock chain from a net of the database ends, or `None` if it ends elsewhere. No tool of this project needs it:
     /// it is for users of the library.
     pub fn clock(&self, net: u32) -> Option<PinXy>
         requires { net < length self.now.drivers.places }
         ensures { result ≡ end_pin self.now.inputs (end_in self.now.ends (class_in self.now.parts.links net)) }
     {
         match self.clock_end(net) {
-            ClockEnd::Pin { place, .. } => self.inputs.get(place as usize).map(|pin| PinXy {
-                x: pin.x,
-                y: pin.y,
-                n: pin.n,
-            }),
+            ClockEnd::Pin { place, .. } => {
+                self.inputs.get(place as usize).map(|port| pin_of(*port))
+            }
             ClockEnd::Still(_) | ClockEnd::Logic => None,
         }
     }

@@ -2,8 +2,7 @@
 ghost use Rattle.std.specs.Prelude.{◌≡◌, ℕ, Bool, List, IfOk, IfErr, OnOk, None};
 ghost use Rattle.ice_image.specs.Either.{configuration_of};
 ghost use Rattle.chipdb_reader.specs.Kept.{database_in};
-ghost use Rattle.fabric_model.specs.declared.lut_inputs.LutInputs.TheVariants as read;
-ghost use Rattle.fabric_model.specs.Fabric.{fabric_with, fabric_of};
+ghost use Rattle.fabric_model.specs.Fabric.{fabric_with, fabric_of, no_options, reading_all};
 ghost use Rattle.fabric_model.specs.Values.{State, IsConsistent};
 ghost use Rattle.fabric_model.specs.Joins.{class_of};
 ghost use Rattle.fabric_model.specs.Clocks.{LeadsTo, clock_end};
@@ -19,7 +18,7 @@ use crate::fault::FabricFault;
 use crate::parts::parts;
 use crate::wire::wire;
 use chipdb_reader::ChipDb;
-use fabric_model::{LutInputs, inputs};
+use fabric_model::{FabricOptions, LutInputs, inputs};
 use ice_image::AnyImage;
 use std::alloc::Global;
 
@@ -45,29 +44,37 @@ use std::alloc::Global;
 /// ```
 pub fn design(alloc: Global, db: &ChipDb, image: &AnyImage) -> Result<Design, FabricFault>
     ensures design { IfOk result (IsDesignOf (database_in db.now) (configuration_of image.now)) }
-    ensures inputs { IfOk result (λ design. design.parts.lut_inputs ≡ read.All) }
-    ensures taken { OnOk result (design_fault read.All (database_in db.now) (configuration_of image.now) ≡ None) }
-    ensures refused { IfErr result (IsCause (configuration_of image.now).layout.device (fabric_of (database_in db.now) (configuration_of image.now)) (design_fault read.All (database_in db.now) (configuration_of image.now))) }
+    ensures options { IfOk result (λ design. design.parts.options ≡ no_options) }
+    ensures taken { OnOk result (design_fault no_options (database_in db.now) (configuration_of image.now) ≡ None) }
+    ensures refused { IfErr result (IsCause (configuration_of image.now).layout.device (fabric_of (database_in db.now) (configuration_of image.now)) (design_fault no_options (database_in db.now) (configuration_of image.now))) }
     ensures one_value { OnOk result ((state : State) (pins : List Bool) → ExactlyOne (IsConsistent (fabric_of (database_in db.now) (configuration_of image.now)) state pins)) }
     ensures chains { OnOk result ((net : ℕ) → LeadsTo (fabric_of (database_in db.now) (configuration_of image.now)) (class_of (fabric_of (database_in db.now) (configuration_of image.now)).joins net) (clock_end (fabric_of (database_in db.now) (configuration_of image.now)) net)) }
     ensures clocks { OnOk result ((state : State) (pins v : List Bool) → IsConsistent (fabric_of (database_in db.now) (configuration_of image.now)) state pins v → HasClocks (fabric_of (database_in db.now) (configuration_of image.now)) pins v) }
     ensures one_run { OnOk result ((events : List Event) → ExactlyOne (IsRun (fabric_of (database_in db.now) (configuration_of image.now)) events)) }
 {
-    design_with(alloc, db, image, LutInputs::All)
+    let options = FabricOptions {
+        lut_inputs: LutInputs::All,
+        all_pins: false,
+    };
+    design_with(alloc, db, image, options)
 }
 
-/// Finds the design of a database and an image whose LUTs read these inputs.
+/// Finds the design of a database and an image with these options.
+///
+/// Without pins of every kind only those are taken that the fabric can read and write as they are; with them the others have registers and
+/// inner nets.
 ///
 /// If LUTs read only the inputs that they use, a LUT doesn't depend on its other inputs. So more designs are taken, since an input that
 /// isn't used closes no cycle. The values of nets, the runs and the clocks are still those of the fabric whose LUTs read all inputs.
 ///
 /// # Errors
-/// As for [`design`]. A cycle is one of the fabric whose LUTs read these inputs.
+/// As for [`design`]. A cycle is one of the fabric with these options.
 ///
 /// # Example
 /// ```ignore
 /// // A cycle through an input that its LUT doesn't use is no cycle here.
-/// let design = fabric::design_with(alloc, &db, &image, LutInputs::Used)?;
+/// let options = FabricOptions { lut_inputs: LutInputs::Used, all_pins: false };
+/// let design = fabric::design_with(alloc, &db, &image, options)?;
 /// for class in design.order() {
 ///     write_wire(*class, design.drive(*class));
 /// }
@@ -76,19 +83,19 @@ pub fn design_with(
     alloc: Global,
     db: &ChipDb,
     image: &AnyImage,
-    lut_inputs: LutInputs,
+    options: FabricOptions,
 ) -> Result<Design, FabricFault>
     ensures design { IfOk result (IsDesignOf (database_in db.now) (configuration_of image.now)) }
-    ensures inputs { IfOk result (λ design. design.parts.lut_inputs ≡ lut_inputs) }
-    ensures taken { OnOk result (design_fault lut_inputs (database_in db.now) (configuration_of image.now) ≡ None) }
-    ensures refused { IfErr result (IsCause (configuration_of image.now).layout.device (fabric_with lut_inputs (database_in db.now) (configuration_of image.now)) (design_fault lut_inputs (database_in db.now) (configuration_of image.now))) }
-    ensures one_value { OnOk result ((state : State) (pins : List Bool) → ExactlyOne (IsConsistent (fabric_of (database_in db.now) (configuration_of image.now)) state pins)) }
-    ensures chains { OnOk result ((net : ℕ) → LeadsTo (fabric_of (database_in db.now) (configuration_of image.now)) (class_of (fabric_of (database_in db.now) (configuration_of image.now)).joins net) (clock_end (fabric_of (database_in db.now) (configuration_of image.now)) net)) }
-    ensures origins { OnOk result ((net : ℕ) → clock_end (fabric_with lut_inputs (database_in db.now) (configuration_of image.now)) net ≡ clock_end (fabric_of (database_in db.now) (configuration_of image.now)) net) }
-    ensures clocks { OnOk result ((state : State) (pins v : List Bool) → IsConsistent (fabric_of (database_in db.now) (configuration_of image.now)) state pins v → HasClocks (fabric_of (database_in db.now) (configuration_of image.now)) pins v) }
-    ensures one_run { OnOk result ((events : List Event) → ExactlyOne (IsRun (fabric_of (database_in db.now) (configuration_of image.now)) events)) }
+    ensures options { IfOk result (λ design. design.parts.options ≡ options) }
+    ensures taken { OnOk result (design_fault options (database_in db.now) (configuration_of image.now) ≡ None) }
+    ensures refused { IfErr result (IsCause (configuration_of image.now).layout.device (fabric_with options (database_in db.now) (configuration_of image.now)) (design_fault options (database_in db.now) (configuration_of image.now))) }
+    ensures one_value { OnOk result ((state : State) (pins : List Bool) → ExactlyOne (IsConsistent (fabric_with (reading_all options) (database_in db.now) (configuration_of image.now)) state pins)) }
+    ensures chains { OnOk result ((net : ℕ) → LeadsTo (fabric_with (reading_all options) (database_in db.now) (configuration_of image.now)) (class_of (fabric_with (reading_all options) (database_in db.now) (configuration_of image.now)).joins net) (clock_end (fabric_with (reading_all options) (database_in db.now) (configuration_of image.now)) net)) }
+    ensures origins { OnOk result ((net : ℕ) → clock_end (fabric_with options (database_in db.now) (configuration_of image.now)) net ≡ clock_end (fabric_with (reading_all options) (database_in db.now) (configuration_of image.now)) net) }
+    ensures clocks { OnOk result ((state : State) (pins v : List Bool) → IsConsistent (fabric_with (reading_all options) (database_in db.now) (configuration_of image.now)) state pins v → HasClocks (fabric_with (reading_all options) (database_in db.now) (configuration_of image.now)) pins v) }
+    ensures one_run { OnOk result ((events : List Event) → ExactlyOne (IsRun (fabric_with (reading_all options) (database_in db.now) (configuration_of image.now)) events)) }
 {
-    let parts = parts(alloc, db, image, lut_inputs)?;
+    let parts = parts(alloc, db, image, options)?;
     prove!(db.device().is_same(image.device()));
     let wired = wire(alloc, db, image, &parts)?;
     let inputs = inputs(alloc, &parts.pins)?;

@@ -1,11 +1,9 @@
 // The parts of the fabric of a database and an image.
-ghost use Rattle.std.specs.Prelude.{◌≡◌, ◌++◌, map, All, IfOk, IfErr, OnOk, slice_get};
-ghost use Rattle.plane_map.specs.declared.tile.TileKind.TheVariants.{Io};
+ghost use Rattle.std.specs.Prelude.{◌≡◌, ◌++◌, map, IfOk, IfErr, OnOk, slice_get};
 ghost use Rattle.ice_image.specs.Either.{configuration_of};
 ghost use Rattle.chipdb_reader.specs.Fit.{IsFit};
 ghost use Rattle.chipdb_reader.specs.Kept.{database_in};
-ghost use Rattle.fabric_model.specs.TilesOfKind.{HasTile};
-ghost use Rattle.fabric_model.specs.Registers.{registers_of, pin_registers_of};
+ghost use Rattle.fabric_model.specs.Registers.{registers_of, flips_among, pin_registers_of};
 ghost use Rattle.fabric_model.specs.Fabric.{fabric_with};
 ghost use Rattle.fabric_model.specs.Faults.{design_fault};
 ghost use Rattle.fabric_wiring.specs.Parts.{ArePartsOf, buffer_of};
@@ -14,7 +12,7 @@ ghost use Rattle.fabric.specs.Buffers.{buffer_if, buffers_at};
 
 use crate::fault::FabricFault;
 use chipdb_reader::{ChipDb, LinkLine};
-use fabric_model::{LogicCell, LutInputs, Pin, Register, links};
+use fabric_model::{FabricOptions, LogicCell, LutInputs, Pin, Register, links};
 use fabric_parts::{cells, pin_registers, pins, rams};
 use fabric_wiring::{Buffer, Parts, registers_of};
 use ice_image::AnyImage;
@@ -54,17 +52,15 @@ fn buffers(alloc: Global, db: &ChipDb, places: &[u32]) -> Result<Vec<Buffer>, Al
 /// The registers: the flip-flops of cells, whose LUTs read these inputs, then the registers of pins.
 fn registers(
     alloc: Global,
-    db: &ChipDb,
-    image: &AnyImage,
     inputs: LutInputs,
     lcs: &[LogicCell],
     pins: &[Pin],
 ) -> Result<Vec<Register>, AllocError>
-    requires { All (λ pin. HasTile image.now Io pin.x pin.y) pins.now }
-    ensures { IfOk result (λ registers. registers.items ≡ registers_of inputs lcs.now ++ pin_registers_of (database_in db.now) (configuration_of image.now) pins.now) }
+    ensures { IfOk result (λ registers. registers.items ≡ registers_of inputs lcs.now ++ pin_registers_of (flips_among lcs.now) pins.now) }
 {
     let mut registers = registers_of(alloc, inputs, lcs)?;
-    registers.extend_from_slice(&pin_registers(alloc, db, image, pins)?)?;
+    let flips = registers.len();
+    registers.extend_from_slice(&pin_registers(alloc, flips, pins)?)?;
     Ok(registers)
 }
 
@@ -73,25 +69,26 @@ pub(crate) fn parts(
     alloc: Global,
     db: &ChipDb,
     image: &AnyImage,
-    inputs: LutInputs,
+    options: FabricOptions,
 ) -> Result<Parts, FabricFault>
-    ensures parts { IfOk result (ArePartsOf (fabric_with inputs (database_in db.now) (configuration_of image.now))) }
+    ensures parts { IfOk result (ArePartsOf (fabric_with options (database_in db.now) (configuration_of image.now))) }
+    ensures options { IfOk result (λ parts. parts.options ≡ options) }
     ensures fit { OnOk result (IsFit (database_in db.now)) }
-    ensures taken { OnOk result (AreTaken (database_in db.now) (configuration_of image.now)) }
-    ensures refused { IfErr result (IsCause (configuration_of image.now).layout.device (fabric_with inputs (database_in db.now) (configuration_of image.now)) (design_fault inputs (database_in db.now) (configuration_of image.now))) }
+    ensures taken { OnOk result (AreTaken options.all_pins (database_in db.now) (configuration_of image.now)) }
+    ensures refused { IfErr result (IsCause (configuration_of image.now).layout.device (fabric_with options (database_in db.now) (configuration_of image.now)) (design_fault options (database_in db.now) (configuration_of image.now))) }
 {
-    let links = links(alloc, db, image)?;
-    let pins = pins(alloc, db, image, &links)?;
+    let links = links(alloc, db, image, options.all_pins)?;
+    let pins = pins(alloc, db, image, &links, options.all_pins)?;
     let rams = rams(alloc, db, image, &links)?;
     let cells = cells(alloc, db, image)?;
-    let registers = registers(alloc, db, image, inputs, &cells.lcs, &pins.pins)?;
+    let registers = registers(alloc, options.lut_inputs, &cells.lcs, &pins.pins)?;
     let buffers = buffers(alloc, db, links.buffers())?;
     Ok(Parts {
         links,
         buffers,
         pins: pins.pins,
         globals: pins.globals,
-        lut_inputs: inputs,
+        options,
         lcs: cells.lcs,
         registers,
         sets: cells.sets,

@@ -9,18 +9,20 @@ use Rattle.fabric_model.specs.declared.cell.LogicCell.{LogicCell}
 use Rattle.fabric_model.specs.declared.lut_inputs.LutInputs.{LutInputs}
 use Rattle.fabric_model.specs.declared.lut_inputs.LutInputs.TheVariants as read
 use Rattle.fabric_model.specs.declared.driver.Driver.{Driver}
-use Rattle.fabric_model.specs.declared.driver.ClockUser.{ClockUser}
-use Rattle.fabric_model.specs.declared.driver.ClockUser.TheVariants.{Cell, Input}
+use Rattle.fabric_model.specs.declared.register.PinRegister.TheVariants as kind
+use Rattle.fabric_model.specs.declared.register.RegisterKind.{RegisterKind}
+use Rattle.fabric_model.specs.declared.register.RegisterKind.TheVariants.{FlipFlop, OfPin}
 use Rattle.fabric_model.specs.declared.register.Register.{Register}
 use Rattle.fabric_model.specs.declared.register.LutTable.{LutTable}
 use Rattle.fabric_model.specs.Unique.{ExactlyOne}
 use Rattle.fabric_model.specs.Joins.{class_of}
 use Rattle.fabric_model.specs.Cells.{cells_of}
+use Rattle.fabric_model.specs.declared.options.FabricOptions.{FabricOptions}
 use Rattle.fabric_model.specs.Pins.{pins_of}
-use Rattle.fabric_model.specs.Registers.{table_of, register_of, registers_of, pin_registers_of}
-use Rattle.fabric_model.specs.Fabric.{Fabric, numbered, inputs_of, fabric_with, fabric_of}
+use Rattle.fabric_model.specs.Registers.{table_of, register_of, flips_among, registers_of, pin_registers_of}
+use Rattle.fabric_model.specs.Fabric.{Fabric, numbered, inputs_of, fabric_with, reading_all}
 use Rattle.fabric_model.specs.Outputs.{outputs_of}
-use Rattle.fabric_model.specs.Drivers.{Rule, Drive, drives_if, drives_by, pin_drives, back_drives, lut_drives, flip_driver, lout_drives, carry_drives, set_drives, ram_drives, global_drives, buffer_drives, pin_register_driver, drives_of, is_driver_of, drivers_of, is_driven}
+use Rattle.fabric_model.specs.Drivers.{Rule, Drive, drives_if, drives_by, pin_drives, back_drives, lut_drives, flip_driver, lout_drives, carry_drives, set_drives, ram_drives, global_drives, buffer_drives, input_driver, second_driver, data_drives, pad_drives, drives_of, is_driver_of, drivers_of, is_driven}
 use Rattle.fabric_model.specs.Drivers.Rule.{table_entry, register_bit}
 use Rattle.fabric_model.specs.Values.{State, signal_value, lut_value, settled_bit, value_of, bit_in, is_connected, IsConsistent}
 use Rattle.fabric_model.specs.Steps.{next_bit, bit_after, words_after, read_after, has_edge, state_after, settled_state, start_state, output_values, Event, Entry, IsEntry, Follows, FollowEach, IsFirst, IsRun}
@@ -100,28 +102,34 @@ drives_by-alike one two alike (Some by) =
     (drives_if-alike by (register_bit one.0 one.1) (register_bit two.0 two.1) one.1.out (register_bit-alike one two alike))
 
 -- what drives the registers that are drivers of some kind
-module _ (driver_of : Register → ClockUser → Option Driver)
-    (kept : (register : Register) (table : LutTable) (user : ClockUser) → driver_of register user ≡ driver_of (record register { table = table }) user) where
+module _ (driver_of : Register → RegisterKind → Option Driver)
+    (kept : (register : Register) (table : LutTable) (kind : RegisterKind) → driver_of register kind ≡ driver_of (record register { table = table }) kind) where
   abbrev given : ℕ × Register → List Drive
-  given place = drives_by place (driver_of place.1 place.1.user)
+  given place = drives_by place (driver_of place.1 place.1.kind)
 
   given-alike : (one two : ℕ × Register) → PlacesAlike one two → AllZip DrivesAlike (given one) (given two)
   given-alike one two alike =
       subst (λ by. AllZip DrivesAlike (given one) (drives_by two by))
-      (register-field one.1 two.1 alike.1 (λ r. driver_of r r.user) (kept one.1 two.1.table one.1.user))
-      (drives_by-alike one two alike (driver_of one.1 one.1.user))
+      (register-field one.1 two.1 alike.1 (λ r. driver_of r r.kind) (kept one.1 two.1.table one.1.kind))
+      (drives_by-alike one two alike (driver_of one.1 one.1.kind))
 
   registers-drive : (one two : List Register) → AllZip RegistersAlike one two → AllZip DrivesAlike (flat_map given (numbered one)) (flat_map given (numbered two))
   registers-drive one two alike =
       pairs-flat_map DrivesAlike PlacesAlike given given given-alike (numbered one) (numbered two) (pairs-numbered RegistersAlike 0 one two alike)
 
-flip-kept : (register : Register) (table : LutTable) (user : ClockUser) → flip_driver register user ≡ flip_driver (record register { table = table }) user
-flip-kept register table (Cell i) = refl
-flip-kept register table user = refl
+flip-kept : (register : Register) (table : LutTable) (is : RegisterKind) → flip_driver register is ≡ flip_driver (record register { table = table }) is
+flip-kept register table (FlipFlop i) = refl
+flip-kept register table (OfPin n of_pin) = refl
 
-pin_register-kept : (register : Register) (table : LutTable) (user : ClockUser) → pin_register_driver register user ≡ pin_register_driver (record register { table = table }) user
-pin_register-kept register table (Input n) = refl
-pin_register-kept register table user = refl
+input-kept : (register : Register) (table : LutTable) (is : RegisterKind) → input_driver register is ≡ input_driver (record register { table = table }) is
+input-kept register table (FlipFlop i) = refl
+input-kept register table (OfPin n kind.Input) = refl
+input-kept register table (OfPin n of_pin) = refl
+
+second-kept : (register : Register) (table : LutTable) (is : RegisterKind) → second_driver register is ≡ second_driver (record register { table = table }) is
+second-kept register table (FlipFlop i) = refl
+second-kept register table (OfPin n kind.SecondInput) = refl
+second-kept register table (OfPin n of_pin) = refl
 
 table-alike : (one two : LutInputs) (lc : LogicCell) → RulesAlike (table_entry (table_of one lc)) (table_entry (table_of two lc))
 unfolding value_of
@@ -141,8 +149,8 @@ module _ (fabric : Fabric) (inputs : LutInputs) (registers : List Register) (ali
   drives-alike =
       let join = pairs-append DrivesAlike in
       let same = pairs-same DrivesAlike drive-itself in
-      join _ _ _ _ (same (flat_map pin_drives (numbered (inputs_of fabric))))
-      (join _ _ _ _ (same (flat_map (back_drives fabric) (filter (λ pin. pin.back) fabric.pins)))
+      join _ _ _ _ (same (flat_map (pin_drives fabric.pins) fabric.pins))
+      (join _ _ _ _ (same (flat_map (back_drives fabric) fabric.pins))
       (join _ _ _ _ (pairs-each DrivesAlike (lut_drives fabric.lut_inputs) (lut_drives inputs)
       (λ lc. drives_if-alike _ _ _ lc.out (table-alike fabric.lut_inputs inputs lc)) (filter (λ lc. not lc.flip) fabric.lcs))
       (join _ _ _ _ (registers-drive flip_driver flip-kept fabric.registers registers alike)
@@ -151,9 +159,12 @@ module _ (fabric : Fabric) (inputs : LutInputs) (registers : List Register) (ali
       (join _ _ _ _ (same (flat_map carry_drives (filter (λ lc. lc.carry) fabric.lcs)))
       (join _ _ _ _ (same (flat_map set_drives fabric.sets))
       (join _ _ _ _ (same (flat_map ram_drives (numbered fabric.rams)))
-      (join _ _ _ _ (same (flat_map (global_drives (inputs_of fabric)) fabric.globals))
+      (join _ _ _ _ (same (flat_map (global_drives fabric.pins) fabric.globals))
       (join _ _ _ _ (same (flat_map buffer_drives fabric.buffers))
-      (registers-drive pin_register_driver pin_register-kept fabric.registers registers alike))))))))))
+      (join _ _ _ _ (registers-drive input_driver input-kept fabric.registers registers alike)
+      (join _ _ _ _ (registers-drive second_driver second-kept fabric.registers registers alike)
+      (join _ _ _ _ (same (flat_map (data_drives fabric) fabric.pins))
+      (same (flat_map (pad_drives fabric) fabric.pins))))))))))))))
 
   is_driver-alike : (class : ℕ) (one two : Drive) → DrivesAlike one two → is_driver_of fabric class one ≡ is_driver_of other class two
   is_driver-alike class one two same = ap (λ net. class_of fabric.joins net == class) same.net
@@ -359,73 +370,77 @@ register_of-alike : (inputs : LutInputs) (lc : LogicCell) → RegistersAlike (re
 unfolding register_of
 register_of-alike inputs lc = record { rest = refl; value = λ connected state pins bit. read-value connected state pins bit inputs lc }
 
-module _ (inputs : LutInputs) (db : Database) (image : Configuration) where
-  pub registers-alike : AllZip RegistersAlike (fabric_with inputs db image).registers (fabric_of db image).registers
+module _ (options : FabricOptions) (db : Database) (image : Configuration) where
+  -- the fabric whose LUTs read all inputs
+  abbrev whole : Fabric
+  whole = fabric_with (reading_all options) db image
+
+  pub registers-alike : AllZip RegistersAlike (fabric_with options db image).registers whole.registers
   unfolding fabric_with registers_of
   registers-alike =
-      pairs-append RegistersAlike (registers_of inputs (cells_of db image)) (registers_of read.All (cells_of db image)) _ _
-      (pairs-made RegistersAlike (register_of inputs) (register_of read.All) (register_of-alike inputs) (filter (λ lc. lc.flip) (cells_of db image)))
-      (pairs-same RegistersAlike register-itself (pin_registers_of db image (pins_of db image)))
+      pairs-append RegistersAlike (registers_of options.lut_inputs (cells_of db image)) (registers_of read.All (cells_of db image)) _ _
+      (pairs-made RegistersAlike (register_of options.lut_inputs) (register_of read.All) (register_of-alike options.lut_inputs) (filter (λ lc. lc.flip) (cells_of db image)))
+      (pairs-same RegistersAlike register-itself (pin_registers_of (flips_among (cells_of db image)) (pins_of options.all_pins db image)))
 
   -- what is shown of each fabric with other LUTs and registers that are alike is shown of the fabric whose LUTs read all inputs
-  pub in-all : (P : Fabric → Type 0) → P (record (fabric_with inputs db image) { lut_inputs = read.All; registers = (fabric_of db image).registers }) → P (fabric_of db image)
+  pub in-all : (P : Fabric → Type 0) → P (record (fabric_with options db image) { lut_inputs = read.All; registers = whole.registers }) → P whole
   unfolding fabric_with
   in-all P holds = holds
 
-  to-all : Agree (fabric_with inputs db image) (fabric_of db image)
-  to-all = in-all (λ all. Agree (fabric_with inputs db image) all) (agree-other (fabric_with inputs db image) read.All (fabric_of db image).registers registers-alike)
+  to-all : Agree (fabric_with options db image) whole
+  to-all = in-all (λ all. Agree (fabric_with options db image) all) (agree-other (fabric_with options db image) read.All whole.registers registers-alike)
 
-  pub from-all : Agree (fabric_of db image) (fabric_with inputs db image)
-  from-all = in-all (λ all. Agree all (fabric_with inputs db image)) (agree-back (fabric_with inputs db image) read.All (fabric_of db image).registers registers-alike)
+  pub from-all : Agree whole (fabric_with options db image)
+  from-all = in-all (λ all. Agree all (fabric_with options db image)) (agree-back (fabric_with options db image) read.All whole.registers registers-alike)
 
   -- the runs are the same
-  pub run-with : (events : List Event) (entries : List Entry) → IsRun (fabric_of db image) events entries → IsRun (fabric_with inputs db image) events entries
-  run-with = run-moved (fabric_of db image) (fabric_with inputs db image) from-all
+  pub run-with : (events : List Event) (entries : List Entry) → IsRun whole events entries → IsRun (fabric_with options db image) events entries
+  run-with = run-moved whole (fabric_with options db image) from-all
 
-  run-of : (events : List Event) (entries : List Entry) → IsRun (fabric_with inputs db image) events entries → IsRun (fabric_of db image) events entries
-  run-of = run-moved (fabric_with inputs db image) (fabric_of db image) to-all
+  run-of : (events : List Event) (entries : List Entry) → IsRun (fabric_with options db image) events entries → IsRun whole events entries
+  run-of = run-moved (fabric_with options db image) whole to-all
 
   -- so are the input pins, and where clocks come from
-  pub inputs-with : inputs_of (fabric_with inputs db image) ≡ inputs_of (fabric_of db image)
+  pub inputs-with : inputs_of (fabric_with options db image) ≡ inputs_of whole
   unfolding fabric_with
   inputs-with = refl
 
-  pub clock_end-with : (net : ℕ) → clock_end (fabric_with inputs db image) net ≡ clock_end (fabric_of db image) net
+  pub clock_end-with : (net : ℕ) → clock_end (fabric_with options db image) net ≡ clock_end whole net
   clock_end-with net =
-      in-all (λ all. clock_end (fabric_with inputs db image) net ≡ clock_end all net)
-      (clock_end-alike (fabric_with inputs db image) read.All (fabric_of db image).registers registers-alike net)
+      in-all (λ all. clock_end (fabric_with options db image) net ≡ clock_end all net)
+      (clock_end-alike (fabric_with options db image) read.All whole.registers registers-alike net)
 
-  pub leads-with : (class : ℕ) (end : ClockEnd) → LeadsTo (fabric_with inputs db image) class end → LeadsTo (fabric_of db image) class end
+  pub leads-with : (class : ℕ) (end : ClockEnd) → LeadsTo (fabric_with options db image) class end → LeadsTo whole class end
   leads-with class end =
-      in-all (λ all. LeadsTo (fabric_with inputs db image) class end → LeadsTo all class end)
-      (λ leads. leads-alike (fabric_with inputs db image) read.All (fabric_of db image).registers registers-alike leads)
+      in-all (λ all. LeadsTo (fabric_with options db image) class end → LeadsTo all class end)
+      (λ leads. leads-alike (fabric_with options db image) read.All whole.registers registers-alike leads)
 
-  pub driven-with : (class : ℕ) → is_driven (fabric_with inputs db image) class ≡ is_driven (fabric_of db image) class
+  pub driven-with : (class : ℕ) → is_driven (fabric_with options db image) class ≡ is_driven whole class
   driven-with class =
-      in-all (λ all. is_driven (fabric_with inputs db image) class ≡ is_driven all class)
-      (driven-alike (fabric_with inputs db image) read.All (fabric_of db image).registers registers-alike class)
+      in-all (λ all. is_driven (fabric_with options db image) class ≡ is_driven all class)
+      (driven-alike (fabric_with options db image) read.All whole.registers registers-alike class)
 
-  pub outputs-with : outputs_of (fabric_with inputs db image) ≡ outputs_of (fabric_of db image)
+  pub outputs-with : outputs_of (fabric_with options db image) ≡ outputs_of whole
   outputs-with =
-      in-all (λ all. outputs_of (fabric_with inputs db image) ≡ outputs_of all)
-      (outputs-alike (fabric_with inputs db image) read.All (fabric_of db image).registers registers-alike)
+      in-all (λ all. outputs_of (fabric_with options db image) ≡ outputs_of all)
+      (outputs-alike (fabric_with options db image) read.All whole.registers registers-alike)
 
   -- Where a database and an image aren't refused, whichever inputs their LUTs read, their fabric has exactly one list of values for each
   -- state and all values of pins, and exactly one run for each list of events.
-  module _ (fit : IsFit db) (none : design_fault inputs db image ≡ None) where
-    pub design-value : (state : State) (pins : List Bool) → ExactlyOne (IsConsistent (fabric_of db image) state pins)
+  module _ (fit : IsFit db) (none : design_fault options db image ≡ None) where
+    pub design-value : (state : State) (pins : List Bool) → ExactlyOne (IsConsistent whole state pins)
     design-value state pins =
-        let one = taken-value image.layout.device (fabric_with inputs db image) (design-taken inputs db image none).fabric (fabric-within db image fit inputs) state pins in
+        let one = taken-value image.layout.device (fabric_with options db image) (design-taken options db image none).fabric (fabric-within db image fit options) state pins in
         record {
           it = one.it;
           is = to-all.consistent state pins one.it one.is;
           only = λ v is. one.only v (from-all.consistent state pins v is);
         }
 
-    pub design-run : (events : List Event) → ExactlyOne (IsRun (fabric_of db image) events)
+    pub design-run : (events : List Event) → ExactlyOne (IsRun whole events)
     design-run events =
-        let one = taken-run image.layout.device (fabric_with inputs db image) (design-taken inputs db image none).fabric
-        (fabric-placed db image inputs) (fabric-within db image fit inputs) events in
+        let one = taken-run image.layout.device (fabric_with options db image) (design-taken options db image none).fabric
+        (fabric-placed db image options) (fabric-within db image fit options) events in
         record {
           it = one.it;
           is = run-of events one.it one.is;

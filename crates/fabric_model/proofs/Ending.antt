@@ -1,10 +1,10 @@
 -- What is kept of the links that are on.
-use Rattle.std.proofs.Common.{◌≡◌, ℕ, suc, ◌<◌, false, eqb, ◌||◌, List, [], ◌∷◌, length, get_or, map, refl, sym, ap, ap₂, ◌∙◌, subst, arith, inl, inr}
+use Rattle.std.proofs.Common.{◌≡◌, ℕ, suc, ◌<◌, ◌≤◌, false, eqb, ◌||◌, List, [], ◌∷◌, length, get_or, map, refl, sym, ap, ap₂, ◌∙◌, subst, arith, inl, inr}
 use Rattle.std.specs.Prelude.{filter, All}
 use Rattle.std.specs.List.{list_any}
 use Rattle.std.proofs.lemmas.Bool.{cases_Bool, cases_lt}
 use Rattle.std.proofs.lemmas.List.{get_or_past, get_or_default}
-use Rattle.std.proofs.lemmas.List.Elements.{All-head, All-tail, All-cons, All-nil}
+use Rattle.std.proofs.lemmas.List.Elements.{All-head, All-tail, All-cons, All-nil, All-weaker}
 use Rattle.ice_image.specs.Configuration.{Configuration}
 use Rattle.chipdb_lines.specs.declared.chip.Chip.{Chip}
 use Rattle.chipdb_reader.specs.Database.{Database, Link}
@@ -57,9 +57,11 @@ unfolding links_on
 below-is chip image links fit = below-from chip image 0 links fit
 
 -- the same of a list that is kept of them
-pub below-at : (nets : ℕ) (chip : Chip) (image : Configuration) (links : List Link) (kept : List OnLink) → nets ≡ chip.nets → kept ≡ links_on image links → All (IsLink chip) links → All (IsBelow nets) kept
-below-at nets chip image links kept nets_are kept_are fit =
-    subst (λ nets. All (IsBelow nets) kept) (sym nets_are) (subst (All (IsBelow chip.nets)) (sym kept_are) (below-is chip image links fit))
+pub below-at : (nets : ℕ) (chip : Chip) (image : Configuration) (links : List Link) (kept : List OnLink) → chip.nets ≤ nets → kept ≡ links_on image links → All (IsLink chip) links
+    → All (IsBelow nets) kept
+below-at nets chip image links kept few kept_are fit =
+    All-weaker (IsBelow chip.nets) (IsBelow nets) (λ link is. record { src_in = omega (arith, is.src_in, few); dst_in = omega (arith, is.dst_in, few) }) kept
+    (subst (All (IsBelow chip.nets)) (sym kept_are) (below-is chip image links fit))
 
 ends-below : (nets : ℕ) (links : List OnLink) → All (IsBelow nets) links → AreBelow nets (ends_of links)
 unfolding AreBelow
@@ -112,30 +114,30 @@ reads-is db image net = ap₂ (λ a b. a || b) (sources-from image net 0 db.buff
 
 -- ---- the whole
 
-classes-is : (db : Database) (image : Configuration) (classes : List ℕ) → length classes ≡ db.chip.nets → AreBelow db.chip.nets (joins_of db image)
-    → ((net : ℕ) → net < db.chip.nets → get_or classes net 0 ≡ class_of (joins_of db image) net) → (net : ℕ) → get_or classes net net ≡ class_of (joins_of db image) net
-classes-is db image classes size below inside net =
-    elim (cases_lt net db.chip.nets) [
-      | inl within ↦ get_or_default classes net net 0 (omega arith) ∙ inside net within
-      | inr out ↦ get_or_past classes net net (omega arith) ∙ sym (class_of-outside db.chip.nets (joins_of db image) net below out)
+classes-is : (nets : ℕ) (joins : List (ℕ × ℕ)) (classes : List ℕ) → length classes ≡ nets → AreBelow nets joins
+    → ((net : ℕ) → net < nets → get_or classes net 0 ≡ class_of joins net) → (net : ℕ) → get_or classes net net ≡ class_of joins net
+classes-is nets joins classes size below inside net =
+    elim (cases_lt net nets) [
+      | inl within ↦ get_or_default classes net net 0 (omega (arith, within, size)) ∙ inside net within
+      | inr out ↦ get_or_past classes net net (omega (arith, out, size)) ∙ sym (class_of-outside nets joins net below out)
     ]
 
 -- what is made of the links that are on is of the database and the image
-pub are-links : (db : Database) (image : Configuration) (buffers routings : List OnLink) (links : LinkSet) → IsFit db
+pub are-links : (nets : ℕ) (db : Database) (image : Configuration) (buffers routings : List OnLink) (links : LinkSet) → db.chip.nets ≤ nets → IsFit db
     → buffers ≡ links_on image db.buffers → routings ≡ links_on image db.routings
     → links.buffers ≡ map (λ link. link.place) buffers → links.routings ≡ map (λ link. link.place) routings
-    → length links.classes ≡ db.chip.nets
-    → ((net : ℕ) → net < db.chip.nets → get_or links.classes net 0 ≡ class_of (ends_of routings) net)
+    → length links.classes ≡ nets
+    → ((net : ℕ) → net < nets → get_or links.classes net 0 ≡ class_of (ends_of routings) net)
     → ((net : ℕ) → get_or links.reads net false ≡ (list_any (comes_from net) buffers || list_any (touches net) routings))
     → AreLinks db image links
-are-links db image buffers routings links fit buffers_are routings_are kept_buffers kept_routings size classes reads =
+are-links nets db image buffers routings links few fit buffers_are routings_are kept_buffers kept_routings size classes reads =
     let joins : ends_of routings ≡ joins_of db image = ap ends_of routings_are ∙ ends-is db image in
     record {
-      nets = size;
+      nets = omega (arith, few, size);
       buffers = kept_buffers ∙ ap (map (λ link. link.place)) buffers_are ∙ places-is image db.buffers;
       routings = kept_routings ∙ ap (map (λ link. link.place)) routings_are ∙ places-is image db.routings;
-      classes = classes-is db image links.classes size
-          (subst (AreBelow db.chip.nets) (ends-is db image) (ends-below db.chip.nets (links_on image db.routings) (below-is db.chip image db.routings fit.routings)))
+      classes = classes-is nets (joins_of db image) links.classes size
+          (subst (AreBelow nets) (ends-is db image) (ends-below nets (links_on image db.routings) (below-at nets db.chip image db.routings (links_on image db.routings) few refl fit.routings)))
           (λ net within. classes net within ∙ ap (λ joins. class_of joins net) joins);
       reads = λ net. reads net ∙ ap₂ (λ a b. list_any (comes_from net) a || list_any (touches net) b) buffers_are routings_are ∙ reads-is db image net;
     }

@@ -1,9 +1,11 @@
 -- Lists over the tiles of a kind.
-use Rattle.std.proofs.Common.{◌≡◌, ℕ, zero, suc, ◌+◌, ◌<◌, ◌≤◌, Bool, true, false, List, [], ◌∷◌, ◌++◌, append-nil, take, take_all, length, get_or, refl, sym, ap, ◌∙◌, arith}
+use Rattle.std.proofs.Common.{◌≡◌, ℕ, zero, suc, ◌+◌, ◌*◌, ◌<◌, ◌≤◌, Bool, true, false, List, [], ◌∷◌, ◌++◌, append-nil, take, take_all, length, get_or, refl, sym, ap, ◌∙◌, arith}
 use Rattle.std.specs.Prelude.{All, Option, Some, None, if◌then◌else◌}
 use Rattle.std.specs.List.{flat_map}
 use Rattle.index_search.specs.Places.{gathered_below}
+use Rattle.std.proofs.lemmas.List.{length-append}
 use Rattle.std.proofs.lemmas.List.Elements.{All-nil, All-push}
+use Rattle.fabric_model.proofs.OneValue.{each_below-length}
 use Rattle.fabric_model.proofs.Firsts.{first_of-append}
 use Rattle.index_search.proofs.Gathered.{All-gathered_below, flat_map-gathered_below}
 use Rattle.shared_lemmas.proofs.Lists.{append_empty, flat_map-more}
@@ -14,7 +16,8 @@ use Rattle.plane_map.specs.declared.tile.TileKind.{TileKind}
 use Rattle.plane_map.specs.declared.tile.TileKind.TheVariants.{Io, Logic, RamB, RamT}
 use Rattle.chipdb_lines.specs.Statements.{is_kind_there, is_same_kind}
 use Rattle.chipdb_reader.specs.declared.items.TileXy8.{TileXy8}
-use Rattle.fabric_model.specs.Tiles.{over_tiles, over_grid, at_kind, first_of, item_if}
+use Rattle.fabric_model.specs.Tiles.{over_tiles, over_grid, at_kind, each_below, first_of, item_if}
+use Rattle.fabric_model.specs.Pins.{PinPlace, pin_places}
 use Rattle.fabric_model.specs.TilesOfKind.{tiles_of, tile_if}
 
 -- a kind is the same as itself alone
@@ -144,3 +147,19 @@ item_if-item false item is = absurd cc
 pub item_if-none : {A : Type 0} (passes : Bool) (item : A) → passes ≡ false → item_if passes item ≡ []
 item_if-none true item is = absurd cc
 item_if-none false item is = refl
+
+-- there are two pins for each io tile
+two-each : {A B : Type 0} (given : A → List B) → ((item : A) → length (given item) ≡ 2) → (items : List A) → length (flat_map given items) ≡ 2 * length items
+two-each given two [] = refl
+two-each given two (item ∷ items) =
+    let both = length-append (given item) (flat_map given items) in
+    let here = two item in
+    let rest = two-each given two items in
+    omega (arith, both, here, rest)
+
+pub pin_places-count : (device : DeviceName) → length (pin_places device) ≡ 2 * length (tiles_of device Io)
+unfolding pin_places
+pin_places-count device =
+    let given : ℕ → ℕ → List PinPlace = λ x y. each_below 2 (λ n. record { x = x; y = y; n = n }) in
+    ap length (over_tiles-listed device Io given)
+    ∙ two-each (λ (tile : TileXy8). given tile.x tile.y) (λ tile. each_below-length 2 (λ n. record { x = tile.x; y = tile.y; n = n })) (tiles_of device Io)

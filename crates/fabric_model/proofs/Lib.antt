@@ -19,6 +19,8 @@ pub mod ClockPasses
 pub mod Chains
 -- the fabric of a database whose lines name nets of the device has no net past their number
 pub mod Within
+-- what lists that are made from others contain
+pub mod Contained
 -- what inputs read is there
 pub mod Signals
 -- how a state settles: to settle twice is to settle once, and the values of nets don't see it
@@ -57,3 +59,5 @@ pub mod Nets
 pub mod Apart
 -- no driver of a database and an image stands twice
 pub mod Once
+-- registers of pins, by their keys
+pub mod Keys

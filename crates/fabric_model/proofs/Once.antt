@@ -1,9 +1,9 @@
 -- No driver of a database and an image stands twice: each pin, cell, carry input, RAM, global net and buffer is listed once, each
 -- gives a driver of each kind at most once, and kinds differ.
-use Rattle.std.proofs.Common.{◌≡◌, ◌≢◌, ℕ, suc, ◌≤◌, true, false, not, List, ◌∷◌, ◌++◌, get_or, refl, sym, ap, ◌∙◌, subst, arith}
+use Rattle.std.proofs.Common.{◌≡◌, ◌≢◌, ℕ, suc, ◌≤◌, ◌&&◌, true, false, not, List, [], ◌∷◌, map, ◌++◌, get_or, refl, sym, ap, ◌∙◌, subst, arith}
 use Rattle.std.specs.Prelude.{All, Bool, Option, Some, None, filter, codes, if◌then◌else◌}
 use Rattle.std.specs.List.{flat_map}
-use Rattle.std.proofs.lemmas.List.Elements.{All-nil, All-head, All-map, All-append, All-weaker}
+use Rattle.std.proofs.lemmas.List.Elements.{All-nil, All-cons, All-head, All-map, All-append, All-weaker}
 use Rattle.index_search.specs.Places.{gathered_below}
 use Rattle.index_search.proofs.Gathered.{All-gathered_below}
 use Rattle.plane_map.specs.declared.tile.TileKind.TheVariants.{Io, Logic, RamB}
@@ -17,19 +17,25 @@ use Rattle.fabric_model.specs.declared.ram.RamCell.{RamCell}
 use Rattle.fabric_model.specs.declared.pin.Pin.{Pin}
 use Rattle.fabric_model.specs.declared.pin.GlobalNet.{GlobalNet}
 use Rattle.fabric_model.specs.declared.pin.GlobalFrom.{GlobalFrom}
-use Rattle.fabric_model.specs.declared.driver.ClockUser.{ClockUser}
-use Rattle.fabric_model.specs.declared.driver.ClockUser.TheVariants.{Cell, Input, Output, Read, Write}
+use Rattle.fabric_model.specs.declared.input_port.InputPort.TheVariants.{Pad as PadPort}
+use Rattle.fabric_model.specs.declared.options.FabricOptions.{FabricOptions}
+use Rattle.fabric_model.specs.declared.register.PinRegister.{PinRegister}
+use Rattle.fabric_model.specs.declared.register.PinRegister.TheVariants as kind
+use Rattle.fabric_model.specs.declared.register.RegisterKind.{RegisterKind}
+use Rattle.fabric_model.specs.declared.register.RegisterKind.TheVariants.{FlipFlop, OfPin}
 use Rattle.fabric_model.specs.declared.driver.Driver.{Driver}
 use Rattle.fabric_model.specs.declared.driver.Driver.TheVariants as driver
 use Rattle.fabric_model.specs.On.{is_link_on, is_function_on}
 use Rattle.fabric_model.specs.Nets.{net_named}
-use Rattle.fabric_model.specs.Tiles.{item_if}
+use Rattle.fabric_model.specs.Tiles.{each_below, item_if}
 use Rattle.fabric_model.specs.Cells.{cell_bits, cell_with, is_used, used_cell, cells_at, cells_of, set_with, sets_at, sets_of}
 use Rattle.fabric_model.specs.Rams.{is_ram_used, ram_at, rams_of}
-use Rattle.fabric_model.specs.Pins.{pintype_of, is_port, is_input_read, is_registered, pin_with, port_at, pins_of, is_global_net, global_nets, nets_from, global_source, globals_of}
-use Rattle.fabric_model.specs.Fabric.{Fabric, Buffer, numbered, buffer_of, buffers_of, fabric_with, inputs_of}
-use Rattle.fabric_model.specs.Registers.{table_of, register_of, registers_of, pin_register, pin_registers_of}
-use Rattle.fabric_model.specs.Drivers.{Rule, Drive, drives_if, drives_by, pin_drives, output_signal, back_drives, lut_drives, flip_driver, flip_drives, lout_drives, carry_drives, set_drives, read_data_rule, ram_drive, ram_drives, global_drives, buffer_drives, pin_register_driver, pin_register_drives, global_rule, drives_of, is_driver_of, drivers_of}
+use Rattle.fabric_model.specs.PinTypes.{has_table, takes_pad}
+use Rattle.fabric_model.specs.Pins.{PinPlace, pin_places, drives, has_outside, pin_with, port_at, pins_of, is_global_net, global_nets, nets_from, global_source, globals_of}
+use Rattle.fabric_model.specs.InputPorts.{input_place}
+use Rattle.fabric_model.specs.Fabric.{Fabric, Buffer, numbered, buffer_of, buffers_of, fabric_with}
+use Rattle.fabric_model.specs.Registers.{table_of, register_of, flips_among, registers_of, registers_in, kind_number, pin_register, pin_registers_of}
+use Rattle.fabric_model.specs.Drivers.{Rule, Drive, drives_if, drives_by, pin_drives, pad_of, is_read_back, back_drives, lut_drives, flip_driver, flip_drives, lout_drives, carry_drives, set_drives, read_data_rule, ram_drive, ram_drives, global_drives, buffer_drives, input_driver, input_drives, second_driver, second_drives, data_table, data_drives, pad_table, pad_drives, global_rule, drives_of, is_driver_of, drivers_of}
 use Rattle.fabric_model.proofs.Within.{All-flat_map, All-if, All-unless, All-item_if, All-single}
 use Rattle.fabric_model.proofs.Apart.{AreApart, apart-single, apart-if, apart-unless, apart-item_if, apart-append, apart-weaker, apart-filter, apart-map, apart-flat_map, apart-gathered, apart-over_tiles, All-every, numbered-apart, apart-numbered}
 
@@ -42,7 +48,7 @@ abbrev pub CellsDiffer : LogicCell → LogicCell → Type 0
 CellsDiffer one two = one.x ≡ two.x → one.y ≡ two.y → one.i ≡ two.i → ⊥
 
 abbrev pub RegistersDiffer : Register → Register → Type 0
-RegistersDiffer one two = one.x ≡ two.x → one.y ≡ two.y → one.user ≡ two.user → ⊥
+RegistersDiffer one two = one.x ≡ two.x → one.y ≡ two.y → one.kind ≡ two.kind → ⊥
 
 abbrev pub SetsDiffer : CarrySet → CarrySet → Type 0
 SetsDiffer one two = one.x ≡ two.x → one.y ≡ two.y → ⊥
@@ -66,25 +72,40 @@ pub record ArePartsApart (fabric : Fabric) : Type 0 where
   pub globals : AreApart GlobalsDiffer fabric.globals
   pub buffers : AreApart BuffersDiffer fabric.buffers
 
--- whether a user of a clock is the flip-flop of a cell
-is_cell_user : ClockUser → Bool
-is_cell_user (Cell i) = true
-is_cell_user (Input n) = false
-is_cell_user (Output n) = false
-is_cell_user Read = false
-is_cell_user Write = false
+-- whether a register is the flip-flop of a cell
+is_flip_flop : RegisterKind → Bool
+is_flip_flop (FlipFlop i) = true
+is_flip_flop (OfPin n register) = false
 
--- the register of a pin tells the pin's number
-pin_user-number : (out other : Bool) (n m : ℕ) → (if out then Output n else Input n) ≡ (if other then Output m else Input m) → n ≡ m
-pin_user-number true true n m same = cc
-pin_user-number true false n m same = absurd cc
-pin_user-number false true n m same = absurd cc
-pin_user-number false false n m same = cc
+abbrev KindsDiffer : PinRegister → PinRegister → Type 0
+KindsDiffer one two = one ≢ two
 
-pin_user-no_cell : (out : Bool) (n : ℕ) → is_cell_user (if out then Output n else Input n) ≡ false
-unfolding is_cell_user
-pin_user-no_cell true n = refl
-pin_user-no_cell false n = refl
+-- registers of a pin in the order of their kinds, from a kind on
+record IsFromRegister (number : ℕ) (registers : List PinRegister) : Type 0 where
+  apart : AreApart KindsDiffer registers
+  all : All (λ register. number ≤ kind_number register) registers
+
+register-last : (passes : Bool) (register : PinRegister) → IsFromRegister (kind_number register) (item_if passes register)
+register-last passes register = record {
+  apart = apart-item_if KindsDiffer passes register;
+  all = All-item_if (λ other. kind_number register ≤ kind_number other) passes register (omega arith);
+}
+
+register-then : (passes : Bool) (register : PinRegister) (more : List PinRegister) → IsFromRegister (suc (kind_number register)) more
+    → IsFromRegister (kind_number register) (item_if passes register ++ more)
+register-then false register more from = record {
+  apart = from.apart;
+  all = All-weaker (λ other. suc (kind_number register) ≤ kind_number other) (λ other. kind_number register ≤ kind_number other) (λ other later. omega (arith, later)) more from.all;
+}
+register-then true register more from = record {
+  apart = (
+    All-weaker (λ other. suc (kind_number register) ≤ kind_number other) (KindsDiffer register)
+        (λ other later same. let numbers : kind_number register ≡ kind_number other = ap kind_number same in absurd (omega (arith, later, numbers))) more from.all,
+    from.apart,
+  );
+  all = All-cons (λ other. kind_number register ≤ kind_number other) register more (omega arith)
+      (All-weaker (λ other. suc (kind_number register) ≤ kind_number other) (λ other. kind_number register ≤ kind_number other) (λ other later. omega (arith, later)) more from.all);
+}
 
 -- nothing more is known of them
 abbrev AnyPart : {A : Type 0} → A → Type 0
@@ -93,27 +114,42 @@ AnyPart part = Unit {0}
 module _ (db : Database) (image : Configuration) where
   -- ---- pins
 
-  abbrev pin_here : ℕ → ℕ → ℕ → Pin
-  pin_here x y n = pin_with db x y n (pintype_of db image x y n)
+  -- two places of pins differ
+  abbrev PlacesDiffer : PinPlace → PinPlace → Type 0
+  PlacesDiffer one two = one.x ≡ two.x → one.y ≡ two.y → one.n ≡ two.n → ⊥
 
-  pin-at : (x y n : ℕ) → Unit {0} × ((pin_here x y n).x ≡ x) × ((pin_here x y n).y ≡ y)
+  places-apart : AreApart PlacesDiffer (pin_places image.layout.device)
+  unfolding pin_places
+  places-apart =
+      apart-over_tiles PlacesDiffer AnyPart (λ place. place.x) (λ place. place.y) (λ a b of_a of_b other x y n. absurd (other x)) (λ a b of_a of_b other x y n. absurd (other y))
+      image.layout.device Io (λ x y. each_below 2 (λ n. record { x = x; y = y; n = n }))
+      (λ x y left low. All-gathered_below (λ (place : PinPlace). Unit {0} × (place.x ≡ x) × (place.y ≡ y)) 2 (λ n. record { x = x; y = y; n = n } ∷ [])
+      (λ n few. All-single (λ (place : PinPlace). Unit {0} × (place.x ≡ x) × (place.y ≡ y)) (record { x = x; y = y; n = n }) (tt, refl, refl)))
+      (λ x y left low. apart-gathered PlacesDiffer AnyPart (λ place. place.n) (λ a b of_a of_b other same_x same_y n. absurd (other n)) 2 (λ n. record { x = x; y = y; n = n } ∷ [])
+      (λ n few. All-single (λ (place : PinPlace). Unit {0} × (place.n ≡ n)) (record { x = x; y = y; n = n }) (tt, refl))
+      (λ n few. apart-single PlacesDiffer (record { x = x; y = y; n = n })))
+
+  -- a pin is at its place
+  abbrev IsAtPlace : PinPlace → Pin → Type 0
+  IsAtPlace place pin = (pin.x ≡ place.x) × (pin.y ≡ place.y) × (pin.n ≡ place.n)
+
+  pin-at : (all : Bool) (place : ℕ × PinPlace) → IsAtPlace place.1 (pin_with all db image place.0 place.1.x place.1.y place.1.n)
   unfolding pin_with
-  pin-at x y n = (tt, refl, refl)
+  pin-at all place = (refl, refl, refl)
 
-  pin-number : (x y n : ℕ) → Unit {0} × ((pin_here x y n).n ≡ n)
-  unfolding pin_with
-  pin-number x y n = (tt, refl)
+  port-at : (all : Bool) (place : ℕ × PinPlace) → All (IsAtPlace place.1) (port_at all db image place)
+  port-at all place = All-item_if (IsAtPlace place.1) _ (pin_with all db image place.0 place.1.x place.1.y place.1.n) (pin-at all place)
 
-  pins-apart : AreApart PinsDiffer (pins_of db image)
+  pins-apart : (all : Bool) → AreApart PinsDiffer (pins_of all db image)
   unfolding pins_of
-  pins-apart =
-      apart-over_tiles PinsDiffer AnyPart (λ pin. pin.x) (λ pin. pin.y) (λ a b of_a of_b other x y n. absurd (other x)) (λ a b of_a of_b other x y n. absurd (other y))
-      image.layout.device Io (λ x y. gathered_below 2 (port_at db image x y))
-      (λ x y left low. All-gathered_below (λ (pin : Pin). Unit {0} × (pin.x ≡ x) × (pin.y ≡ y)) 2 (port_at db image x y)
-      (λ n few. All-item_if (λ (pin : Pin). Unit {0} × (pin.x ≡ x) × (pin.y ≡ y)) (is_port (pintype_of db image x y n) (is_input_read db image x y n)) (pin_here x y n) (pin-at x y n)))
-      (λ x y left low. apart-gathered PinsDiffer AnyPart (λ pin. pin.n) (λ a b of_a of_b other same_x same_y n. absurd (other n)) 2 (port_at db image x y)
-      (λ n few. All-item_if (λ (pin : Pin). Unit {0} × (pin.n ≡ n)) (is_port (pintype_of db image x y n) (is_input_read db image x y n)) (pin_here x y n) (pin-number x y n))
-      (λ n few. apart-item_if PinsDiffer (is_port (pintype_of db image x y n) (is_input_read db image x y n)) (pin_here x y n)))
+  pins-apart all =
+      apart-flat_map PinsDiffer (λ (one two : ℕ × PinPlace). PlacesDiffer one.1 two.1) (port_at all db image)
+      (λ a b other. All-weaker (IsAtPlace a.1) (λ one. All (PinsDiffer one) (port_at all db image b))
+      (λ one of_one. All-weaker (IsAtPlace b.1) (PinsDiffer one)
+      (λ two of_two x y n. other (sym of_one.0 ∙ (x ∙ of_two.0)) (sym of_one.1 ∙ (y ∙ of_two.1)) (sym of_one.2 ∙ (n ∙ of_two.2))) (port_at all db image b) (port-at all b))
+      (port_at all db image a) (port-at all a))
+      (λ place. apart-item_if PinsDiffer _ (pin_with all db image place.0 place.1.x place.1.y place.1.n))
+      (numbered (pin_places image.layout.device)) (apart-numbered PlacesDiffer 0 (pin_places image.layout.device) places-apart)
 
   -- ---- cells
 
@@ -143,7 +179,7 @@ module _ (db : Database) (image : Configuration) where
 
   flips-differ : (inputs : LutInputs) (one two : LogicCell) → CellsDiffer one two → RegistersDiffer (register_of inputs one) (register_of inputs two)
   unfolding register_of
-  flips-differ inputs one two other x y user = other x y (cc)
+  flips-differ inputs one two other x y kind = other x y (cc)
 
   flips-apart : (inputs : LutInputs) → AreApart RegistersDiffer (registers_of inputs (cells_of db image))
   unfolding registers_of
@@ -152,49 +188,77 @@ module _ (db : Database) (image : Configuration) where
       (apart-weaker CellsDiffer (λ one two. RegistersDiffer (register_of inputs one) (register_of inputs two)) (flips-differ inputs) (filter (λ lc. lc.flip) (cells_of db image))
       (apart-filter CellsDiffer (λ lc. lc.flip) (cells_of db image) cells-apart))
 
-  abbrev pin_register_here : Pin → Register
-  pin_register_here pin = pin_register db image (filter (λ pin. not pin.output) (pins_of db image)) pin
+  -- the registers of a pin differ
+  registers_in-apart : (pin : Pin) → AreApart KindsDiffer (registers_in pin)
+  registers_in-apart pin =
+      (register-then _ kind.Input _ (register-then _ kind.SecondInput _ (register-then _ kind.InputClockEnable _ (register-then _ kind.Output _
+      (register-then _ kind.SecondOutput _ (register-then _ kind.OutputClockEnable _ (register-last _ kind.OutputEnable))))))).apart
 
-  pin_registers-differ : (one two : Pin) → PinsDiffer one two → RegistersDiffer (pin_register_here one) (pin_register_here two)
+  pin_register-at : (flips : ℕ) (pins : List Pin) (pin : Pin) (register : PinRegister)
+      → ((pin_register flips pins pin register).x ≡ pin.x) × ((pin_register flips pins pin register).y ≡ pin.y) × ((pin_register flips pins pin register).kind ≡ OfPin pin.n register)
   unfolding pin_register
-  pin_registers-differ one two other x y user = other x y (pin_user-number one.output two.output one.n two.n user)
+  pin_register-at flips pins pin register = (refl, refl, refl)
 
-  pin_registers-apart : AreApart RegistersDiffer (pin_registers_of db image (pins_of db image))
+  -- a register stands at its pin
+  abbrev IsOfPin : Pin → Register → Type 0
+  IsOfPin pin register = (register.x ≡ pin.x) × (register.y ≡ pin.y) × (of_pin : PinRegister) × (register.kind ≡ OfPin pin.n of_pin)
+
+  registers-of_pin : (flips : ℕ) (pins : List Pin) (pin : Pin) → All (IsOfPin pin) (map (pin_register flips pins pin) (registers_in pin))
+  registers-of_pin flips pins pin =
+      All-map (IsOfPin pin) (pin_register flips pins pin) (registers_in pin)
+      (All-every (λ register. IsOfPin pin (pin_register flips pins pin register))
+      (λ register. let at = pin_register-at flips pins pin register in (at.0, at.1, register, at.2)) (registers_in pin))
+
+  pin_registers-apart : (flips : ℕ) (pins : List Pin) → AreApart PinsDiffer pins → AreApart RegistersDiffer (pin_registers_of flips pins)
   unfolding pin_registers_of
-  pin_registers-apart =
-      apart-map RegistersDiffer pin_register_here (filter is_registered (pins_of db image))
-      (apart-weaker PinsDiffer (λ one two. RegistersDiffer (pin_register_here one) (pin_register_here two)) pin_registers-differ (filter is_registered (pins_of db image))
-      (apart-filter PinsDiffer is_registered (pins_of db image) pins-apart))
+  pin_registers-apart flips pins apart =
+      apart-flat_map RegistersDiffer PinsDiffer (λ pin. map (pin_register flips pins pin) (registers_in pin))
+      (λ a b other. All-weaker (IsOfPin a) (λ one. All (RegistersDiffer one) (map (pin_register flips pins b) (registers_in b)))
+      (λ one of_one. All-weaker (IsOfPin b) (RegistersDiffer one)
+      (λ two of_two x y kind.
+      let both : OfPin a.n of_one.2 ≡ OfPin b.n of_two.2 = sym of_one.3 ∙ (kind ∙ of_two.3) in
+      let number : a.n ≡ b.n = cc in
+      other (sym of_one.0 ∙ (x ∙ of_two.0)) (sym of_one.1 ∙ (y ∙ of_two.1)) number)
+      (map (pin_register flips pins b) (registers_in b)) (registers-of_pin flips pins b))
+      (map (pin_register flips pins a) (registers_in a)) (registers-of_pin flips pins a))
+      (λ pin. apart-map RegistersDiffer (pin_register flips pins pin) (registers_in pin)
+      (apart-weaker KindsDiffer (λ one two. RegistersDiffer (pin_register flips pins pin one) (pin_register flips pins pin two))
+      (λ one two other x y kind.
+      let first = pin_register-at flips pins pin one in
+      let second = pin_register-at flips pins pin two in
+      let both : OfPin pin.n one ≡ OfPin pin.n two = sym first.2 ∙ (kind ∙ second.2) in
+      let same : one ≡ two = cc in other same) (registers_in pin) (registers_in-apart pin)))
+      pins apart
 
-  flips-of_cells : (inputs : LutInputs) → All (λ (register : Register). is_cell_user register.user ≡ true) (registers_of inputs (cells_of db image))
-  unfolding registers_of register_of is_cell_user
+  flips-of_cells : (inputs : LutInputs) → All (λ (register : Register). is_flip_flop register.kind ≡ true) (registers_of inputs (cells_of db image))
+  unfolding registers_of register_of is_flip_flop
   flips-of_cells inputs =
-      All-map (λ (register : Register). is_cell_user register.user ≡ true) (register_of inputs) (filter (λ lc. lc.flip) (cells_of db image))
-      (All-every (λ lc. is_cell_user (register_of inputs lc).user ≡ true) (λ lc. refl) (filter (λ lc. lc.flip) (cells_of db image)))
+      All-map (λ (register : Register). is_flip_flop register.kind ≡ true) (register_of inputs) (filter (λ lc. lc.flip) (cells_of db image))
+      (All-every (λ lc. is_flip_flop (register_of inputs lc).kind ≡ true) (λ lc. refl) (filter (λ lc. lc.flip) (cells_of db image)))
 
-  pin_register-user : (pin : Pin) → is_cell_user (pin_register_here pin).user ≡ false
-  unfolding pin_register
-  pin_register-user pin = pin_user-no_cell pin.output pin.n
-
-  pin_registers-of_pins : All (λ (register : Register). is_cell_user register.user ≡ false) (pin_registers_of db image (pins_of db image))
-  unfolding pin_registers_of
-  pin_registers-of_pins =
-      All-map (λ (register : Register). is_cell_user register.user ≡ false) pin_register_here (filter is_registered (pins_of db image))
-      (All-every (λ pin. is_cell_user (pin_register_here pin).user ≡ false) pin_register-user (filter is_registered (pins_of db image)))
+  pin_registers-of_pins : (flips : ℕ) (pins : List Pin) → All (λ (register : Register). is_flip_flop register.kind ≡ false) (pin_registers_of flips pins)
+  unfolding pin_registers_of is_flip_flop
+  pin_registers-of_pins flips pins =
+      let IsPins = λ (register : Register). is_flip_flop register.kind ≡ false in
+      All-flat_map IsPins (λ pin. map (pin_register flips pins pin) (registers_in pin)) pins
+      (All-every (λ pin. All IsPins (map (pin_register flips pins pin) (registers_in pin)))
+      (λ pin. All-weaker (IsOfPin pin) IsPins (λ register of_pin. ap is_flip_flop of_pin.3) (map (pin_register flips pins pin) (registers_in pin)) (registers-of_pin flips pins pin)) pins)
 
   -- a flip-flop and the register of a pin differ
-  users-differ : (one two : Register) → is_cell_user one.user ≡ true → is_cell_user two.user ≡ false → RegistersDiffer one two
-  users-differ one two of_cell of_pin x y user =
-      let both : true ≡ false = sym of_cell ∙ (ap is_cell_user user ∙ of_pin) in absurd cc
+  kinds-differ : (one two : Register) → is_flip_flop one.kind ≡ true → is_flip_flop two.kind ≡ false → RegistersDiffer one two
+  kinds-differ one two of_cell of_pin x y kind =
+      let both : true ≡ false = sym of_cell ∙ (ap is_flip_flop kind ∙ of_pin) in absurd cc
 
-  registers-apart : (inputs : LutInputs) → AreApart RegistersDiffer (registers_of inputs (cells_of db image) ++ pin_registers_of db image (pins_of db image))
-  registers-apart inputs =
+  registers-apart : (inputs : LutInputs) (all : Bool)
+      → AreApart RegistersDiffer (registers_of inputs (cells_of db image) ++ pin_registers_of (flips_among (cells_of db image)) (pins_of all db image))
+  registers-apart inputs all =
       let flips = registers_of inputs (cells_of db image) in
-      let of_pins = pin_registers_of db image (pins_of db image) in
-      apart-append RegistersDiffer flips of_pins (flips-apart inputs) pin_registers-apart
-      (All-weaker (λ (register : Register). is_cell_user register.user ≡ true) (λ one. All (RegistersDiffer one) of_pins)
-      (λ one of_cell. All-weaker (λ (register : Register). is_cell_user register.user ≡ false) (RegistersDiffer one)
-      (λ two of_pin. users-differ one two of_cell of_pin) of_pins pin_registers-of_pins) flips (flips-of_cells inputs))
+      let count = flips_among (cells_of db image) in
+      let of_pins = pin_registers_of count (pins_of all db image) in
+      apart-append RegistersDiffer flips of_pins (flips-apart inputs) (pin_registers-apart count (pins_of all db image) (pins-apart all))
+      (All-weaker (λ (register : Register). is_flip_flop register.kind ≡ true) (λ one. All (RegistersDiffer one) of_pins)
+      (λ one of_cell. All-weaker (λ (register : Register). is_flip_flop register.kind ≡ false) (RegistersDiffer one)
+      (λ two of_pin. kinds-differ one two of_cell of_pin) of_pins (pin_registers-of_pins count (pins_of all db image))) flips (flips-of_cells inputs))
 
   -- ---- carry inputs that are set
 
@@ -272,9 +336,9 @@ module _ (db : Database) (image : Configuration) where
       (apart-filter (λ (one two : ℕ × Link). one.0 ≢ two.0) (λ place. is_link_on image place.1) (numbered db.buffers) (numbered-apart 0 db.buffers))
 
   -- the parts that a database and an image configure are apart
-  pub parts-apart : (inputs : LutInputs) → ArePartsApart (fabric_with inputs db image)
+  pub parts-apart : (options : FabricOptions) → ArePartsApart (fabric_with options db image)
   unfolding fabric_with
-  parts-apart inputs = record { pins = pins-apart; lcs = cells-apart; registers = registers-apart inputs; sets = sets-apart; rams = rams-apart; globals = globals-apart; buffers = buffers-apart }
+  parts-apart options = record { pins = pins-apart options.all_pins; lcs = cells-apart; registers = registers-apart options.lut_inputs options.all_pins; sets = sets-apart; rams = rams-apart; globals = globals-apart; buffers = buffers-apart }
 
 -- ---- drivers that differ
 
@@ -294,6 +358,9 @@ number_of (driver.Ram x y bit) = 8
 number_of (driver.Global g net) = 9
 number_of (driver.Link line) = 10
 number_of (driver.PinReg x y n) = 11
+number_of (driver.PinReg1 x y n) = 12
+number_of (driver.Data x y n) = 13
+number_of (driver.Pad x y n) = 14
 
 -- drivers of one kind, each distinct from all after it
 record IsOfKind (number : ℕ) (drives : List Drive) : Type 0 where
@@ -386,60 +453,60 @@ rams-kind rams apart =
 
 -- ---- registers as drivers
 
--- the users of clocks that are drivers of a kind
-record AreDrivers (number : ℕ) (driver_of : Register → ClockUser → Option Driver) : Type 0 where
-  kind : (register : Register) (user : ClockUser) (by : Driver) → Some by ≡ driver_of register user → number_of by ≡ number
-  tells : (one two : Register) (user other : ClockUser) (by : Driver) → Some by ≡ driver_of one user → Some by ≡ driver_of two other
-      → (one.x ≡ two.x) × (one.y ≡ two.y) × (user ≡ other)
+-- the registers that are drivers of a kind
+record AreDrivers (number : ℕ) (driver_of : Register → RegisterKind → Option Driver) : Type 0 where
+  kind : (register : Register) (is : RegisterKind) (by : Driver) → Some by ≡ driver_of register is → number_of by ≡ number
+  tells : (one two : Register) (is other : RegisterKind) (by : Driver) → Some by ≡ driver_of one is → Some by ≡ driver_of two other
+      → (one.x ≡ two.x) × (one.y ≡ two.y) × (is ≡ other)
 
-flip-kind : (register : Register) (user : ClockUser) (by : Driver) → Some by ≡ flip_driver register user → number_of by ≡ 4
-flip-kind register (Cell i) by is = let same : by ≡ driver.FlipFlop register.x register.y i = cc in ap number_of same
-flip-kind register (Input n) by is = absurd cc
-flip-kind register (Output n) by is = absurd cc
-flip-kind register Read by is = absurd cc
-flip-kind register Write by is = absurd cc
+flip-kind : (register : Register) (is : RegisterKind) (by : Driver) → Some by ≡ flip_driver register is → number_of by ≡ 4
+flip-kind register (FlipFlop i) by told = let same : by ≡ driver.FlipFlop register.x register.y i = cc in ap number_of same
+flip-kind register (OfPin n of_pin) by told = absurd cc
 
-flip-tells : (one two : Register) (user other : ClockUser) (by : Driver) → Some by ≡ flip_driver one user → Some by ≡ flip_driver two other
-    → (one.x ≡ two.x) × (one.y ≡ two.y) × (user ≡ other)
-flip-tells one two (Cell i) (Cell k) by first second =
+flip-tells : (one two : Register) (is other : RegisterKind) (by : Driver) → Some by ≡ flip_driver one is → Some by ≡ flip_driver two other
+    → (one.x ≡ two.x) × (one.y ≡ two.y) × (is ≡ other)
+flip-tells one two (FlipFlop i) (FlipFlop k) by first second =
     let same : driver.FlipFlop one.x one.y i ≡ driver.FlipFlop two.x two.y k = cc in
-    let number : i ≡ k = cc in (cc, cc, ap Cell number)
-flip-tells one two (Cell i) (Input m) by first second = absurd cc
-flip-tells one two (Cell i) (Output m) by first second = absurd cc
-flip-tells one two (Cell i) Read by first second = absurd cc
-flip-tells one two (Cell i) Write by first second = absurd cc
-flip-tells one two (Input n) other by first second = absurd cc
-flip-tells one two (Output n) other by first second = absurd cc
-flip-tells one two Read other by first second = absurd cc
-flip-tells one two Write other by first second = absurd cc
+    let number : i ≡ k = cc in (cc, cc, ap FlipFlop number)
+flip-tells one two (FlipFlop i) (OfPin m of_pin) by first second = absurd cc
+flip-tells one two (OfPin n of_pin) other by first second = absurd cc
 
-pin_register-kind : (register : Register) (user : ClockUser) (by : Driver) → Some by ≡ pin_register_driver register user → number_of by ≡ 11
-pin_register-kind register (Cell i) by is = absurd cc
-pin_register-kind register (Input n) by is = let same : by ≡ driver.PinReg register.x register.y n = cc in ap number_of same
-pin_register-kind register (Output n) by is = absurd cc
-pin_register-kind register Read by is = absurd cc
-pin_register-kind register Write by is = absurd cc
+input-kind : (register : Register) (is : RegisterKind) (by : Driver) → Some by ≡ input_driver register is → number_of by ≡ 11
+input-kind register (FlipFlop i) by told = absurd cc
+input-kind register (OfPin n kind.Input) by told = let same : by ≡ driver.PinReg register.x register.y n = cc in ap number_of same
+input-kind register (OfPin n of_pin) by told = absurd cc
 
-pin_register-tells : (one two : Register) (user other : ClockUser) (by : Driver) → Some by ≡ pin_register_driver one user → Some by ≡ pin_register_driver two other
-    → (one.x ≡ two.x) × (one.y ≡ two.y) × (user ≡ other)
-pin_register-tells one two (Input n) (Input m) by first second =
+input-tells : (one two : Register) (is other : RegisterKind) (by : Driver) → Some by ≡ input_driver one is → Some by ≡ input_driver two other
+    → (one.x ≡ two.x) × (one.y ≡ two.y) × (is ≡ other)
+input-tells one two (OfPin n kind.Input) (OfPin m kind.Input) by first second =
     let same : driver.PinReg one.x one.y n ≡ driver.PinReg two.x two.y m = cc in
-    let number : n ≡ m = cc in (cc, cc, ap Input number)
-pin_register-tells one two (Input n) (Cell k) by first second = absurd cc
-pin_register-tells one two (Input n) (Output m) by first second = absurd cc
-pin_register-tells one two (Input n) Read by first second = absurd cc
-pin_register-tells one two (Input n) Write by first second = absurd cc
-pin_register-tells one two (Cell i) other by first second = absurd cc
-pin_register-tells one two (Output n) other by first second = absurd cc
-pin_register-tells one two Read other by first second = absurd cc
-pin_register-tells one two Write other by first second = absurd cc
+    let number : n ≡ m = cc in (cc, cc, ap (λ k. OfPin k kind.Input) number)
+input-tells one two (OfPin n kind.Input) (FlipFlop k) by first second = absurd cc
+input-tells one two (OfPin n kind.Input) (OfPin m of_pin) by first second = absurd cc
+input-tells one two (FlipFlop i) other by first second = absurd cc
+input-tells one two (OfPin n of_pin) other by first second = absurd cc
 
-module _ (number : ℕ) (driver_of : Register → ClockUser → Option Driver) (are : AreDrivers number driver_of) where
+second-kind : (register : Register) (is : RegisterKind) (by : Driver) → Some by ≡ second_driver register is → number_of by ≡ 12
+second-kind register (FlipFlop i) by told = absurd cc
+second-kind register (OfPin n kind.SecondInput) by told = let same : by ≡ driver.PinReg1 register.x register.y n = cc in ap number_of same
+second-kind register (OfPin n of_pin) by told = absurd cc
+
+second-tells : (one two : Register) (is other : RegisterKind) (by : Driver) → Some by ≡ second_driver one is → Some by ≡ second_driver two other
+    → (one.x ≡ two.x) × (one.y ≡ two.y) × (is ≡ other)
+second-tells one two (OfPin n kind.SecondInput) (OfPin m kind.SecondInput) by first second =
+    let same : driver.PinReg1 one.x one.y n ≡ driver.PinReg1 two.x two.y m = cc in
+    let number : n ≡ m = cc in (cc, cc, ap (λ k. OfPin k kind.SecondInput) number)
+second-tells one two (OfPin n kind.SecondInput) (FlipFlop k) by first second = absurd cc
+second-tells one two (OfPin n kind.SecondInput) (OfPin m of_pin) by first second = absurd cc
+second-tells one two (FlipFlop i) other by first second = absurd cc
+second-tells one two (OfPin n of_pin) other by first second = absurd cc
+
+module _ (number : ℕ) (driver_of : Register → RegisterKind → Option Driver) (are : AreDrivers number driver_of) where
   abbrev register_given : ℕ × Register → List Drive
-  register_given place = drives_by place (driver_of place.1 place.1.user)
+  register_given place = drives_by place (driver_of place.1 place.1.kind)
 
   abbrev IsBy : ℕ × Register → Driver → Type 0
-  IsBy place by = Some by ≡ driver_of place.1 place.1.user
+  IsBy place by = Some by ≡ driver_of place.1 place.1.kind
 
   by-all : (place : ℕ × Register) (by : Option Driver) → All (λ (drive : Drive). Some drive.driver ≡ by) (drives_by place by)
   by-all place None = All-nil (λ (drive : Drive). Some drive.driver ≡ None)
@@ -451,29 +518,44 @@ module _ (number : ℕ) (driver_of : Register → ClockUser → Option Driver) (
 
   registers-kind : (registers : List Register) → AreApart RegistersDiffer registers → IsOfKind number (flat_map register_given (numbered registers))
   registers-kind registers apart =
-      gives-kind (λ (one two : ℕ × Register). RegistersDiffer one.1 two.1) register_given IsBy number (λ place d is. are.kind place.1 place.1.user d is)
-      (λ place. by-all place (driver_of place.1 place.1.user)) (λ place. by-apart place (driver_of place.1 place.1.user))
+      gives-kind (λ (one two : ℕ × Register). RegistersDiffer one.1 two.1) register_given IsBy number (λ place d is. are.kind place.1 place.1.kind d is)
+      (λ place. by-all place (driver_of place.1 place.1.kind)) (λ place. by-apart place (driver_of place.1 place.1.kind))
       (λ a b other one two of_one of_two same.
-      let found = are.tells a.1 b.1 a.1.user b.1.user one of_one (ap (λ d. Some d) same ∙ of_two) in other found.0 found.1 found.2)
+      let found = are.tells a.1 b.1 a.1.kind b.1.kind one of_one (ap (λ d. Some d) same ∙ of_two) in other found.0 found.1 found.2)
       (numbered registers) (apart-numbered RegistersDiffer 0 registers apart)
 
 -- the other kinds
 module _ (fabric : Fabric) (parts : ArePartsApart fabric) where
-  pins-kind : IsOfKind 1 (flat_map pin_drives (numbered (inputs_of fabric)))
-  pins-kind =
-      let by : ℕ × Pin → Driver = λ place. driver.Pin place.1.x place.1.y place.1.n in
-      gives-kind (λ (one two : ℕ × Pin). PinsDiffer one.1 two.1) pin_drives (λ place d. d ≡ by place)
-      1 (λ place d is. ap number_of is)
-      (λ place. All-unless (λ (drive : Drive). drive.driver ≡ by place) (is_registered place.1) _ (drives_if-all (λ d. d ≡ by place) (by place) (Rule.pin_bit place.0) place.1.din refl))
-      (λ place. apart-unless DriversDiffer (is_registered place.1) _ (drives_if-apart (by place) (Rule.pin_bit place.0) place.1.din))
-      (λ a b other one two of_one of_two same. let both : by a ≡ by b = sym of_one ∙ (same ∙ of_two) in other (cc) (cc) (cc))
-      (numbered (inputs_of fabric))
-      (apart-numbered PinsDiffer 0 (inputs_of fabric) (apart-filter PinsDiffer (λ pin. not pin.output) fabric.pins parts.pins))
+  -- what pins drive, of which each drives one net at most
+  module _ (by : Pin → Driver) (is_there : Pin → Bool) (rule : Pin → Rule) (net : Pin → Option ℕ) where
+    pins-kind : (number : ℕ) → ((pin : Pin) → number_of (by pin) ≡ number) → ((a b : Pin) → PinsDiffer a b → by a ≢ by b)
+        → IsOfKind number (flat_map (λ pin. if is_there pin then drives_if (by pin) (rule pin) (net pin) else []) fabric.pins)
+    pins-kind number is differ =
+        gives-kind PinsDiffer (λ pin. if is_there pin then drives_if (by pin) (rule pin) (net pin) else []) (λ pin d. d ≡ by pin)
+        number (λ pin d of_pin. ap number_of of_pin ∙ is pin)
+        (λ pin. All-if (λ (drive : Drive). drive.driver ≡ by pin) (is_there pin) _ (drives_if-all (λ d. d ≡ by pin) (by pin) (rule pin) (net pin) refl))
+        (λ pin. apart-if DriversDiffer (is_there pin) _ (drives_if-apart (by pin) (rule pin) (net pin)))
+        (λ a b other one two of_one of_two same. differ a b other (sym of_one ∙ (same ∙ of_two))) fabric.pins parts.pins
 
-  backs-kind : IsOfKind 2 (flat_map (back_drives fabric) (filter (λ pin. pin.back) fabric.pins))
+  inputs-kind : IsOfKind 1 (flat_map (pin_drives fabric.pins) fabric.pins)
+  inputs-kind =
+      pins-kind (λ pin. driver.Pin pin.x pin.y pin.n) (λ pin. not (drives pin) && takes_pad pin.takes)
+      (λ pin. Rule.pin_bit (input_place fabric.pins (PadPort pin.x pin.y pin.n))) (λ pin. pin.din_0) 1 (λ pin. refl) (λ a b other same. other (cc) (cc) (cc))
+
+  backs-kind : IsOfKind 2 (flat_map (back_drives fabric) fabric.pins)
   backs-kind =
-      each-kind PinsDiffer (λ pin. driver.Readback pin.x pin.y pin.n) (λ pin. Rule.input (output_signal fabric pin)) (λ pin. pin.din)
-      2 (λ pin. refl) (λ a b other same. other (cc) (cc) (cc)) (filter (λ pin. pin.back) fabric.pins) (apart-filter PinsDiffer (λ pin. pin.back) fabric.pins parts.pins)
+      pins-kind (λ pin. driver.Readback pin.x pin.y pin.n) is_read_back (λ pin. Rule.input (pad_of fabric pin)) (λ pin. pin.din_0)
+      2 (λ pin. refl) (λ a b other same. other (cc) (cc) (cc))
+
+  data-kind : IsOfKind 13 (flat_map (data_drives fabric) fabric.pins)
+  data-kind =
+      pins-kind (λ pin. driver.Data pin.x pin.y pin.n) (λ pin. drives pin && has_table pin.sends) (λ pin. Rule.table_entry (data_table fabric pin)) (λ pin. pin.data_net)
+      13 (λ pin. refl) (λ a b other same. other (cc) (cc) (cc))
+
+  pads-kind : IsOfKind 14 (flat_map (pad_drives fabric) fabric.pins)
+  pads-kind =
+      pins-kind (λ pin. driver.Pad pin.x pin.y pin.n) has_outside (λ pin. Rule.table_entry (pad_table fabric pin)) (λ pin. pin.pad_net)
+      14 (λ pin. refl) (λ a b other same. other (cc) (cc) (cc))
 
   luts-kind : IsOfKind 3 (flat_map (lut_drives fabric.lut_inputs) (filter (λ lc. not lc.flip) fabric.lcs))
   luts-kind =
@@ -498,9 +580,9 @@ module _ (fabric : Fabric) (parts : ArePartsApart fabric) where
       each-kind SetsDiffer (λ set. driver.CarrySet set.x set.y) (λ set. Rule.constant true) (λ set. Some set.net)
       7 (λ set. refl) (λ a b other same. other (cc) (cc)) fabric.sets parts.sets
 
-  globals-kind : IsOfKind 9 (flat_map (global_drives (inputs_of fabric)) fabric.globals)
+  globals-kind : IsOfKind 9 (flat_map (global_drives fabric.pins) fabric.globals)
   globals-kind =
-      each-kind GlobalsDiffer (λ global. driver.Global global.g global.net) (λ global. global_rule (inputs_of fabric) global.from) (λ global. Some global.net)
+      each-kind GlobalsDiffer (λ global. driver.Global global.g global.net) (λ global. global_rule fabric.pins global.from) (λ global. Some global.net)
       9 (λ global. refl) (λ a b other same. other (cc) (cc)) fabric.globals parts.globals
 
   buffers-kind : IsOfKind 10 (flat_map buffer_drives fabric.buffers)
@@ -508,22 +590,26 @@ module _ (fabric : Fabric) (parts : ArePartsApart fabric) where
       each-kind BuffersDiffer (λ buffer. driver.Link buffer.line) (λ buffer. Rule.copied buffer.src) (λ buffer. Some buffer.dst)
       10 (λ buffer. refl) (λ a b other same. other (cc)) fabric.buffers parts.buffers
 
-  pin_registers-kind : IsOfKind 11 (flat_map pin_register_drives (numbered fabric.registers))
-  pin_registers-kind = registers-kind 11 pin_register_driver (record { kind = pin_register-kind; tells = pin_register-tells }) fabric.registers parts.registers
+  input_registers-kind : IsOfKind 11 (flat_map input_drives (numbered fabric.registers))
+  input_registers-kind = registers-kind 11 input_driver (record { kind = input-kind; tells = input-tells }) fabric.registers parts.registers
+
+  second_registers-kind : IsOfKind 12 (flat_map second_drives (numbered fabric.registers))
+  second_registers-kind = registers-kind 12 second_driver (record { kind = second-kind; tells = second-tells }) fabric.registers parts.registers
 
   drivers-apart : AreApart DriversDiffer (drives_of fabric)
   unfolding drives_of
   drivers-apart =
-      (then-kinds 1 _ _ pins-kind (then-kinds 2 _ _ backs-kind (then-kinds 3 _ _ luts-kind (then-kinds 4 _ _ flips-kind (then-kinds 5 _ _ louts-kind
+      (then-kinds 1 _ _ inputs-kind (then-kinds 2 _ _ backs-kind (then-kinds 3 _ _ luts-kind (then-kinds 4 _ _ flips-kind (then-kinds 5 _ _ louts-kind
       (then-kinds 6 _ _ carries-kind (then-kinds 7 _ _ sets-kind (then-kinds 8 _ _ (rams-kind fabric.rams parts.rams) (then-kinds 9 _ _ globals-kind
-      (then-kinds 10 _ _ buffers-kind (last-kind 11 _ pin_registers-kind))))))))))).apart
+      (then-kinds 10 _ _ buffers-kind (then-kinds 11 _ _ input_registers-kind (then-kinds 12 _ _ second_registers-kind (then-kinds 13 _ _ data-kind
+      (last-kind 14 _ pads-kind)))))))))))))).apart
 
 -- the first two drivers of a class of joined nets differ
-pub first-differ : (inputs : LutInputs) (db : Database) (image : Configuration) (class : ℕ) (one two : Drive) (rest : List Drive)
-    → drivers_of (fabric_with inputs db image) class ≡ one ∷ two ∷ rest → one.driver ≢ two.driver
+pub first-differ : (options : FabricOptions) (db : Database) (image : Configuration) (class : ℕ) (one two : Drive) (rest : List Drive)
+    → drivers_of (fabric_with options db image) class ≡ one ∷ two ∷ rest → one.driver ≢ two.driver
 unfolding drivers_of
-first-differ inputs db image class one two rest is =
-    let fabric = fabric_with inputs db image in
+first-differ options db image class one two rest is =
+    let fabric = fabric_with options db image in
     let apart : AreApart DriversDiffer (one ∷ two ∷ rest) = subst (AreApart DriversDiffer) is
-    (apart-filter DriversDiffer (is_driver_of fabric class) (drives_of fabric) (drivers-apart fabric (parts-apart db image inputs))) in
+    (apart-filter DriversDiffer (is_driver_of fabric class) (drives_of fabric) (drivers-apart fabric (parts-apart db image options))) in
     All-head (DriversDiffer one) two rest apart.0

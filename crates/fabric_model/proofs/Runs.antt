@@ -21,22 +21,26 @@ use Rattle.fabric_model.specs.declared.ram.RamCell.{RamCell}
 use Rattle.fabric_model.specs.declared.pin.Pin.{Pin}
 use Rattle.fabric_model.specs.declared.driver.ClockUser.TheVariants.{Read, Write}
 use Rattle.fabric_model.specs.Unique.{ExactlyOne}
-use Rattle.fabric_model.specs.Tiles.{over_grid}
+use Rattle.fabric_model.specs.declared.options.FabricOptions.{FabricOptions}
+use Rattle.fabric_model.specs.declared.register.PinRegister.{PinRegister}
+use Rattle.fabric_model.specs.Tiles.{over_grid, each_below}
 use Rattle.fabric_model.specs.Cells.{cell_bits, cell_with, used_cell, cells_at, cells_of}
 use Rattle.fabric_model.specs.Rams.{is_ram_used, ram_at, rams_of}
-use Rattle.fabric_model.specs.Pins.{is_registered, pin_with, port_at, pins_of}
+use Rattle.fabric_model.specs.Pins.{PinPlace, pin_places, pin_with, port_at, pins_of}
 use Rattle.fabric_model.specs.Fabric.{Fabric, numbered, inputs_of, fabric_with}
-use Rattle.fabric_model.specs.Registers.{register_of, registers_of, pin_register, pin_registers_of}
+use Rattle.fabric_model.specs.Registers.{register_of, flips_among, registers_of, registers_in, pin_register, pin_registers_of}
 use Rattle.fabric_model.specs.Values.{State, bit_in, is_connected, IsConsistent}
 use Rattle.fabric_model.specs.Steps.{has_edge, bit_after, words_after, read_after, state_after, settled_state, Event, Entry, output_values, IsEntry, Follows, start_state, IsFirst, FollowEach, IsRun}
 use Rattle.fabric_model.specs.ClockLuts.{turned_bit}
 use Rattle.fabric_model.specs.Clocks.{ClockEnd, User, register_user, ram_users, users_at, users_of, clock_end}
 use Rattle.fabric_model.specs.Clocks.ClockEnd.{at_pin, still, logic}
 use Rattle.fabric_model.specs.Faults.{end_fault, user_fault, clock_faults, fabric_fault}
+use Rattle.fabric_model.proofs.Apart.{All-every}
+use Rattle.fabric_model.proofs.Contained.{contains-map, contains-flat_map}
 use Rattle.fabric_model.proofs.OneValue.{IsWithin, filter-has}
 use Rattle.fabric_model.proofs.Taken.{taken-order, taken-value, taken-clocks}
 use Rattle.fabric_model.proofs.Chains.{clock_end-leads, HasEndValue, clock-value}
-use Rattle.fabric_model.proofs.Within.{All-item_if, All-if, All-single, All-over_tiles, All-numbered}
+use Rattle.fabric_model.proofs.Within.{All-flat_map, All-item_if, All-if, All-single, All-over_tiles, All-numbered}
 use Rattle.fabric_model.proofs.Settling.{settled-twice, consistent-settled, consistent-unsettled}
 
 -- ---- lists
@@ -47,20 +51,6 @@ unfolding over_grid
 contains-over_grid device given x y item left low there =
     Contains-gathered_below (grid_height device) y (λ row. gathered_below (grid_width device) (λ column. given column row)) item low
     (Contains-gathered_below (grid_width device) x (λ column. given column y) item left there)
-
-contains-map : {A B : Type 0} (change : A → B) (list : List A) (item : A) → Contains list item → Contains (map change list) (change item)
-contains-map change [] item (k, within, here) = absurd (omega (arith, within))
-contains-map change (head ∷ list) item (zero, within, here) = (0, omega arith, ap change here)
-contains-map change (head ∷ list) item (suc k, within, here) =
-    let rest = contains-map change list item (k, omega (arith, within), here) in (suc rest.0, omega (arith, rest.1), rest.2)
-
-contains-flat_map : {A B : Type 0} (given : A → List B) (list : List A) (item : A) (part : B) → Contains list item → Contains (given item) part
-    → Contains (flat_map given list) part
-contains-flat_map given [] item part (k, within, here) there = absurd (omega (arith, within))
-contains-flat_map given (head ∷ list) item part (zero, within, here) there =
-    Contains-append_left (given head) (flat_map given list) part (subst (λ i. Contains (given i) part) (sym here) there)
-contains-flat_map given (head ∷ list) item part (suc k, within, here) there =
-    Contains-append_right (given head) (flat_map given list) part (contains-flat_map given list item part (k, omega (arith, within), here) there)
 
 -- no item gives anything
 gives-none : {A B : Type 0} (given : A → List B) (list : List A) (item : A) → flat_map given list ≡ [] → Contains list item → given item ≡ []
@@ -82,17 +72,25 @@ pub record IsPlaced (device : DeviceName) (fabric : Fabric) : Type 0 where
   pub rams : All (λ ram. IsAt device ram.x ram.y) fabric.rams
 
 module _ (db : Database) (image : Configuration) where
-  pin-placed : (x y n pintype : ℕ) → IsAt image.layout.device x y → IsAt image.layout.device (pin_with db x y n pintype).x (pin_with db x y n pintype).y
+  pin-placed : (all : Bool) (j x y n : ℕ) → IsAt image.layout.device x y → IsAt image.layout.device (pin_with all db image j x y n).x (pin_with all db image j x y n).y
   unfolding pin_with
-  pin-placed x y n pintype at = at
+  pin-placed all j x y n at = at
 
-  pins-placed : All (λ pin. IsAt image.layout.device pin.x pin.y) (pins_of db image)
+  places-placed : All (λ (place : PinPlace). IsAt image.layout.device place.x place.y) (pin_places image.layout.device)
+  unfolding pin_places
+  places-placed =
+      All-over_tiles (λ (place : PinPlace). IsAt image.layout.device place.x place.y) image.layout.device Io (λ x y. each_below 2 (λ n. record { x = x; y = y; n = n }))
+      (λ x y left low. All-gathered_below (λ (place : PinPlace). IsAt image.layout.device place.x place.y) 2 (λ n. record { x = x; y = y; n = n } ∷ [])
+      (λ n below. All-single (λ (place : PinPlace). IsAt image.layout.device place.x place.y) (record { x = x; y = y; n = n }) (record { left = left; low = low })))
+
+  pins-placed : (all : Bool) → All (λ pin. IsAt image.layout.device pin.x pin.y) (pins_of all db image)
   unfolding pins_of
-  pins-placed =
-      All-over_tiles (λ pin. IsAt image.layout.device pin.x pin.y) image.layout.device Io (λ x y. gathered_below 2 (port_at db image x y))
-      (λ x y left low. All-gathered_below (λ pin. IsAt image.layout.device pin.x pin.y) 2 (port_at db image x y)
-      (λ n below. All-item_if (λ pin. IsAt image.layout.device pin.x pin.y) _ (pin_with db x y n _)
-      (pin-placed x y n _ (record { left = left; low = low }))))
+  pins-placed all =
+      let places = pin_places image.layout.device in
+      All-flat_map (λ pin. IsAt image.layout.device pin.x pin.y) (port_at all db image) (numbered places)
+      (All-weaker (λ (place : ℕ × PinPlace). IsAt image.layout.device place.1.x place.1.y) (λ place. All (λ pin. IsAt image.layout.device pin.x pin.y) (port_at all db image place))
+      (λ place at. All-item_if (λ pin. IsAt image.layout.device pin.x pin.y) _ (pin_with all db image place.0 place.1.x place.1.y place.1.n)
+      (pin-placed all place.0 place.1.x place.1.y place.1.n at)) (numbered places) (All-numbered (λ (place : PinPlace). IsAt image.layout.device place.x place.y) 0 places places-placed))
 
   cell-placed : (x y i : ℕ) (bits : List Bool) → IsAt image.layout.device x y
       → IsAt image.layout.device (cell_with db image x y i bits).x (cell_with db image x y i bits).y
@@ -120,18 +118,20 @@ module _ (db : Database) (image : Configuration) where
       (All-filter (λ lc. lc.flip) (λ lc. IsAt image.layout.device (made lc).x (made lc).y) (cells_of db image)
       (All-weaker (λ lc. IsAt image.layout.device lc.x lc.y) (λ lc. IsAt image.layout.device (made lc).x (made lc).y) (register-placed inputs) (cells_of db image) cells-placed))
 
-  pin_register-placed : (inputs : List Pin) (pin : Pin) → IsAt image.layout.device pin.x pin.y
-      → IsAt image.layout.device (pin_register db image inputs pin).x (pin_register db image inputs pin).y
+  pin_register-placed : (flips : ℕ) (pins : List Pin) (pin : Pin) (register : PinRegister) → IsAt image.layout.device pin.x pin.y
+      → IsAt image.layout.device (pin_register flips pins pin register).x (pin_register flips pins pin register).y
   unfolding pin_register
-  pin_register-placed inputs pin at = at
+  pin_register-placed flips pins pin register at = at
 
-  pin_registers-placed : All (λ register. IsAt image.layout.device register.x register.y) (pin_registers_of db image (pins_of db image))
+  pin_registers-placed : (flips : ℕ) (pins : List Pin) → All (λ pin. IsAt image.layout.device pin.x pin.y) pins
+      → All (λ register. IsAt image.layout.device register.x register.y) (pin_registers_of flips pins)
   unfolding pin_registers_of
-  pin_registers-placed =
-      let made = pin_register db image (filter (λ pin. not pin.output) (pins_of db image)) in
-      All-map (λ register. IsAt image.layout.device register.x register.y) made (filter is_registered (pins_of db image))
-      (All-filter is_registered (λ pin. IsAt image.layout.device (made pin).x (made pin).y) (pins_of db image)
-      (All-weaker (λ pin. IsAt image.layout.device pin.x pin.y) (λ pin. IsAt image.layout.device (made pin).x (made pin).y) (pin_register-placed _) (pins_of db image) pins-placed))
+  pin_registers-placed flips pins placed =
+      let IsThere = λ (register : Register). IsAt image.layout.device register.x register.y in
+      All-flat_map IsThere (λ pin. map (pin_register flips pins pin) (registers_in pin)) pins
+      (All-weaker (λ pin. IsAt image.layout.device pin.x pin.y) (λ pin. All IsThere (map (pin_register flips pins pin) (registers_in pin)))
+      (λ pin at. All-map IsThere (pin_register flips pins pin) (registers_in pin)
+      (All-every (λ register. IsThere (pin_register flips pins pin register)) (λ register. pin_register-placed flips pins pin register at) (registers_in pin))) pins placed)
 
   ram-placed : (x y : ℕ) → IsAt image.layout.device x y → IsAt image.layout.device (ram_at db image x y).x (ram_at db image x y).y
   unfolding ram_at
@@ -145,14 +145,18 @@ module _ (db : Database) (image : Configuration) where
       (All-single (λ ram. IsAt image.layout.device ram.x ram.y) (ram_at db image x y) (ram-placed x y (record { left = left; low = low }))))
 
   -- pins, cells, registers and RAMs of a database and an image stand at places of the grid
-  pub fabric-placed : (inputs : LutInputs) → IsPlaced image.layout.device (fabric_with inputs db image)
+  pub fabric-placed : (options : FabricOptions) → IsPlaced image.layout.device (fabric_with options db image)
   unfolding fabric_with
-  fabric-placed inputs = record {
-    pins = pins-placed;
-    lcs = cells-placed;
-    registers = All-append (λ register. IsAt image.layout.device register.x register.y) (registers_of inputs (cells_of db image)) (pin_registers_of db image (pins_of db image)) (flips-placed inputs) pin_registers-placed;
-    rams = rams-placed;
-  }
+  fabric-placed options =
+      let all = options.all_pins in
+      let flips = flips_among (cells_of db image) in
+      record {
+        pins = pins-placed all;
+        lcs = cells-placed;
+        registers = All-append (λ register. IsAt image.layout.device register.x register.y) (registers_of options.lut_inputs (cells_of db image)) (pin_registers_of flips (pins_of all db image))
+            (flips-placed options.lut_inputs) (pin_registers-placed flips (pins_of all db image) (pins-placed all));
+        rams = rams-placed;
+      }
 
 -- ---- clocks that agree
 

@@ -10,22 +10,23 @@ use Rattle.fabric_model.specs.declared.pin.Pin.{Pin}
 use Rattle.fabric_model.specs.declared.pin.GlobalFrom.{GlobalFrom}
 use Rattle.fabric_model.specs.declared.pin.GlobalFrom.TheVariants.{Pad, Fabout}
 use Rattle.fabric_model.specs.declared.driver.Driver.{Driver}
-use Rattle.fabric_model.specs.declared.driver.ClockUser.{ClockUser}
+use Rattle.fabric_model.specs.declared.register.RegisterKind.{RegisterKind}
 use Rattle.fabric_model.specs.declared.signal.Signal.{Signal}
 use Rattle.fabric_model.specs.declared.signal.Signal.TheVariants as signal
 use Rattle.fabric_model.specs.declared.register.LutTable.{LutTable}
 use Rattle.fabric_model.specs.Signals.{net_or_0, net_or_1}
-use Rattle.fabric_model.specs.Fabric.{Fabric, numbered_from, numbered, inputs_of}
+use Rattle.fabric_model.specs.Fabric.{Fabric, numbered_from, numbered}
 use Rattle.fabric_model.specs.Registers.{table_of}
-use Rattle.fabric_model.specs.Pins.{is_registered}
+use Rattle.fabric_model.specs.PinTypes.{has_table}
+use Rattle.fabric_model.specs.Pins.{drives, is_switched, has_outside}
 use Rattle.fabric_model.specs.Outputs.{Output, enable_outputs, pin_outputs, outputs_of}
-use Rattle.fabric_model.specs.Drivers.{Rule, Drive, drives_if, drives_by, pin_drives, output_signal, back_drives, lut_drives, flip_driver, lout_drives, carry_drives, set_drives, read_data_rule, ram_drive, ram_drives, global_rule, global_drives, buffer_drives, pin_register_driver, drives_of}
+use Rattle.fabric_model.specs.Drivers.{Rule, Drive, drives_if, drives_by, pin_drives, data_of, pad_of, enable_of, is_read_back, back_drives, lut_drives, flip_driver, lout_drives, carry_drives, set_drives, read_data_rule, ram_drive, ram_drives, global_rule, global_drives, buffer_drives, input_driver, second_driver, data_table, data_drives, pad_table, pad_drives, drives_of}
 use Rattle.fabric_model.specs.Drivers.Rule.{pin_bit, constant, input, table_entry, majority_of, register_bit, read_bit, copied}
 use Rattle.fabric_model.specs.Values.{State, input_or_0, settled_bit, signal_value, table_input, lut_value, value_of, bit_in, is_connected, IsConsistent}
 use Rattle.fabric_model.specs.Steps.{settled_bits, settled_state, output_values}
 use Rattle.fabric_model.specs.Within.{IsClosed}
-use Rattle.fabric_model.proofs.Within.{All-flat_map, All-if, All-single, All-unless}
-use Rattle.fabric_model.proofs.Signals.{IsSignalThere, signal-there, item-at, output-there, cell-signals}
+use Rattle.fabric_model.proofs.Within.{All-flat_map, All-if, All-single, if-when, All-filtered}
+use Rattle.fabric_model.proofs.Signals.{IsSignalThere, signal-there, item-at, data-there, enable-there, back-there, data_table-there, pad_table-there, cell-signals}
 use Rattle.fabric_model.proofs.Apart.{All-every}
 
 -- ---- items at their places
@@ -107,21 +108,31 @@ module _ (fabric : Fabric) (closed : IsClosed fabric) where
   each-has : {X : Type 0} (given : X → List Drive) → ((x : X) → All DriveHas (given x)) → (parts : List X) → All DriveHas (flat_map given parts)
   each-has given has parts = All-flat_map DriveHas given parts (All-every (λ x. All DriveHas (given x)) has parts)
 
-  pin_drives-has : (place : ℕ × Pin) → All DriveHas (pin_drives place)
-  pin_drives-has place = All-unless DriveHas (is_registered place.1) _ (drives_if-has _ (pin_bit place.0) place.1.din tt)
+  pin_drives-has : (pins : List Pin) (pin : Pin) → All DriveHas (pin_drives pins pin)
+  pin_drives-has pins pin = All-if DriveHas _ _ (drives_if-has _ (pin_bit _) pin.din_0 tt)
 
   -- one rule or another
   has_if : (passes : Bool) (one other : Rule) → HasRegister fabric one → HasRegister fabric other → HasRegister fabric (if passes then one else other)
   has_if true one other of_one of_other = of_one
   has_if false one other of_one of_other = of_other
 
-  -- what an output pin puts out
-  backs-have : All DriveHas (flat_map (back_drives fabric) (filter (λ pin. pin.back) fabric.pins))
-  backs-have =
-      All-flat_map DriveHas (back_drives fabric) (filter (λ pin. pin.back) fabric.pins)
-      (All-filter (λ pin. pin.back) (λ pin. All DriveHas (back_drives fabric pin)) fabric.pins
-      (All-weaker (Contains fabric.pins) (λ pin. All DriveHas (back_drives fabric pin))
-      (λ pin there. drives_if-has _ (input (output_signal fabric pin)) pin.din (output-there fabric closed pin there)) fabric.pins (All-contains_itself fabric.pins)))
+  -- what pins drive, each of those of the fabric
+  pins-have : (given : Pin → List Drive) → ((pin : Pin) → Contains fabric.pins pin → All DriveHas (given pin)) → All DriveHas (flat_map given fabric.pins)
+  pins-have given each =
+      All-flat_map DriveHas given fabric.pins (All-weaker (Contains fabric.pins) (λ pin. All DriveHas (given pin)) each fabric.pins (All-contains_itself fabric.pins))
+
+  back_drives-has : (pin : Pin) → Contains fabric.pins pin → All DriveHas (back_drives fabric pin)
+  back_drives-has pin there =
+      if-when DriveHas (is_read_back pin) _ (λ read. drives_if-has _ (input (pad_of fabric pin)) pin.din_0 (back-there fabric closed pin there read))
+
+  data_drives-has : (pin : Pin) → Contains fabric.pins pin → All DriveHas (data_drives fabric pin)
+  data_drives-has pin there =
+      if-when DriveHas (drives pin && has_table pin.sends) _
+      (λ made. drives_if-has _ (table_entry (data_table fabric pin)) pin.data_net (data_table-there fabric closed pin there made))
+
+  pad_drives-has : (pin : Pin) → Contains fabric.pins pin → All DriveHas (pad_drives fabric pin)
+  pad_drives-has pin there =
+      if-when DriveHas (has_outside pin) _ (λ seen. drives_if-has _ (table_entry (pad_table fabric pin)) pin.pad_net (pad_table-there fabric closed pin there seen))
 
   ram_drives-has : (place : ℕ × RamCell) → All DriveHas (ram_drives place)
   ram_drives-has place =
@@ -133,29 +144,32 @@ module _ (fabric : Fabric) (closed : IsClosed fabric) where
   drives_by-has place (Some by) there = drives_if-has by (register_bit place.0 place.1) place.1.out there
 
   -- what the registers drive that are drivers of some kind
-  registers-have : (driver_of : Register → ClockUser → Option Driver)
-      → All DriveHas (flat_map (λ (place : ℕ × Register). drives_by place (driver_of place.1 place.1.user)) (numbered fabric.registers))
+  registers-have : (driver_of : Register → RegisterKind → Option Driver)
+      → All DriveHas (flat_map (λ (place : ℕ × Register). drives_by place (driver_of place.1 place.1.kind)) (numbered fabric.registers))
   registers-have driver_of =
-      let given = λ (place : ℕ × Register). drives_by place (driver_of place.1 place.1.user) in
+      let given = λ (place : ℕ × Register). drives_by place (driver_of place.1 place.1.kind) in
       All-flat_map DriveHas given (numbered fabric.registers)
       (All-weaker (Contains (numbered fabric.registers)) (λ (place : ℕ × Register). All DriveHas (given place))
-      (λ place there. drives_by-has place (driver_of place.1 place.1.user) there) (numbered fabric.registers) (All-contains_itself (numbered fabric.registers)))
+      (λ place there. drives_by-has place (driver_of place.1 place.1.kind) there) (numbered fabric.registers) (All-contains_itself (numbered fabric.registers)))
 
   drives-have : All DriveHas (drives_of fabric)
   unfolding drives_of
   drives-have =
       let joins = All-append DriveHas in
-      joins _ _ (each-has pin_drives pin_drives-has (numbered (inputs_of fabric)))
-      (joins _ _ backs-have
+      joins _ _ (each-has (pin_drives fabric.pins) (pin_drives-has fabric.pins) fabric.pins)
+      (joins _ _ (pins-have (back_drives fabric) back_drives-has)
       (joins _ _ (each-has (lut_drives fabric.lut_inputs) (λ lc. drives_if-has _ (table_entry (table_of fabric.lut_inputs lc)) lc.out (cell-signals fabric fabric.lut_inputs lc)) (filter (λ lc. not lc.flip) fabric.lcs))
       (joins _ _ (registers-have flip_driver)
       (joins _ _ (each-has (lout_drives fabric.lut_inputs) (λ lc. drives_if-has _ (table_entry (table_of fabric.lut_inputs lc)) lc.lout (cell-signals fabric fabric.lut_inputs lc)) fabric.lcs)
       (joins _ _ (each-has carry_drives (λ lc. drives_if-has _ (majority_of (get_or lc.ins 1 None) (get_or lc.ins 2 None) lc.cin) lc.cout tt) (filter (λ lc. lc.carry) fabric.lcs))
       (joins _ _ (each-has set_drives (λ set. drives_if-has _ (constant true) (Some set.net) tt) fabric.sets)
       (joins _ _ (each-has ram_drives ram_drives-has (numbered fabric.rams))
-      (joins _ _ (each-has (global_drives (inputs_of fabric)) (λ global. drives_if-has _ (global_rule (inputs_of fabric) global.from) (Some global.net) (global-has (inputs_of fabric) global.from)) fabric.globals)
+      (joins _ _ (each-has (global_drives fabric.pins) (λ global. drives_if-has _ (global_rule fabric.pins global.from) (Some global.net) (global-has fabric.pins global.from)) fabric.globals)
       (joins _ _ (each-has buffer_drives (λ buffer. drives_if-has _ (copied buffer.src) (Some buffer.dst) tt) fabric.buffers)
-      (registers-have pin_register_driver))))))))))
+      (joins _ _ (registers-have input_driver)
+      (joins _ _ (registers-have second_driver)
+      (joins _ _ (pins-have (data_drives fabric) data_drives-has)
+      (pins-have (pad_drives fabric) pad_drives-has)))))))))))))
 
   pub drive-has : (drive : Drive) → Contains (drives_of fabric) drive → HasRegister fabric drive.rule
   drive-has drive there = All-contains DriveHas (drives_of fabric) drive drives-have there
@@ -167,13 +181,12 @@ module _ (fabric : Fabric) (closed : IsClosed fabric) where
   pub outputs-have : All OutputHas (outputs_of fabric)
   unfolding outputs_of
   outputs-have =
-      All-flat_map OutputHas (pin_outputs fabric) (filter (λ pin. pin.output) fabric.pins)
-      (All-filter (λ pin. pin.output) (λ pin. All OutputHas (pin_outputs fabric pin)) fabric.pins
-      (All-weaker (Contains fabric.pins) (λ pin. All OutputHas (pin_outputs fabric pin))
-      (λ pin there. All-cons OutputHas (record { pin = pin; enable = false; source = output_signal fabric pin }) (enable_outputs pin) (output-there fabric closed pin there)
-      (All-if OutputHas _ (record { pin = pin; enable = true; source = net_or_1 pin.enable } ∷ [])
-      (All-single OutputHas (record { pin = pin; enable = true; source = net_or_1 pin.enable }) tt)))
-      fabric.pins (All-contains_itself fabric.pins)))
+      All-flat_map OutputHas (pin_outputs fabric) (filter drives fabric.pins)
+      (All-filtered (λ pin. All OutputHas (pin_outputs fabric pin)) drives fabric.pins
+      (All-weaker (Contains fabric.pins) (λ pin. drives pin ≡ true → All OutputHas (pin_outputs fabric pin))
+      (λ pin there driven. All-cons OutputHas (record { pin = pin; enable = false; source = data_of fabric pin }) (enable_outputs fabric pin) (data-there fabric closed pin there driven)
+      (if-when OutputHas (is_switched pin) _
+      (λ switched. All-single OutputHas (record { pin = pin; enable = true; source = enable_of fabric pin }) (enable-there fabric closed pin there switched)))) fabric.pins (All-contains_itself fabric.pins)))
 
   -- ---- values while a state settles
 

@@ -1,28 +1,40 @@
 -- What inputs read is there: the input pins and the registers are those of the fabric.
-use Rattle.std.proofs.Common.{◌≡◌, ℕ, zero, suc, ◌+◌, ◌<◌, ◌==◌, ◌&&◌, Bool, true, false, List, [], ◌∷◌, length, map, get_or, refl, ap, ◌∙◌, subst, arith, inl, inr, eq-eqb}
-use Rattle.std.specs.Prelude.{All, Contains, filter, not, None}
+use Rattle.std.proofs.Common.{◌≡◌, ℕ, zero, suc, ◌+◌, ◌<◌, ◌==◌, ◌&&◌, ◌||◌, Bool, true, false, List, [], ◌∷◌, ◌++◌, length, map, get_or, refl, sym, ap, ◌∙◌, subst, arith, inl, inr, eq-eqb}
+use Rattle.std.specs.Prelude.{All, Contains, filter, flat_map, position, unwrap_or, not, None}
 use Rattle.std.specs.List.{position_or_len}
-use Rattle.std.proofs.lemmas.Bool.{cases_Bool, lt-ltb, and_from}
-use Rattle.std.proofs.lemmas.List.Elements.{All-cons, All-head, All-tail, All-map, All-append, All-filter, All-weaker, All-contains_itself}
+use Rattle.std.proofs.lemmas.Bool.{cases_Bool, lt-ltb, and_from, and_parts, or_left, or_right}
+use Rattle.std.proofs.lemmas.List.Elements.{All-cons, All-head, All-tail, All-map, All-append, All-weaker, All-contains_itself, Contains-append_left, Contains-append_right}
 use Rattle.ice_image.specs.Configuration.{Configuration}
 use Rattle.chipdb_reader.specs.Database.{Database}
+use Rattle.chipdb_reader.specs.Fit.{IsFit}
 use Rattle.fabric_model.specs.declared.cell.LogicCell.{LogicCell}
 use Rattle.fabric_model.specs.declared.lut_inputs.LutInputs.{LutInputs}
+use Rattle.fabric_model.specs.declared.options.FabricOptions.{FabricOptions}
 use Rattle.fabric_model.specs.declared.pin.Pin.{Pin}
+use Rattle.fabric_model.specs.declared.pin.PadDrive.{PadDrive}
+use Rattle.fabric_model.specs.declared.pin.PadDrive.TheVariants as drive
+use Rattle.fabric_model.specs.declared.pin.PadData.{PadData}
+use Rattle.fabric_model.specs.declared.pin.PadData.TheVariants as sends
+use Rattle.fabric_model.specs.declared.input_port.InputPort.TheVariants.{Pad, Outside}
 use Rattle.fabric_model.specs.declared.signal.Signal.{Signal}
 use Rattle.fabric_model.specs.declared.signal.Signal.TheVariants as signal
+use Rattle.fabric_model.specs.declared.register.PinRegister.{PinRegister}
+use Rattle.fabric_model.specs.declared.register.PinRegister.TheVariants as kind
 use Rattle.fabric_model.specs.declared.register.Register.{Register}
 use Rattle.fabric_model.specs.Luts.{inputs_read}
 use Rattle.fabric_model.specs.Cells.{cells_of}
-use Rattle.fabric_model.specs.Pins.{is_registered, place_among, pins_of}
+use Rattle.fabric_model.specs.Tiles.{item_if}
+use Rattle.fabric_model.specs.PinTypes.{ever_drives, drives_at_times, is_by_register, has_register, has_table, is_double, takes_pad, takes_by_register}
+use Rattle.fabric_model.specs.Pins.{drives, is_switched, is_pad_read, has_input, has_outside, pins_of}
+use Rattle.fabric_model.specs.InputPorts.{pin_inputs, inputs_among, is_same_place, is_same_port, input_place}
 use Rattle.fabric_model.specs.Signals.{net_or_0}
-use Rattle.fabric_model.specs.Registers.{table_of, register_of, registers_of, pin_source, table_as, pin_register, pin_registers_of}
+use Rattle.fabric_model.specs.Registers.{table_of, register_of, flips_among, registers_of, registers_in, key_in, pin_keys, kind_number, is_same_key, register_in, data_by, pad_by, clock_enable, taken_by, pin_register, pin_registers_of}
 use Rattle.fabric_model.specs.Fabric.{Fabric, numbered_from, numbered, flip_count, fabric_with, inputs_of}
-use Rattle.fabric_model.specs.Drivers.{output_signal}
+use Rattle.fabric_model.specs.Drivers.{data_of, pad_of, enable_of, is_read_back, data_by_table, data_table, pad_table}
 use Rattle.fabric_model.specs.Within.{IsClosed, is_async_at}
-use Rattle.fabric_model.proofs.OneValue.{filter-has}
 use Rattle.fabric_model.proofs.Apart.{All-every}
-use Rattle.fabric_model.proofs.Within.{All-single}
+use Rattle.fabric_model.proofs.Contained.{contains-map, contains-flat_map}
+use Rattle.fabric_model.proofs.Within.{All-flat_map, All-single, if-when, fabric-in}
 
 -- what an input reads is there; a register that it reads has no asynchronous set or reset
 abbrev pub IsSignalThere : Fabric → Signal → Type 0
@@ -40,6 +52,15 @@ pub signal-there : (fabric : Fabric) (ins : List Signal) (k : ℕ) → All (IsSi
 signal-there fabric [] k all = tt
 signal-there fabric (source ∷ ins) zero all = All-head (IsSignalThere fabric) source ins all
 signal-there fabric (source ∷ ins) (suc k) all = signal-there fabric ins k (All-tail (IsSignalThere fabric) source ins all)
+
+abbrev none : Signal
+none = net_or_0 None
+
+four-there : (fabric : Fabric) (a b c d : Signal) → IsSignalThere fabric a → IsSignalThere fabric b → IsSignalThere fabric c → IsSignalThere fabric d
+    → All (IsSignalThere fabric) (a ∷ b ∷ c ∷ d ∷ [])
+four-there fabric a b c d of_a of_b of_c of_d =
+    All-cons (IsSignalThere fabric) a (b ∷ c ∷ d ∷ []) of_a
+    (All-cons (IsSignalThere fabric) b (c ∷ d ∷ []) of_b (All-cons (IsSignalThere fabric) c (d ∷ []) of_c (All-single (IsSignalThere fabric) d of_d)))
 
 -- ---- places
 
@@ -89,30 +110,231 @@ prefix-found test (x ∷ xs) item (suc k, within, here) passes =
       | inr away ↦ rw away (omega (arith, prefix-found test xs item (k, omega (arith, within), here) passes))
     ]
 
--- the place of a pin that is among pins is one of theirs
-pub place-found : (pins : List Pin) (pin : Pin) → Contains pins pin → place_among pins pin.x pin.y pin.n < length pins
-place-found pins pin there =
-    let test = λ (other : Pin). (other.x == pin.x) && ((other.y == pin.y) && (other.n == pin.n)) in
-    let passes : ((pin.x == pin.x) && ((pin.y == pin.y) && (pin.n == pin.n))) ≡ true =
-    and_from (pin.x == pin.x) ((pin.y == pin.y) && (pin.n == pin.n)) (eq-eqb pin.x pin.x refl)
-    (and_from (pin.y == pin.y) (pin.n == pin.n) (eq-eqb pin.y pin.y refl) (eq-eqb pin.n pin.n refl)) in
-    let inside : position_or_len test pins < length pins = prefix-found test pins pin there passes in
-    rw (lt-ltb (position_or_len test pins) (length pins) inside) inside
+-- the index of an item that is there is below their number
+pub place-found : {X : Type 0} (test : X → Bool) (xs : List X) (item : X) → Contains xs item → test item ≡ true → unwrap_or (position test xs) (length xs) < length xs
+place-found test xs item there passes =
+    let inside : position_or_len test xs < length xs = prefix-found test xs item there passes in
+    rw (lt-ltb (position_or_len test xs) (length xs) inside) inside
 
--- ---- what is read
+contains-if : {A : Type 0} (passes : Bool) (item : A) → passes ≡ true → Contains (item_if passes item) item
+contains-if true item is = (0, omega arith, refl)
+contains-if false item is = absurd cc
 
--- an output pin puts out a net or its register
-pub output-there : (fabric : Fabric) → IsClosed fabric → (pin : Pin) → Contains fabric.pins pin → IsSignalThere fabric (output_signal fabric pin)
-output-there fabric closed pin there =
-    elim (cases_Bool (is_registered pin)) [
-      | inl here ↦
-          let among : Contains (filter is_registered fabric.pins) pin = filter-has is_registered fabric.pins pin there here in
-          let place = place_among (filter is_registered fabric.pins) pin.x pin.y pin.n in
-          let low : place < length (filter is_registered fabric.pins) = place-found (filter is_registered fabric.pins) pin among in
-          let counted = closed.pinned in
-          rw here (omega (arith, low, counted), closed.steady (flip_count fabric + place) (omega arith))
-      | inr away ↦ rw away tt
-    ]
+-- ---- input ports
+
+same-place : (x y n : ℕ) → is_same_place x y n x y n ≡ true
+same-place x y n = and_from (x == x) ((y == y) && (n == n)) (eq-eqb x x refl) (and_from (y == y) (n == n) (eq-eqb y y refl) (eq-eqb n n refl))
+
+-- the port of a pin that is an input is one of the input ports
+pub pad-port-there : (pins : List Pin) (pin : Pin) → Contains pins pin → has_input pin ≡ true → input_place pins (Pad pin.x pin.y pin.n) < length (inputs_among pins)
+pad-port-there pins pin there is =
+    let port = Pad pin.x pin.y pin.n in
+    place-found (is_same_port port) (inputs_among pins) port
+    (contains-flat_map pin_inputs pins pin port there
+    (Contains-append_left (item_if (has_input pin) port) (item_if (has_outside pin) (Outside pin.x pin.y pin.n)) port (contains-if (has_input pin) port is)))
+    (same-place pin.x pin.y pin.n)
+
+-- and so is that of a switched pin whose pad is read
+pub outside-port-there : (pins : List Pin) (pin : Pin) → Contains pins pin → has_outside pin ≡ true → input_place pins (Outside pin.x pin.y pin.n) < length (inputs_among pins)
+outside-port-there pins pin there is =
+    let port = Outside pin.x pin.y pin.n in
+    place-found (is_same_port port) (inputs_among pins) port
+    (contains-flat_map pin_inputs pins pin port there
+    (Contains-append_right (item_if (has_input pin) (Pad pin.x pin.y pin.n)) (item_if (has_outside pin) port) port (contains-if (has_outside pin) port is)))
+    (same-place pin.x pin.y pin.n)
+
+-- ---- registers of pins
+
+-- what holds of each register that a pin has
+pub registers-all : (P : PinRegister → Type 0) (pin : Pin) → ((pin.reads_0 && takes_by_register pin.takes) ≡ true → P kind.Input) → (pin.reads_1 ≡ true → P kind.SecondInput)
+    → (pin.reads_1 ≡ true → P kind.InputClockEnable) → ((drives pin && has_register pin.sends) ≡ true → P kind.Output)
+    → ((drives pin && is_double pin.sends) ≡ true → P kind.SecondOutput) → ((drives pin && is_double pin.sends) ≡ true → P kind.OutputClockEnable)
+    → (is_by_register pin.drive ≡ true → P kind.OutputEnable) → All P (registers_in pin)
+registers-all P pin input second input_enable output second_output output_enable enable =
+    let one : (passes : Bool) (register : PinRegister) → (passes ≡ true → P register) → All P (item_if passes register) =
+    λ passes register of_register. if-when P passes (register ∷ []) (λ is. All-single P register (of_register is)) in
+    All-append P _ _ (one _ kind.Input input)
+    (All-append P _ _ (one _ kind.SecondInput second)
+    (All-append P _ _ (one _ kind.InputClockEnable input_enable)
+    (All-append P _ _ (one _ kind.Output output)
+    (All-append P _ _ (one _ kind.SecondOutput second_output) (All-append P _ _ (one _ kind.OutputClockEnable output_enable) (one _ kind.OutputEnable enable))))))
+
+module _ (pin : Pin) where
+  abbrev from_output_enable : List PinRegister
+  from_output_enable = item_if (drives pin && is_double pin.sends) kind.OutputClockEnable ++ item_if (is_by_register pin.drive) kind.OutputEnable
+
+  abbrev from_second_output : List PinRegister
+  from_second_output = item_if (drives pin && is_double pin.sends) kind.SecondOutput ++ from_output_enable
+
+  abbrev from_output : List PinRegister
+  from_output = item_if (drives pin && has_register pin.sends) kind.Output ++ from_second_output
+
+  abbrev from_input_enable : List PinRegister
+  from_input_enable = item_if pin.reads_1 kind.InputClockEnable ++ from_output
+
+  abbrev from_second : List PinRegister
+  from_second = item_if pin.reads_1 kind.SecondInput ++ from_input_enable
+
+  has-input_enable : pin.reads_1 ≡ true → Contains (registers_in pin) kind.InputClockEnable
+  has-input_enable is =
+      Contains-append_right (item_if (pin.reads_0 && takes_by_register pin.takes) kind.Input) from_second kind.InputClockEnable
+      (Contains-append_right (item_if pin.reads_1 kind.SecondInput) from_input_enable kind.InputClockEnable
+      (Contains-append_left (item_if pin.reads_1 kind.InputClockEnable) from_output kind.InputClockEnable (contains-if pin.reads_1 kind.InputClockEnable is)))
+
+  in-output : (register : PinRegister) → Contains from_output register → Contains (registers_in pin) register
+  in-output register there =
+      Contains-append_right (item_if (pin.reads_0 && takes_by_register pin.takes) kind.Input) from_second register
+      (Contains-append_right (item_if pin.reads_1 kind.SecondInput) from_input_enable register
+      (Contains-append_right (item_if pin.reads_1 kind.InputClockEnable) from_output register there))
+
+  has-output : (drives pin && has_register pin.sends) ≡ true → Contains (registers_in pin) kind.Output
+  has-output is =
+      in-output kind.Output
+      (Contains-append_left (item_if (drives pin && has_register pin.sends) kind.Output) from_second_output kind.Output (contains-if (drives pin && has_register pin.sends) kind.Output is))
+
+  in-second_output : (register : PinRegister) → Contains from_second_output register → Contains (registers_in pin) register
+  in-second_output register there =
+      in-output register (Contains-append_right (item_if (drives pin && has_register pin.sends) kind.Output) from_second_output register there)
+
+  has-second_output : (drives pin && is_double pin.sends) ≡ true → Contains (registers_in pin) kind.SecondOutput
+  has-second_output is =
+      in-second_output kind.SecondOutput
+      (Contains-append_left (item_if (drives pin && is_double pin.sends) kind.SecondOutput) from_output_enable kind.SecondOutput
+      (contains-if (drives pin && is_double pin.sends) kind.SecondOutput is))
+
+  in-output_enable : (register : PinRegister) → Contains from_output_enable register → Contains (registers_in pin) register
+  in-output_enable register there =
+      in-second_output register (Contains-append_right (item_if (drives pin && is_double pin.sends) kind.SecondOutput) from_output_enable register there)
+
+  has-output_clock : (drives pin && is_double pin.sends) ≡ true → Contains (registers_in pin) kind.OutputClockEnable
+  has-output_clock is =
+      in-output_enable kind.OutputClockEnable
+      (Contains-append_left (item_if (drives pin && is_double pin.sends) kind.OutputClockEnable) (item_if (is_by_register pin.drive) kind.OutputEnable) kind.OutputClockEnable
+      (contains-if (drives pin && is_double pin.sends) kind.OutputClockEnable is))
+
+  has-enable : is_by_register pin.drive ≡ true → Contains (registers_in pin) kind.OutputEnable
+  has-enable is =
+      in-output_enable kind.OutputEnable
+      (Contains-append_right (item_if (drives pin && is_double pin.sends) kind.OutputClockEnable) (item_if (is_by_register pin.drive) kind.OutputEnable) kind.OutputEnable
+      (contains-if (is_by_register pin.drive) kind.OutputEnable is))
+
+-- words
+double-register : (sent : PadData) → is_double sent ≡ true → has_register sent ≡ true
+double-register sends.Plain is = absurd cc
+double-register sends.Registered is = absurd cc
+double-register sends.Inverted is = absurd cc
+double-register sends.Double is = refl
+
+table-register : (sent : PadData) → has_table sent ≡ true → has_register sent ≡ true
+table-register sends.Plain is = absurd cc
+table-register sends.Registered is = absurd cc
+table-register sends.Inverted is = refl
+table-register sends.Double is = refl
+
+times-ever : (driven : PadDrive) → drives_at_times driven ≡ true → ever_drives driven ≡ true
+times-ever drive.Never is = absurd cc
+times-ever drive.Always is = absurd cc
+times-ever drive.ByNet is = refl
+times-ever drive.ByRegister is = refl
+
+-- ---- what pins read is there
+
+module _ (fabric : Fabric) (closed : IsClosed fabric) (pin : Pin) (there : Contains fabric.pins pin) where
+  abbrev There : Signal → Type 0
+  There source = IsSignalThere fabric source
+
+  -- a register that a pin has
+  register-there : (register : PinRegister) → Contains (registers_in pin) register → There (register_in (flip_count fabric) fabric.pins pin register)
+  register-there register has =
+      let key = key_in pin register in
+      let keys = pin_keys fabric.pins in
+      let place = unwrap_or (position (is_same_key key) keys) (length keys) in
+      let low : place < length keys =
+      place-found (is_same_key key) keys key (contains-flat_map (λ (one : Pin). map (key_in one) (registers_in one)) fabric.pins pin key there (contains-map (key_in pin) (registers_in pin) register has))
+      (and_from (is_same_place pin.x pin.y pin.n pin.x pin.y pin.n) (kind_number register == kind_number register) (same-place pin.x pin.y pin.n) (eq-eqb (kind_number register) (kind_number register) refl)) in
+      let counted = closed.pinned in
+      (omega (arith, low, counted), closed.steady (flip_count fabric + place) (omega arith))
+
+  -- what a pin drives its pad with
+  data_by-there : drives pin ≡ true → (sent : PadData) → pin.sends ≡ sent → There (data_by (flip_count fabric) fabric.pins pin sent)
+  data_by-there driven sends.Plain is = tt
+  data_by-there driven sends.Registered is =
+      register-there kind.Output (has-output pin (and_from (drives pin) (has_register pin.sends) driven (ap has_register is)))
+  data_by-there driven sends.Inverted is = tt
+  data_by-there driven sends.Double is = tt
+
+  pub data-there : drives pin ≡ true → There (data_of fabric pin)
+  data-there driven = data_by-there driven pin.sends refl
+
+  -- when a switched pin drives its pad
+  pub enable-there : is_switched pin ≡ true → There (enable_of fabric pin)
+  enable-there switched =
+      elim (cases_Bool (is_by_register pin.drive)) [
+        | inl here ↦ rw here (register-there kind.OutputEnable (has-enable pin here))
+        | inr away ↦ rw away tt
+      ]
+
+  -- the pad of a pin that drives it, or that is an input
+  pad_by-there : (driven : PadDrive) → pin.drive ≡ driven → (drives pin ≡ false → has_input pin ≡ true) → There (pad_by (flip_count fabric) fabric.pins pin driven)
+  pad_by-there drive.Never is seen = pad-port-there fabric.pins pin there (seen (ap ever_drives is))
+  pad_by-there drive.Always is seen = data-there (ap ever_drives is)
+  pad_by-there drive.ByNet is seen = tt
+  pad_by-there drive.ByRegister is seen = tt
+
+  pad-there : (drives pin ≡ false → has_input pin ≡ true) → There (pad_of fabric pin)
+  pad-there seen = pad_by-there pin.drive refl seen
+
+  pub back-there : is_read_back pin ≡ true → There (pad_of fabric pin)
+  back-there read =
+      let driven : drives pin ≡ true = (and_parts (drives pin) _ read).0 in
+      pad-there (λ away. let never : true ≡ false = sym driven ∙ away in absurd cc)
+
+  -- the registers that a table of what the pin drives its pad with reads
+  table_by-there : drives pin ≡ true → (sent : PadData) → pin.sends ≡ sent → has_table sent ≡ true → All There (data_by_table (flip_count fabric) fabric.pins pin sent).ins
+  table_by-there driven sends.Plain is made = absurd cc
+  table_by-there driven sends.Registered is made = absurd cc
+  table_by-there driven sends.Inverted is made =
+      four-there fabric (register_in (flip_count fabric) fabric.pins pin kind.Output) none none none
+      (register-there kind.Output (has-output pin (and_from (drives pin) (has_register pin.sends) driven (ap has_register is)))) tt tt tt
+  table_by-there driven sends.Double is made =
+      four-there fabric (register_in (flip_count fabric) fabric.pins pin kind.SecondOutput) (register_in (flip_count fabric) fabric.pins pin kind.Output) (net_or_0 pin.outclk) none
+      (register-there kind.SecondOutput (has-second_output pin (and_from (drives pin) (is_double pin.sends) driven (ap is_double is))))
+      (register-there kind.Output (has-output pin (and_from (drives pin) (has_register pin.sends) driven (ap has_register is)))) tt tt
+
+  pub data_table-there : (drives pin && has_table pin.sends) ≡ true → All There (data_table fabric pin).ins
+  data_table-there made =
+      let both = and_parts (drives pin) (has_table pin.sends) made in table_by-there both.0 pin.sends refl both.1
+
+  -- and what that of its pad reads
+  pub pad_table-there : has_outside pin ≡ true → All There (pad_table fabric pin).ins
+  pad_table-there seen =
+      let switched : is_switched pin ≡ true = (and_parts (is_switched pin) (is_pad_read pin) seen).0 in
+      four-there fabric (signal.Input (input_place fabric.pins (Outside pin.x pin.y pin.n))) (data_of fabric pin) (enable_of fabric pin) none
+      (outside-port-there fabric.pins pin there seen) (data-there (times-ever pin.drive switched)) (enable-there switched) tt
+
+  -- ---- registers of the pin
+
+  -- a pin whose pad is read is an input, if it never drives it
+  read-seen : is_pad_read pin ≡ true → drives pin ≡ false → has_input pin ≡ true
+  read-seen read away = and_from (not (drives pin)) (takes_pad pin.takes || is_pad_read pin) (ap not away) (or_right (takes_pad pin.takes) (is_pad_read pin) read)
+
+  reads_0-seen : (pin.reads_0 && takes_by_register pin.takes) ≡ true → is_pad_read pin ≡ true
+  reads_0-seen is = or_left pin.reads_0 (pin.reads_1 || pin.is_global) (and_parts pin.reads_0 (takes_by_register pin.takes) is).0
+
+  reads_1-seen : pin.reads_1 ≡ true → is_pad_read pin ≡ true
+  reads_1-seen is = or_right pin.reads_0 (pin.reads_1 || pin.is_global) (or_left pin.reads_1 pin.is_global is)
+
+  abbrev Has : PinRegister → Type 0
+  Has register = There (clock_enable (flip_count fabric) fabric.pins pin register) × There (taken_by (flip_count fabric) fabric.pins pin register)
+
+  pin-signals : All Has (registers_in pin)
+  pin-signals =
+      registers-all Has pin (λ is. (tt, pad-there (read-seen (reads_0-seen is)))) (λ is. (register-there kind.InputClockEnable (has-input_enable pin is), pad-there (read-seen (reads_1-seen is))))
+      (λ is. (tt, tt)) (λ is. (tt, tt)) (λ is. (register-there kind.OutputClockEnable (has-output_clock pin is), tt)) (λ is. (tt, tt)) (λ is. (tt, tt))
+
+  pin_register-signals : (register : PinRegister) → Has register → HasSignals fabric (pin_register (flip_count fabric) fabric.pins pin register)
+  unfolding pin_register
+  pin_register-signals register has = record { enable = has.0; ins = four-there fabric (taken_by (flip_count fabric) fabric.pins pin register) none none none has.1 tt tt tt }
 
 -- the inputs of a cell read nets
 pub cell-signals : (fabric : Fabric) (inputs : LutInputs) (lc : LogicCell) → All (IsSignalThere fabric) (table_of inputs lc).ins
@@ -130,41 +352,21 @@ flips-signals fabric inputs lcs =
     All-map (HasSignals fabric) (register_of inputs) (filter (λ lc. lc.flip) lcs)
     (All-every (λ lc. HasSignals fabric (register_of inputs lc)) (flip-signals fabric inputs) (filter (λ lc. lc.flip) lcs))
 
--- the register of a pin reads a net, or the pin
-pin_source-there : (fabric : Fabric) (pin : Pin) → Contains fabric.pins pin → IsSignalThere fabric (pin_source (inputs_of fabric) pin)
-pin_source-there fabric pin there =
-    elim (cases_Bool pin.output) [
-      | inl here ↦ rw here tt
-      | inr away ↦
-          let input : not pin.output ≡ true = rw away refl in
-          rw away (place-found (inputs_of fabric) pin (filter-has (λ other. not other.output) fabric.pins pin there input))
-    ]
+pin_registers-signals : (fabric : Fabric) → IsClosed fabric → All (HasSignals fabric) (pin_registers_of (flip_count fabric) fabric.pins)
+unfolding pin_registers_of
+pin_registers-signals fabric closed =
+    let made = λ (pin : Pin). map (pin_register (flip_count fabric) fabric.pins pin) (registers_in pin) in
+    All-flat_map (HasSignals fabric) made fabric.pins
+    (All-weaker (Contains fabric.pins) (λ pin. All (HasSignals fabric) (made pin))
+    (λ pin there. All-map (HasSignals fabric) (pin_register (flip_count fabric) fabric.pins pin) (registers_in pin)
+    (All-weaker (Has fabric closed pin there) (λ register. HasSignals fabric (pin_register (flip_count fabric) fabric.pins pin register)) (pin_register-signals fabric closed pin there)
+    (registers_in pin) (pin-signals fabric closed pin there))) fabric.pins (All-contains_itself fabric.pins))
 
-table_as-there : (fabric : Fabric) (source : Signal) → IsSignalThere fabric source → All (IsSignalThere fabric) (table_as source).ins
-table_as-there fabric source there =
-    let none = net_or_0 None in
-    All-cons (IsSignalThere fabric) source (none ∷ none ∷ none ∷ []) there
-    (All-cons (IsSignalThere fabric) none (none ∷ none ∷ []) tt
-    (All-cons (IsSignalThere fabric) none (none ∷ []) tt (All-single (IsSignalThere fabric) none tt)))
-
-module _ (db : Database) (image : Configuration) where
-  pin_register-signals : (fabric : Fabric) (pin : Pin) → Contains fabric.pins pin → HasSignals fabric (pin_register db image (inputs_of fabric) pin)
-  unfolding pin_register
-  pin_register-signals fabric pin there =
-      record { enable = tt; ins = table_as-there fabric (pin_source (inputs_of fabric) pin) (pin_source-there fabric pin there) }
-
-  pin_registers-signals : (fabric : Fabric) → All (HasSignals fabric) (pin_registers_of db image fabric.pins)
-  unfolding pin_registers_of
-  pin_registers-signals fabric =
-      All-map (HasSignals fabric) (pin_register db image (inputs_of fabric)) (filter is_registered fabric.pins)
-      (All-filter is_registered (λ pin. HasSignals fabric (pin_register db image (inputs_of fabric) pin)) fabric.pins
-      (All-weaker (Contains fabric.pins) (λ pin. HasSignals fabric (pin_register db image (inputs_of fabric) pin))
-      (λ pin there. pin_register-signals fabric pin there) fabric.pins (All-contains_itself fabric.pins)))
-
-  -- what the inputs of registers read is there
-  pub registers-signals : (inputs : LutInputs) → All (HasSignals (fabric_with inputs db image)) (fabric_with inputs db image).registers
-  unfolding fabric_with
-  registers-signals inputs =
-      let fabric = fabric_with inputs db image in
-      All-append (HasSignals fabric) (registers_of inputs (cells_of db image)) (pin_registers_of db image (pins_of db image))
-      (flips-signals fabric inputs (cells_of db image)) (pin_registers-signals fabric)
+-- what the inputs of registers read is there
+pub registers-signals : (db : Database) (image : Configuration) (fit : IsFit db) (options : FabricOptions)
+    → All (HasSignals (fabric_with options db image)) (fabric_with options db image).registers
+unfolding fabric_with
+registers-signals db image fit options =
+    let fabric = fabric_with options db image in
+    All-append (HasSignals fabric) (registers_of options.lut_inputs (cells_of db image)) (pin_registers_of (flips_among (cells_of db image)) (pins_of options.all_pins db image))
+    (flips-signals fabric options.lut_inputs (cells_of db image)) (pin_registers-signals fabric (fabric-in db image fit options))

@@ -9,7 +9,7 @@ use Rattle.ice_image.specs.Configuration.{Configuration}
 use Rattle.chipdb_reader.specs.Database.{Database}
 use Rattle.index_search.specs.Places.{gathered_below}
 use Rattle.index_search.proofs.Found.{or_else-first, or_else-other}
-use Rattle.fabric_model.specs.declared.lut_inputs.LutInputs.{LutInputs}
+use Rattle.fabric_model.specs.declared.options.FabricOptions.{FabricOptions}
 use Rattle.fabric_model.specs.Unique.{ExactlyOne}
 use Rattle.fabric_model.specs.Tiles.{item_if, first_of}
 use Rattle.fabric_model.specs.Fabric.{Fabric, fabric_with}
@@ -95,18 +95,19 @@ module _ (device : DeviceName) (fabric : Fabric) (taken : fabric_fault device fa
         }
 
 -- what has no fault is a fabric without a fault, of one device, whose pins have no fault
-pub record IsTaken (inputs : LutInputs) (db : Database) (image : Configuration) : Type 0 where
+pub record IsTaken (options : FabricOptions) (db : Database) (image : Configuration) : Type 0 where
   pub device : device_faults db image ≡ []
-  pub pins : pin_faults db image ≡ []
-  pub fabric : fabric_fault image.layout.device (fabric_with inputs db image) ≡ None
+  pub pins : pin_faults options.all_pins db image ≡ []
+  pub fabric : fabric_fault image.layout.device (fabric_with options db image) ≡ None
 
-pub design-taken : (inputs : LutInputs) (db : Database) (image : Configuration) → design_fault inputs db image ≡ None → IsTaken inputs db image
+pub design-taken : (options : FabricOptions) (db : Database) (image : Configuration) → design_fault options db image ≡ None → IsTaken options db image
 unfolding design_fault pins_fault
-design-taken inputs db image none =
+design-taken options db image none =
+    let all = options.all_pins in
     let first = first_of (device_faults db image) in
     let behind = or_else-other first _ none in
     record {
       device = first_of-none (device_faults db image) (or_else-first first _ none);
-      pins = first_of-none (pin_faults db image) (or_else-other (first_of (pll_faults db image)) _ (or_else-first (pins_fault db image) _ behind));
-      fabric = or_else-other (rams_fault db image) _ (or_else-other (pins_fault db image) _ behind);
+      pins = first_of-none (pin_faults all db image) (or_else-other (first_of (pll_faults db image)) _ (or_else-first (pins_fault all db image) _ behind));
+      fabric = or_else-other (rams_fault db image) _ (or_else-other (pins_fault all db image) _ behind);
     }

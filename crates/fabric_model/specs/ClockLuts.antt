@@ -1,4 +1,4 @@
--- What a LUT (`SB_LUT4`) does to a clock that passes through it. Only entries that can occur count: an unconnected input is 0.
+-- What a LUT (`SB_LUT4`) does to a clock that passes through it. Only entries that can occur count: an unconnected input has its stated value.
 use Rattle.std.specs.Prelude.{ℕ, ◌/◌, ◌%◌, ◌^◌, Bool, true, false, not, ◌&&◌, ◌||◌, ◌==◌, get_or, if◌then◌else◌, Some, None}
 use Rattle.std.specs.Bool.{beq}
 use Rattle.index_search.specs.Places.{any_below}
@@ -31,7 +31,7 @@ input_at k n = n / 2 ^ k % 2 == 1
 abbrev pub is_input_open : (ℕ → Bool) → LutTable → ℕ → ℕ → Bool
 is_input_open connected table k n = not (input_at k n) || can_be_1 connected (get_or table.ins k (net_or_0 None))
 
--- Whether entry n can occur: bit k of n is 0 for each in_k that is unconnected.
+-- Whether entry n can occur: bit k of n is 0 for each in_k that can't be 1.
 abbrev pub is_open : (ℕ → Bool) → LutTable → ℕ → Bool
 is_open connected table n =
     is_input_open connected table 0 n

@@ -5,6 +5,7 @@ use Rattle.fabric_model.specs.declared.register.Register.{Register}
 use Rattle.fabric_model.specs.declared.ram.RamCell.{RamCell}
 use Rattle.fabric_model.specs.declared.driver.ClockUser.{ClockUser}
 use Rattle.fabric_model.specs.declared.driver.ClockUser.TheVariants.{Read, Write}
+use Rattle.fabric_model.specs.Registers.{user_of}
 use Rattle.fabric_model.specs.Tiles.{over_grid}
 use Rattle.fabric_model.specs.Joins.{class_of}
 use Rattle.fabric_model.specs.Fabric.{Fabric}
@@ -16,7 +17,7 @@ use Rattle.fabric_model.specs.ClockLuts.LutPass.{holds, follows, mixes}
 
 -- ---- chains
 
--- Where a clock chain ends: at the input pin with that index, upright or turned (inverted); at a bit that is always the same; or at logic,
+-- Where a clock chain ends: at the input port with that index, upright or turned (inverted); at a bit that is always the same; or at logic,
 -- which is any other driver.
 pub data ClockEnd : Type 0 where
   at_pin : (place : ℕ) (turned : Bool) → ClockEnd
@@ -47,7 +48,7 @@ turn_through (follows turned net) = goes_to turned net
 turn_through mixes = ends logic
 
 -- A buffer, and a global network that a net `fabout` drives, lead the chain on to their source. A LUT that follows a net leads it on to that
--- net, and one that holds a bit ends it at that bit. An input pin and a pad end it.
+-- net, and one that holds a bit ends it at that bit. An input port ends it.
 abbrev pub turn_by : (ℕ → Bool) → Rule → Turn
 turn_by connected (pin_bit place) = ends (at_pin place false)
 turn_by connected (copied net) = goes_to false net
@@ -95,7 +96,7 @@ pub record User : Type 0 where
 
 -- a register as a user of its clock
 abbrev pub register_user : Register → User
-register_user register = record { x = register.x; y = register.y; user = register.user; net = register.clk }
+register_user register = record { x = register.x; y = register.y; user = user_of register.kind; net = register.clk }
 
 -- the ports of a RAM as users of their clocks: the read port comes first
 abbrev pub ram_users : RamCell → List User

@@ -1,33 +1,39 @@
 -- What drives each net.
-use Rattle.std.specs.Prelude.{ℕ, Bool, true, false, not, ◌&&◌, ◌+◌, ◌-◌, ◌%◌, nat_le, List, [], ◌∷◌, ◌++◌, filter, flat_map, option_to_list, get_or, ◌==◌, if◌then◌else◌, Option, Some, None}
+use Rattle.std.specs.Prelude.{ℕ, Bool, true, false, not, ◌&&◌, ◌||◌, ◌-◌, ◌%◌, nat_le, List, [], ◌∷◌, ◌++◌, filter, flat_map, option_to_list, get_or, ◌==◌, if◌then◌else◌, Option, Some, None}
 use Rattle.std.specs.List.{list_any}
 use Rattle.fabric_model.specs.declared.cell.LogicCell.{LogicCell}
 use Rattle.fabric_model.specs.declared.cell.CarrySet.{CarrySet}
 use Rattle.fabric_model.specs.declared.lut_inputs.LutInputs.{LutInputs}
 use Rattle.fabric_model.specs.declared.ram.RamCell.{RamCell}
 use Rattle.fabric_model.specs.declared.pin.Pin.{Pin}
+use Rattle.fabric_model.specs.declared.pin.PadData.{PadData}
+use Rattle.fabric_model.specs.declared.pin.PadData.TheVariants as sends
 use Rattle.fabric_model.specs.declared.pin.GlobalNet.{GlobalNet}
 use Rattle.fabric_model.specs.declared.pin.GlobalFrom.{GlobalFrom}
 use Rattle.fabric_model.specs.declared.pin.GlobalFrom.TheVariants.{Pad, Fabout}
+use Rattle.fabric_model.specs.declared.input_port.InputPort.TheVariants.{Pad as PadPort, Outside as OutsidePort}
 use Rattle.fabric_model.specs.declared.signal.Signal.{Signal}
 use Rattle.fabric_model.specs.declared.signal.Signal.TheVariants as signal
 use Rattle.fabric_model.specs.declared.register.LutTable.{LutTable}
+use Rattle.fabric_model.specs.declared.register.PinRegister.TheVariants as kind
+use Rattle.fabric_model.specs.declared.register.RegisterKind.{RegisterKind}
+use Rattle.fabric_model.specs.declared.register.RegisterKind.TheVariants.{FlipFlop, OfPin}
 use Rattle.fabric_model.specs.declared.register.Register.{Register}
-use Rattle.fabric_model.specs.declared.driver.ClockUser.{ClockUser}
-use Rattle.fabric_model.specs.declared.driver.ClockUser.TheVariants.{Cell, Input}
 use Rattle.fabric_model.specs.declared.driver.Driver.{Driver}
 use Rattle.fabric_model.specs.declared.driver.Driver.TheVariants as driver
 use Rattle.fabric_model.specs.Joins.{class_of}
 use Rattle.narrow_words.specs.Narrow.{share}
 use Rattle.fabric_model.specs.Rams.{first_data_bit}
-use Rattle.fabric_model.specs.Pins.{is_registered, place_among}
+use Rattle.fabric_model.specs.PinTypes.{takes_pad, has_table}
+use Rattle.fabric_model.specs.Pins.{drives, is_switched, has_outside}
+use Rattle.fabric_model.specs.InputPorts.{input_place}
 use Rattle.fabric_model.specs.Signals.{net_or_0, signal_nets}
-use Rattle.fabric_model.specs.Registers.{table_of}
-use Rattle.fabric_model.specs.Fabric.{Fabric, Buffer, numbered, flip_count, inputs_of}
+use Rattle.fabric_model.specs.Registers.{table_of, register_in, data_signal, pad_signal, enable_signal}
+use Rattle.fabric_model.specs.Fabric.{Fabric, Buffer, numbered, flip_count}
 
--- How a driver makes its value. Input pins, registers and used RAMs are named by their indexes among those of the fabric.
+-- How a driver makes its value. Input ports, registers and used RAMs are named by their indexes among those of the fabric.
 pub data Rule : Type 0 where
-  -- the value of an input pin
+  -- the value of an input port
   pin_bit : ℕ → Rule
   -- a bit that is always the same
   constant : Bool → Rule
@@ -55,27 +61,33 @@ abbrev pub drives_if : Driver → Rule → Option ℕ → List Drive
 drives_if by rule None = []
 drives_if by rule (Some net) = record { driver = by; net = net; rule = rule } ∷ []
 
--- ---- the eleven kinds of drivers
+-- ---- the fourteen kinds of drivers
 
--- 1: the net `io_n/D_IN_0` of an input pin without a register has the pin's value (`SB_IO`)
-abbrev pub pin_drives : ℕ × Pin → List Drive
-pin_drives place =
-    if is_registered place.1 then []
-    else drives_if (driver.Pin place.1.x place.1.y place.1.n) (pin_bit place.0) place.1.din
+-- what a pin drives its pad with, its pad, and when it drives it
+abbrev pub data_of : Fabric → Pin → Signal
+data_of fabric pin = data_signal (flip_count fabric) fabric.pins pin
 
--- What an output pin puts out: its register if it is registered, else `io_n/D_OUT_0` (`SB_IO`). The registers of pins come after the
--- flip-flops, in the order of the pins that have one.
-abbrev pub output_from : ℕ → List Pin → Pin → Signal
-output_from flips registered pin =
-    if is_registered pin then signal.Register (flips + place_among registered pin.x pin.y pin.n) else net_or_0 pin.dout
+abbrev pub pad_of : Fabric → Pin → Signal
+pad_of fabric pin = pad_signal (flip_count fabric) fabric.pins pin
 
--- what an output pin of a fabric puts out
-abbrev pub output_signal : Fabric → Pin → Signal
-output_signal fabric pin = output_from (flip_count fabric) (filter is_registered fabric.pins) pin
+abbrev pub enable_of : Fabric → Pin → Signal
+enable_of fabric pin = enable_signal (flip_count fabric) fabric.pins pin
 
--- 2: the readback: the net `io_n/D_IN_0` of an output pin that can be read has the value of the pin (`SB_IO`)
+-- 1: the net `io_n/D_IN_0` of a pin that never drives its pad and takes the pad as it is has the value of the input port (`SB_IO`)
+abbrev pub pin_drives : List Pin → Pin → List Drive
+pin_drives pins pin =
+    if not (drives pin) && takes_pad pin.takes
+    then drives_if (driver.Pin pin.x pin.y pin.n) (pin_bit (input_place pins (PadPort pin.x pin.y pin.n))) pin.din_0
+    else []
+
+-- whether the fabric reads back the pad of a pin that drives it: it takes the pad as it is, and drives it always, or at times and the net is read
+abbrev pub is_read_back : Pin → Bool
+is_read_back pin = drives pin && (takes_pad pin.takes && (not (is_switched pin) || pin.reads_0))
+
+-- 2: the readback: the net `io_n/D_IN_0` of such a pin has the value of the pad (`SB_IO`)
 abbrev pub back_drives : Fabric → Pin → List Drive
-back_drives fabric pin = drives_if (driver.Readback pin.x pin.y pin.n) (input (output_signal fabric pin)) pin.din
+back_drives fabric pin =
+    if is_read_back pin then drives_if (driver.Readback pin.x pin.y pin.n) (input (pad_of fabric pin)) pin.din_0 else []
 
 -- 3: `lutff_i/out` of a cell without a flip-flop has the LUT's value (`SB_LUT4`)
 abbrev pub lut_drives : LutInputs → LogicCell → List Drive
@@ -87,13 +99,13 @@ drives_by place None = []
 drives_by place (Some by) = drives_if by (register_bit place.0 place.1) place.1.out
 
 -- the flip-flop of a cell as a driver
-abbrev pub flip_driver : Register → ClockUser → Option Driver
-flip_driver register (Cell i) = Some (driver.FlipFlop register.x register.y i)
-flip_driver register _ = None
+abbrev pub flip_driver : Register → RegisterKind → Option Driver
+flip_driver register (FlipFlop i) = Some (driver.FlipFlop register.x register.y i)
+flip_driver register (OfPin n kind) = None
 
 -- 4: `lutff_i/out` of a cell with a flip-flop has the register's value (`SB_DFF` and its forms)
 abbrev pub flip_drives : ℕ × Register → List Drive
-flip_drives place = drives_by place (flip_driver place.1 place.1.user)
+flip_drives place = drives_by place (flip_driver place.1 place.1.kind)
 
 -- 5: `lutff_i/lout` has the LUT's value (`SB_LUT4`)
 abbrev pub lout_drives : LutInputs → LogicCell → List Drive
@@ -124,7 +136,7 @@ ram_drives place = flat_map (ram_drive place) (numbered place.1.rdata)
 
 -- 9: the net of a global network has the value of its pad (`SB_GB_IO`), or of its net `fabout` (`SB_GB`)
 abbrev pub global_rule : List Pin → GlobalFrom → Rule
-global_rule pins (Pad x y n) = pin_bit (place_among pins x y n)
+global_rule pins (Pad x y n) = pin_bit (input_place pins (PadPort x y n))
 global_rule pins (Fabout net) = copied net
 
 abbrev pub global_drives : List Pin → GlobalNet → List Drive
@@ -134,31 +146,81 @@ global_drives pins global = drives_if (driver.Global global.g global.net) (globa
 abbrev pub buffer_drives : Buffer → List Drive
 buffer_drives buffer = drives_if (driver.Link buffer.line) (copied buffer.src) (Some buffer.dst)
 
--- the register of an input pin as a driver
-abbrev pub pin_register_driver : Register → ClockUser → Option Driver
-pin_register_driver register (Input n) = Some (driver.PinReg register.x register.y n)
-pin_register_driver register _ = None
+-- a register of a pin as a driver of `io_n/D_IN_0`
+abbrev pub input_driver : Register → RegisterKind → Option Driver
+input_driver register (FlipFlop i) = None
+input_driver register (OfPin n kind.Input) = Some (driver.PinReg register.x register.y n)
+input_driver register (OfPin n kind) = None
 
--- 11: the net `io_n/D_IN_0` of a registered input pin has the register's value (`SB_IO`)
-abbrev pub pin_register_drives : ℕ × Register → List Drive
-pin_register_drives place = drives_by place (pin_register_driver place.1 place.1.user)
+-- 11: the net `io_n/D_IN_0` of a pin that takes the pad by a register has the register's value (`SB_IO`)
+abbrev pub input_drives : ℕ × Register → List Drive
+input_drives place = drives_by place (input_driver place.1 place.1.kind)
+
+-- a register of a pin as a driver of `io_n/D_IN_1`
+abbrev pub second_driver : Register → RegisterKind → Option Driver
+second_driver register (FlipFlop i) = None
+second_driver register (OfPin n kind.SecondInput) = Some (driver.PinReg1 register.x register.y n)
+second_driver register (OfPin n kind) = None
+
+-- 12: the net `io_n/D_IN_1` has the value of its register (`SB_IO`)
+abbrev pub second_drives : ℕ × Register → List Drive
+second_drives place = drives_by place (second_driver place.1 place.1.kind)
+
+-- What a pin drives its pad with, as a table: the inverse of a register; or of two registers the one of `io_n/D_OUT_0` in the half of the
+-- clock that begins with the own edge, and else the one of `io_n/D_OUT_1`.
+abbrev pub data_by_table : ℕ → List Pin → Pin → PadData → LutTable
+data_by_table flips pins pin sends.Double = record {
+  word = if pin.neg then 44204 else 51914;
+  ins = register_in flips pins pin kind.SecondOutput ∷ register_in flips pins pin kind.Output ∷ net_or_0 pin.outclk ∷ net_or_0 None ∷ [];
+}
+data_by_table flips pins pin sent = record {
+  word = 21845;
+  ins = register_in flips pins pin kind.Output ∷ net_or_0 None ∷ net_or_0 None ∷ net_or_0 None ∷ [];
+}
+
+abbrev pub data_table : Fabric → Pin → LutTable
+data_table fabric pin = data_by_table (flip_count fabric) fabric.pins pin pin.sends
+
+-- 13: the inner net of what a pin drives its pad with, if a LUT makes that of registers (`SB_IO`)
+abbrev pub data_drives : Fabric → Pin → List Drive
+data_drives fabric pin =
+    if drives pin && has_table pin.sends then drives_if (driver.Data pin.x pin.y pin.n) (table_entry (data_table fabric pin)) pin.data_net else []
+
+-- the pad of a switched pin, as a table: what the pin drives it with while it does, else what the outside puts on it
+abbrev pub pad_by_table : ℕ → List Pin → Pin → LutTable
+pad_by_table flips pins pin = record {
+  word = 51914;
+  ins =
+      signal.Input (input_place pins (OutsidePort pin.x pin.y pin.n)) ∷ data_signal flips pins pin ∷ enable_signal flips pins pin ∷ net_or_0 None
+      ∷ [];
+}
+
+abbrev pub pad_table : Fabric → Pin → LutTable
+pad_table fabric pin = pad_by_table (flip_count fabric) fabric.pins pin
+
+-- 14: the inner net of the pad of a switched pin whose pad is read (`SB_IO`)
+abbrev pub pad_drives : Fabric → Pin → List Drive
+pad_drives fabric pin = if has_outside pin then drives_if (driver.Pad pin.x pin.y pin.n) (table_entry (pad_table fabric pin)) pin.pad_net else []
 
 -- ---- all drivers
 
 -- the drivers in their order
 unfoldable pub drives_of : Fabric → List Drive
 drives_of fabric =
-    flat_map pin_drives (numbered (inputs_of fabric))
-    ++ (flat_map (back_drives fabric) (filter (λ pin. pin.back) fabric.pins)
+    flat_map (pin_drives fabric.pins) fabric.pins
+    ++ (flat_map (back_drives fabric) fabric.pins
     ++ (flat_map (lut_drives fabric.lut_inputs) (filter (λ lc. not lc.flip) fabric.lcs)
     ++ (flat_map flip_drives (numbered fabric.registers)
     ++ (flat_map (lout_drives fabric.lut_inputs) fabric.lcs
     ++ (flat_map carry_drives (filter (λ lc. lc.carry) fabric.lcs)
     ++ (flat_map set_drives fabric.sets
     ++ (flat_map ram_drives (numbered fabric.rams)
-    ++ (flat_map (global_drives (inputs_of fabric)) fabric.globals
+    ++ (flat_map (global_drives fabric.pins) fabric.globals
     ++ (flat_map buffer_drives fabric.buffers
-    ++ flat_map pin_register_drives (numbered fabric.registers))))))))))
+    ++ (flat_map input_drives (numbered fabric.registers)
+    ++ (flat_map second_drives (numbered fabric.registers)
+    ++ (flat_map (data_drives fabric) fabric.pins
+    ++ flat_map (pad_drives fabric) fabric.pins))))))))))))
 
 -- whether a driver drives a net of a class of joined nets
 abbrev pub is_driver_of : Fabric → ℕ → Drive → Bool

@@ -1,20 +1,24 @@
 -- A configured fabric: its parts, from a database and an image.
-use Rattle.std.specs.Prelude.{ℕ, suc, Bool, not, List, [], ◌∷◌, ◌++◌, length, map, filter}
+use Rattle.std.specs.Prelude.{ℕ, Bool, false, List, [], ◌∷◌, ◌++◌, length, map, filter}
 use Rattle.ice_image.specs.Configuration.{Configuration}
 use Rattle.chipdb_reader.specs.Database.{Database, Link}
 use Rattle.fabric_model.specs.declared.cell.LogicCell.{LogicCell}
 use Rattle.fabric_model.specs.declared.cell.CarrySet.{CarrySet}
 use Rattle.fabric_model.specs.declared.lut_inputs.LutInputs.{LutInputs}
+use Rattle.fabric_model.specs.declared.options.FabricOptions.{FabricOptions}
+use Rattle.fabric_model.specs.declared.input_port.InputPort.{InputPort}
 use Rattle.fabric_model.specs.declared.lut_inputs.LutInputs.TheVariants as read
 use Rattle.fabric_model.specs.declared.register.Register.{Register}
 use Rattle.fabric_model.specs.declared.ram.RamCell.{RamCell}
 use Rattle.fabric_model.specs.declared.pin.Pin.{Pin}
 use Rattle.fabric_model.specs.declared.pin.GlobalNet.{GlobalNet}
+unfoldable pub use Rattle.fabric_model.specs.Numbered.{numbered_from, numbered}
 use Rattle.fabric_model.specs.On.{is_link_on}
 use Rattle.fabric_model.specs.Cells.{cells_of, sets_of}
 use Rattle.fabric_model.specs.Rams.{rams_of, over_rams, start_words}
-use Rattle.fabric_model.specs.Pins.{pins_of, globals_of}
-use Rattle.fabric_model.specs.Registers.{registers_of, pin_registers_of}
+use Rattle.fabric_model.specs.Pins.{pins_of, net_count, globals_of}
+use Rattle.fabric_model.specs.InputPorts.{inputs_among}
+use Rattle.fabric_model.specs.Registers.{flips_among, registers_of, pin_registers_of}
 
 -- a buffer that is on, by its index among the database's buffers, and its two nets
 pub record Buffer : Type 0 where
@@ -37,17 +41,6 @@ pub record Fabric : Type 0 where
   pub rams : List RamCell
   pub start : List (List (List Bool))
 
--- ---- items with their indexes
-
--- the items of a list with their indexes, counted from a number on
-unfoldable pub numbered_from : {A : Type 0} → ℕ → List A → List (ℕ × A)
-numbered_from place [] = []
-numbered_from place (item ∷ items) = (place, item) ∷ numbered_from (suc place) items
-
--- the items of a list with their indexes
-abbrev pub numbered : {A : Type 0} → List A → List (ℕ × A)
-numbered items = numbered_from 0 items
-
 -- ---- links that are on
 
 -- the two nets of each routing that is on
@@ -63,32 +56,41 @@ buffers_of db image = map buffer_of (filter (λ place. is_link_on image place.1)
 
 -- ---- the whole
 
--- what a database and an image configure, if the LUTs read these inputs
-unfoldable pub fabric_with : LutInputs → Database → Configuration → Fabric
-fabric_with inputs db image = record {
-  nets = db.chip.nets;
+-- what a database and an image configure, with these options
+unfoldable pub fabric_with : FabricOptions → Database → Configuration → Fabric
+fabric_with options db image = record {
+  nets = net_count options.all_pins db image;
   joins = joins_of db image;
   buffers = buffers_of db image;
-  pins = pins_of db image;
+  pins = pins_of options.all_pins db image;
   globals = globals_of db image;
-  lut_inputs = inputs;
+  lut_inputs = options.lut_inputs;
   lcs = cells_of db image;
-  registers = registers_of inputs (cells_of db image) ++ pin_registers_of db image (pins_of db image);
+  registers = registers_of options.lut_inputs (cells_of db image)
+      ++ pin_registers_of (flips_among (cells_of db image)) (pins_of options.all_pins db image);
   sets = sets_of db image;
   rams = rams_of db image;
   start = over_rams db image (λ x y. start_words image x y ∷ []);
 }
 
--- what a database and an image configure, if the LUTs read all of their inputs
+-- the same options, but the LUTs read all of their inputs
+abbrev pub reading_all : FabricOptions → FabricOptions
+reading_all options = record { lut_inputs = read.All; all_pins = options.all_pins }
+
+-- no options: the LUTs read all of their inputs, and not pins of every kind are taken
+abbrev pub no_options : FabricOptions
+no_options = record { lut_inputs = read.All; all_pins = false }
+
+-- what a database and an image configure, without options
 abbrev pub fabric_of : Database → Configuration → Fabric
-fabric_of db image = fabric_with read.All db image
+fabric_of db image = fabric_with no_options db image
 
 -- ---- parts of the parts
 
 -- the number of flip-flops, which come before the registers of pins
 abbrev pub flip_count : Fabric → ℕ
-flip_count fabric = length (filter (λ lc. lc.flip) fabric.lcs)
+flip_count fabric = flips_among fabric.lcs
 
--- the input pins, whose values events give
-abbrev pub inputs_of : Fabric → List Pin
-inputs_of fabric = filter (λ pin. not pin.output) fabric.pins
+-- the input ports, whose values events give
+abbrev pub inputs_of : Fabric → List InputPort
+inputs_of fabric = inputs_among fabric.pins

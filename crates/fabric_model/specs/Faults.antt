@@ -1,19 +1,20 @@
 -- Why a database and an image aren't taken: the first cause that holds, with the first tile, pin, net or user that has it. Each list of
 -- faults is in the order of the tiles, pins, nets or users.
-use Rattle.std.specs.Prelude.{ℕ, List, [], ◌∷◌, flat_map, if◌then◌else◌, Option, Some, None}
+use Rattle.std.specs.Prelude.{ℕ, Bool, List, [], ◌∷◌, flat_map, if◌then◌else◌, Option, Some, None}
 use Rattle.plane_map.specs.declared.device.DeviceName.{DeviceName}
 use Rattle.plane_map.specs.Devices.{is_same_device}
 use Rattle.plane_map.specs.declared.tile.TileKind.TheVariants.{Io}
 use Rattle.ice_image.specs.Configuration.{Configuration}
 use Rattle.chipdb_reader.specs.Database.{Database}
 use Rattle.index_search.specs.Places.{gathered_below, or_else}
-use Rattle.fabric_model.specs.declared.lut_inputs.LutInputs.{LutInputs}
+use Rattle.fabric_model.specs.declared.options.FabricOptions.{FabricOptions}
 use Rattle.fabric_model.specs.declared.driver.Driver.{Driver}
 use Rattle.fabric_model.specs.declared.driver.ClockUser.{ClockUser}
 use Rattle.fabric_model.specs.Tiles.{over_tiles, item_if, first_of}
 use Rattle.fabric_model.specs.Rams.{over_rams, is_cascaded}
-use Rattle.fabric_model.specs.Pins.{over_pins, pintype_of, is_refused_with, has_pll}
-use Rattle.fabric_model.specs.Fabric.{Fabric, fabric_with}
+use Rattle.fabric_model.specs.PinTypes.{pintype_of}
+use Rattle.fabric_model.specs.Pins.{PinPlace, pin_places, pin_with, is_refused_with, is_refused_of_all, has_pll}
+use Rattle.fabric_model.specs.Fabric.{Fabric, numbered, fabric_with}
 use Rattle.fabric_model.specs.Drivers.{Drive, drivers_of}
 use Rattle.graph_order.specs.Wiring.{Wiring, is_on_cycle}
 use Rattle.fabric_model.specs.Wiring.{wiring_of}
@@ -47,13 +48,20 @@ device_faults db image = if is_same_device db.chip.device image.layout.device th
 unfoldable pub pll_faults : Database → Configuration → List Fault
 pll_faults db image = over_tiles image.layout.device Io (λ x y. item_if (has_pll db image x y) (pll x y))
 
-abbrev pub pin_fault_at : Database → Configuration → ℕ → ℕ → ℕ → List Fault
-pin_fault_at db image x y n =
-    let pintype = pintype_of db image x y n in
-    item_if (is_refused_with db image x y n pintype) (pin_mode x y n pintype)
+-- whether a pin, by its number and place, isn't taken, if pins of every kind are or if not
+abbrev pub is_refused_at : Bool → Database → Configuration → ℕ × PinPlace → Bool
+is_refused_at all db image place =
+    let pin = place.1 in
+    if all then is_refused_of_all db image (pin_with all db image place.0 pin.x pin.y pin.n)
+    else is_refused_with db image pin.x pin.y pin.n (pintype_of db image pin.x pin.y pin.n)
 
-unfoldable pub pin_faults : Database → Configuration → List Fault
-pin_faults db image = over_pins db image (pin_fault_at db image)
+abbrev pub pin_fault_at : Bool → Database → Configuration → ℕ × PinPlace → List Fault
+pin_fault_at all db image place =
+    let pin = place.1 in
+    item_if (is_refused_at all db image place) (pin_mode pin.x pin.y pin.n (pintype_of db image pin.x pin.y pin.n))
+
+unfoldable pub pin_faults : Bool → Database → Configuration → List Fault
+pin_faults all db image = flat_map (pin_fault_at all db image) (numbered (pin_places image.layout.device))
 
 -- ---- RAMs
 
@@ -93,8 +101,8 @@ clock_faults device fabric = flat_map (λ user. user_fault fabric user user.net)
 -- ---- the first cause
 
 -- what is wrong with pins: the first cause, with the first tile or pin that has it
-unfoldable pub pins_fault : Database → Configuration → Option Fault
-pins_fault db image = or_else (first_of (pll_faults db image)) (first_of (pin_faults db image))
+unfoldable pub pins_fault : Bool → Database → Configuration → Option Fault
+pins_fault all db image = or_else (first_of (pll_faults db image)) (first_of (pin_faults all db image))
 
 -- what is wrong with RAMs
 unfoldable pub rams_fault : Database → Configuration → Option Fault
@@ -107,10 +115,10 @@ fabric_fault device fabric =
     (or_else (first_of (loop_faults (wiring_of fabric)))
     (first_of (clock_faults device fabric)))
 
--- why a database and an image aren't taken, if the LUTs read these inputs
-unfoldable pub design_fault : LutInputs → Database → Configuration → Option Fault
-design_fault inputs db image =
+-- why a database and an image aren't taken, with these options
+unfoldable pub design_fault : FabricOptions → Database → Configuration → Option Fault
+design_fault options db image =
     or_else (first_of (device_faults db image))
-    (or_else (pins_fault db image)
+    (or_else (pins_fault options.all_pins db image)
     (or_else (rams_fault db image)
-    (fabric_fault image.layout.device (fabric_with inputs db image))))
+    (fabric_fault image.layout.device (fabric_with options db image))))

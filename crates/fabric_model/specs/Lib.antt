@@ -5,11 +5,15 @@ pub mod Tiles
 pub mod Nets
 pub mod Cells
 pub mod Rams
+pub mod Numbered
+pub mod PinTypes
 pub mod Pins
+pub mod InputPorts
 pub mod Joins
 pub mod Luts
 pub mod Signals
 pub mod Registers
+pub mod PinKeys
 pub mod Fabric
 pub mod Drivers
 pub mod Outputs

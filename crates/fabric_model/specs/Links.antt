@@ -1,5 +1,5 @@
 -- What is kept of links and nets, and when it is what a database and an image configure.
-use Rattle.std.specs.Prelude.{◌≡◌, ℕ, Bool, false, List, length, map, filter, slice_index_or}
+use Rattle.std.specs.Prelude.{◌≡◌, ℕ, ◌≤◌, Bool, false, List, length, map, filter, slice_index_or}
 use Rattle.ice_image.specs.Configuration.{Configuration}
 use Rattle.chipdb_reader.specs.Database.{Database, Link}
 use Rattle.fabric_model.specs.On.{is_link_on}
@@ -26,9 +26,10 @@ class_in links net = slice_index_or links.classes net net
 abbrev pub is_read_in : LinkSet → ℕ → Bool
 is_read_in links net = slice_index_or links.reads net false
 
--- what is kept agrees with the rules of a fabric for this database and this image
+-- What is kept agrees with the rules of a fabric for this database and this image. The nets of the database are among those that classes are
+-- kept of; there may be more.
 pub record AreLinks (db : Database) (image : Configuration) (links : LinkSet) : Type 0 where
-  pub nets : length links.classes ≡ db.chip.nets
+  pub nets : db.chip.nets ≤ length links.classes
   pub buffers : links.buffers ≡ places_on image db.buffers
   pub routings : links.routings ≡ places_on image db.routings
   pub classes : (net : ℕ) → class_in links net ≡ class_of (joins_of db image) net

@@ -1,8 +1,7 @@
 -- Pins (`SB_IO`; Project IceStorm, 'IO Tile') and global nets (`SB_GB_IO` and `SB_GB`).
-use Rattle.std.specs.Prelude.{ℕ, ◌/◌, ◌%◌, Bool, true, false, not, ◌&&◌, ◌||◌, List, [], length, map, position, unwrap_or, bytes_eq, codes, ◌==◌, if◌then◌else◌, Option, Some, None, option_map, option_and_then}
+use Rattle.std.specs.Prelude.{ℕ, ◌+◌, ◌*◌, ◌/◌, ◌%◌, Bool, false, not, ◌&&◌, ◌||◌, List, [], length, map, flat_map, bytes_eq, codes, ◌++◌, ◌==◌, if◌then◌else◌, Option, Some, None, option_map, option_and_then}
 use Rattle.std.specs.List.{list_any}
-use Rattle.bit_plane.specs.BitList.{word_of}
-use Rattle.bit_plane.specs.Rows.{row_from}
+use Rattle.plane_map.specs.declared.device.DeviceName.{DeviceName}
 use Rattle.plane_map.specs.declared.tile.TileKind.TheVariants.{Io}
 use Rattle.ice_image.specs.Configuration.{Configuration}
 use Rattle.chipdb_reader.specs.Database.{Database}
@@ -10,24 +9,16 @@ use Rattle.chipdb_reader.specs.Lookups.{input_of, pad_of}
 use Rattle.chipdb_reader.specs.declared.items.PinXy.{PinXy}
 use Rattle.index_search.specs.Places.{any_below, gathered_below}
 use Rattle.fabric_model.specs.declared.pin.Pin.{Pin}
-use Rattle.fabric_model.specs.declared.pin.PinKind.{PinKind}
-use Rattle.fabric_model.specs.declared.pin.PinKind.TheVariants.{Plain, Registered, TriState}
 use Rattle.fabric_model.specs.declared.pin.GlobalNet.{GlobalNet}
 use Rattle.fabric_model.specs.declared.pin.GlobalFrom.{GlobalFrom}
 use Rattle.fabric_model.specs.declared.pin.GlobalFrom.TheVariants.{Pad, Fabout}
 use Rattle.fabric_model.specs.On.{is_function_on, is_any_on, is_extra_on}
-use Rattle.fabric_model.specs.Tiles.{over_tiles, item_if}
+use Rattle.fabric_model.specs.Tiles.{over_tiles, each_below, item_if}
+use Rattle.fabric_model.specs.Numbered.{numbered}
 use Rattle.fabric_model.specs.Nets.{net_named, with_number, ending_in, is_some_read}
+use Rattle.fabric_model.specs.PinTypes.{pintype_of, drive_of, sends_of, takes_of, ever_drives, drives_at_times, takes_pad, is_latched}
 
--- ---- the type of a pin
-
--- bit k of pin n's type is the function `IOB_n.PINTYPE_k`
-abbrev pub pintype_bit : Database → Configuration → ℕ → ℕ → ℕ → ℕ → Bool
-pintype_bit db image x y n k = is_function_on db image Io x y (ending_in (with_number (codes "IOB_") n (codes ".PINTYPE_")) k)
-
--- the type of pin n: the number that its six bits form (`SB_IO`, PIN_TYPE)
-unfoldable pub pintype_of : Database → Configuration → ℕ → ℕ → ℕ → ℕ
-pintype_of db image x y n = word_of (row_from 6 (pintype_bit db image x y n))
+-- ---- types that are taken without the option for pins of every kind
 
 -- the input part is the lowest two bits
 abbrev pub input_part : ℕ → ℕ
@@ -72,25 +63,19 @@ is_registered_input pintype = has_no_output pintype && has_registered_input pint
 abbrev pub is_output_pin : ℕ → Bool
 is_output_pin pintype = has_plain_output pintype || (has_registered_output pintype || has_tri_state_output pintype)
 
--- every input pin and every output pin is a port; `read` says whether the pin's input is read
-abbrev pub is_port : ℕ → Bool → Bool
-is_port pintype read = is_plain_input pintype || ((is_registered_input pintype && read) || is_output_pin pintype)
+-- ---- pads of global networks
 
-abbrev pub is_registered_kind : PinKind → Bool
-is_registered_kind Plain = false
-is_registered_kind Registered = true
-is_registered_kind TriState = false
+-- the pad of global network g, if the image lets a pad drive it: the extra bit `padin_glb_netwk.g` (Project IceStorm, 'IO Tile')
+abbrev pub global_pad : Database → Configuration → ℕ → Option PinXy
+global_pad db image g = if is_extra_on db image (ending_in (codes "padin_glb_netwk.") g) then pad_of g db.global_pins else None
 
-abbrev pub is_tri_state_kind : PinKind → Bool
-is_tri_state_kind Plain = false
-is_tri_state_kind Registered = false
-is_tri_state_kind TriState = true
+abbrev pub is_pin_at : ℕ → ℕ → ℕ → Option PinXy → Bool
+is_pin_at x y n None = false
+is_pin_at x y n (Some pin) = (pin.x == x) && ((pin.y == y) && (pin.n == n))
 
-abbrev pub kind_of : ℕ → PinKind
-kind_of pintype =
-    if has_registered_output pintype || is_registered_input pintype then Registered
-    else if has_tri_state_output pintype then TriState
-    else Plain
+-- whether the pin is the pad of a global network that is driven by its pad, even if the global network has no net
+abbrev pub is_global_pad : Database → Configuration → ℕ → ℕ → ℕ → Bool
+is_global_pad db image x y n = any_below 8 (λ g. is_pin_at x y n (global_pad db image g))
 
 -- ---- pins
 
@@ -98,55 +83,91 @@ kind_of pintype =
 abbrev pub io_net : Database → ℕ → ℕ → ℕ → List ℕ → Option ℕ
 io_net db x y n port = net_named db x y (with_number (codes "io_") n port)
 
+-- the net of a port that the pins of a tile share, such as `io_global/inclk`
+abbrev pub io_shared_net : Database → ℕ → ℕ → List ℕ → Option ℕ
+io_shared_net db x y port = net_named db x y (codes "io_global/" ++ port)
+
 -- whether the input of pin n is read
 abbrev pub is_input_read : Database → Configuration → ℕ → ℕ → ℕ → Bool
 is_input_read db image x y n = is_some_read db image (io_net db x y n (codes "/D_IN_0"))
 
--- pin n of the tile at (x, y), which has that type
-unfoldable pub pin_with : Database → ℕ → ℕ → ℕ → ℕ → Pin
-pin_with db x y n pintype = record {
+-- whether its second input is read
+abbrev pub is_second_read : Database → Configuration → ℕ → ℕ → ℕ → Bool
+is_second_read db image x y n = is_some_read db image (io_net db x y n (codes "/D_IN_1"))
+
+-- Pin n of the tile at (x, y), whose number among all pins is j. If pins of every kind are taken, it has two inner nets after the nets of the
+-- database: one for what it drives its pad with, and one for its pad.
+unfoldable pub pin_with : Bool → Database → Configuration → ℕ → ℕ → ℕ → ℕ → Pin
+pin_with all db image j x y n = record {
   x = x;
   y = y;
   n = n;
-  kind = kind_of pintype;
-  output = is_output_pin pintype;
-  back = (has_plain_output pintype || has_registered_output pintype) && has_plain_input pintype;
-  din = io_net db x y n (codes "/D_IN_0");
-  dout = io_net db x y n (codes "/D_OUT_0");
+  drive = drive_of (pintype_of db image x y n);
+  sends = sends_of (pintype_of db image x y n);
+  takes = takes_of (pintype_of db image x y n);
+  reads_0 = is_input_read db image x y n;
+  reads_1 = is_second_read db image x y n;
+  is_global = is_global_pad db image x y n;
+  neg = is_function_on db image Io x y (codes "NegClk");
+  inclk = io_shared_net db x y (codes "inclk");
+  outclk = io_shared_net db x y (codes "outclk");
+  cen = io_shared_net db x y (codes "cen");
+  din_0 = io_net db x y n (codes "/D_IN_0");
+  din_1 = io_net db x y n (codes "/D_IN_1");
+  dout_0 = io_net db x y n (codes "/D_OUT_0");
+  dout_1 = io_net db x y n (codes "/D_OUT_1");
   enable = io_net db x y n (codes "/OUT_ENB");
+  data_net = if all then Some (db.chip.nets + 2 * j) else None;
+  pad_net = if all then Some (db.chip.nets + 2 * j + 1) else None;
 }
 
--- pin n if it is a port
-abbrev pub port_at : Database → Configuration → ℕ → ℕ → ℕ → List Pin
-port_at db image x y n =
-    let pintype = pintype_of db image x y n in
-    item_if (is_port pintype (is_input_read db image x y n)) (pin_with db x y n pintype)
+abbrev pub drives : Pin → Bool
+drives pin = ever_drives pin.drive
 
--- what pins 0 and 1 of each io tile give, by tile and number
-abbrev pub over_pins : {A : Type 0} → Database → Configuration → (ℕ → ℕ → ℕ → List A) → List A
-over_pins db image given = over_tiles image.layout.device Io (λ x y. gathered_below 2 (given x y))
+abbrev pub is_switched : Pin → Bool
+is_switched pin = drives_at_times pin.drive
+
+-- whether the pad is read: through `io_n/D_IN_0`, through `io_n/D_IN_1`, or by a global network
+abbrev pub is_pad_read : Pin → Bool
+is_pad_read pin = pin.reads_0 || (pin.reads_1 || pin.is_global)
+
+-- a pin that never drives its pad is an input if it takes the pad as it is, or if the pad is read
+abbrev pub has_input : Pin → Bool
+has_input pin = not (drives pin) && (takes_pad pin.takes || is_pad_read pin)
+
+-- a switched pin whose pad is read has the pad's value from outside while it doesn't drive it
+abbrev pub has_outside : Pin → Bool
+has_outside pin = is_switched pin && is_pad_read pin
+
+-- a pin is a port if it ever drives its pad, or is an input
+abbrev pub is_port : Pin → Bool
+is_port pin = drives pin || has_input pin
+
+-- a pin of an io tile
+pub record PinPlace : Type 0 where
+  pub x : ℕ
+  pub y : ℕ
+  pub n : ℕ
+
+-- all pins of io tiles, by tile and number
+unfoldable pub pin_places : DeviceName → List PinPlace
+pin_places device = over_tiles device Io (λ x y. each_below 2 (λ n. record { x = x; y = y; n = n }))
+
+-- a pin, by its number and place, if it is a port
+abbrev pub port_at : Bool → Database → Configuration → ℕ × PinPlace → List Pin
+port_at all db image place =
+    let pin = pin_with all db image place.0 place.1.x place.1.y place.1.n in
+    item_if (is_port pin) pin
 
 -- the pins that are ports, by tile and number
-unfoldable pub pins_of : Database → Configuration → List Pin
-pins_of db image = over_pins db image (port_at db image)
+unfoldable pub pins_of : Bool → Database → Configuration → List Pin
+pins_of all db image = flat_map (port_at all db image) (numbered (pin_places image.layout.device))
 
--- whether a pin has a register
-abbrev pub is_registered : Pin → Bool
-is_registered pin = is_registered_kind pin.kind
-
--- whether a pin is an output that can be switched off
-abbrev pub is_tri_state : Pin → Bool
-is_tri_state pin = pin.output && is_tri_state_kind pin.kind
-
--- the index of pin n of the tile at (x, y) among pins, or the number of pins if it isn't one of them
-abbrev pub place_among : List Pin → ℕ → ℕ → ℕ → ℕ
-place_among pins x y n = unwrap_or (position (λ pin. (pin.x == x) && ((pin.y == y) && (pin.n == n))) pins) (length pins)
+-- the number of nets: those of the database, and two inner nets for each pin if pins of every kind are taken
+abbrev pub net_count : Bool → Database → Configuration → ℕ
+net_count all db image = if all then db.chip.nets + 2 * length (pin_places image.layout.device) else db.chip.nets
 
 -- ---- global networks
-
--- the pad of global network g, if the image lets a pad drive it: the extra bit `padin_glb_netwk.g` (Project IceStorm, 'IO Tile')
-abbrev pub global_pad : Database → Configuration → ℕ → Option PinXy
-global_pad db image g = if is_extra_on db image (ending_in (codes "padin_glb_netwk.") g) then pad_of g db.global_pins else None
 
 -- the net `fabout` of the tile of global network g
 abbrev pub global_fabout : Database → ℕ → Option ℕ
@@ -180,25 +201,26 @@ globals_of db image = gathered_below 8 (λ g. nets_from db g (global_source db i
 
 -- ---- pins that aren't taken
 
-abbrev pub is_pin_at : ℕ → ℕ → ℕ → Option PinXy → Bool
-is_pin_at x y n None = false
-is_pin_at x y n (Some pin) = (pin.x == x) && ((pin.y == y) && (pin.n == n))
-
--- whether the pin is the pad of a global network that is driven by its pad, even if the global network has no net
-abbrev pub is_global_pad : Database → Configuration → ℕ → ℕ → ℕ → Bool
-is_global_pad db image x y n = any_below 8 (λ g. is_pin_at x y n (global_pad db image g))
-
--- Whether pin n, which has that type, isn't taken, for one of these reasons: its output part is none of those above; its input is read, but
--- is neither plain nor the input of a registered input pin; its second input, `D_IN_1`, is read; it is the pad of a global network, but no
--- plain input pin; it is a port of a tile with LVDS; it has a tri-state output and its input is read.
+-- Whether pin n, which has that type, isn't taken without the option for pins of every kind, for one of these reasons: its output part is
+-- none of those above; its input is read, but is neither plain nor the input of a registered input pin; its second input, `D_IN_1`, is read;
+-- it is the pad of a global network, but no plain input pin; it is a port of a tile with LVDS; it has a tri-state output and its input is read.
 unfoldable pub is_refused_with : Database → Configuration → ℕ → ℕ → ℕ → ℕ → Bool
 is_refused_with db image x y n pintype =
     not (has_no_output pintype || is_output_pin pintype)
     || ((is_input_read db image x y n && not (has_plain_input pintype || is_registered_input pintype))
-    || (is_some_read db image (io_net db x y n (codes "/D_IN_1"))
+    || (is_second_read db image x y n
     || ((is_global_pad db image x y n && not (is_plain_input pintype))
-    || ((is_port pintype (is_input_read db image x y n) && is_function_on db image Io x y (codes "IoCtrl.LVDS"))
+    || (((is_plain_input pintype || ((is_registered_input pintype && is_input_read db image x y n) || is_output_pin pintype))
+    && is_function_on db image Io x y (codes "IoCtrl.LVDS"))
     || (has_tri_state_output pintype && is_input_read db image x y n)))))
+
+-- Whether a pin isn't taken with that option, for one of these reasons: `io_n/D_IN_0` is read and a latch may hold it; it is the pad
+-- of a global network and ever drives it; it is a port of a tile with LVDS, and isn't pin 0 as an input, which has the value of the pair.
+abbrev pub is_refused_of_all : Database → Configuration → Pin → Bool
+is_refused_of_all db image pin =
+    (pin.reads_0 && is_latched pin.takes)
+    || ((pin.is_global && drives pin)
+    || (is_function_on db image Io pin.x pin.y (codes "IoCtrl.LVDS") && (is_port pin && not ((pin.n == 0) && not (drives pin)))))
 
 -- whether a function whose name starts with `PLL.` is on in the io tile
 abbrev pub has_pll : Database → Configuration → ℕ → ℕ → Bool

@@ -142,7 +142,7 @@ settled_state fabric bit state = record { bits = settled_bits fabric bit state.b
 
 -- ---- runs
 
--- an event: the input pin with that index gets this bit
+-- an event: the input port with that index gets this bit
 pub record Event : Type 0 where
   pub pin : ℕ
   pub bit : Bool
@@ -154,7 +154,7 @@ pub record Entry : Type 0 where
   pub v : List Bool
   pub outputs : List Bool
 
--- the values of the outputs, from the state, the bits of the input pins and the bits of nets
+-- the values of the outputs, from the state, the bits of the input ports and the bits of nets
 unfoldable pub output_values : Fabric → State → List Bool → List Bool → List Bool
 output_values fabric state pins v = map (λ output. signal_value (is_connected fabric) state pins (bit_in v) output.source) (outputs_of fabric)
 

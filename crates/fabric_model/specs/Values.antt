@@ -34,7 +34,7 @@ input_or_0 connected bit net = input_value connected bit false net
 abbrev pub input_or_1 : (ℕ → Bool) → (ℕ → Bool) → Option ℕ → Bool
 input_or_1 connected bit net = input_value connected bit true net
 
--- the value of what an input reads: of a net, of an input pin, or of a register
+-- the value of what an input reads: of a net, of an input port, or of a register
 abbrev pub signal_value : (ℕ → Bool) → State → List Bool → (ℕ → Bool) → Signal → Bool
 signal_value connected state pins bit (signal.Net net otherwise) = input_value connected bit otherwise net
 signal_value connected state pins bit (signal.Input place) = get_or pins place false
@@ -65,7 +65,7 @@ majority a b c = (a && b) || ((a && c) || (b && c))
 unfoldable pub settled_bit : (ℕ → Bool) → (ℕ → Bool) → Register → Bool → Bool
 settled_bit connected bit register old = if register.is_async && input_or_0 connected bit register.sr then register.«set» else old
 
--- The value of a driver, from the state, the bits of the input pins and the bits of nets.
+-- The value of a driver, from the state, the bits of the input ports and the bits of nets.
 unfoldable pub value_of : (ℕ → Bool) → State → List Bool → (ℕ → Bool) → Rule → Bool
 value_of connected state pins bit (pin_bit place) = get_or pins place false
 value_of connected state pins bit (constant it) = it
@@ -87,7 +87,7 @@ bit_in v net = get_or v net false
 abbrev pub is_connected : Fabric → ℕ → Bool
 is_connected fabric net = is_driven fabric (class_of fabric.joins net)
 
--- A list with one bit for each net is consistent with a state and the bits of the input pins if both ends of every routing have the same
+-- A list with one bit for each net is consistent with a state and the bits of the input ports if both ends of every routing have the same
 -- bit, each net that is driven has its driver's value, and each net whose class of joined nets has no driver is 0.
 pub record IsConsistent (fabric : Fabric) (state : State) (pins v : List Bool) : Type 0 where
   pub each_net : length v ≡ fabric.nets

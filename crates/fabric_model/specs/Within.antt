@@ -1,5 +1,5 @@
 -- What the parts of a fabric name is there: nets are the numbers below their count.
-use Rattle.std.specs.Prelude.{◌≡◌, ℕ, ◌+◌, ◌<◌, ◌≤◌, Bool, false, List, length, map, filter, get_or, All, Option, Some, None}
+use Rattle.std.specs.Prelude.{◌≡◌, ℕ, ◌+◌, ◌<◌, ◌≤◌, Bool, false, List, length, map, get_or, All, Option, Some, None}
 use Rattle.fabric_model.specs.declared.cell.LogicCell.{LogicCell}
 use Rattle.fabric_model.specs.declared.cell.CarrySet.{CarrySet}
 use Rattle.fabric_model.specs.declared.signal.Signal.{Signal}
@@ -10,7 +10,7 @@ use Rattle.fabric_model.specs.declared.pin.Pin.{Pin}
 use Rattle.fabric_model.specs.declared.pin.GlobalNet.{GlobalNet}
 use Rattle.fabric_model.specs.declared.pin.GlobalFrom.{GlobalFrom}
 use Rattle.fabric_model.specs.declared.pin.GlobalFrom.TheVariants.{Pad, Fabout}
-use Rattle.fabric_model.specs.Pins.{is_registered}
+use Rattle.fabric_model.specs.Registers.{pin_keys}
 use Rattle.fabric_model.specs.Fabric.{Fabric, Buffer, flip_count}
 
 -- a net is among the nets, or is missing
@@ -19,9 +19,16 @@ IsNetIn nets None = Unit {0}
 IsNetIn nets (Some net) = net < nets
 
 pub record IsPinIn (nets : ℕ) (pin : Pin) : Type 0 where
-  pub din : IsNetIn nets pin.din
-  pub dout : IsNetIn nets pin.dout
+  pub inclk : IsNetIn nets pin.inclk
+  pub outclk : IsNetIn nets pin.outclk
+  pub cen : IsNetIn nets pin.cen
+  pub din_0 : IsNetIn nets pin.din_0
+  pub din_1 : IsNetIn nets pin.din_1
+  pub dout_0 : IsNetIn nets pin.dout_0
+  pub dout_1 : IsNetIn nets pin.dout_1
   pub enable : IsNetIn nets pin.enable
+  pub data_net : IsNetIn nets pin.data_net
+  pub pad_net : IsNetIn nets pin.pad_net
 
 pub record IsCellIn (nets : ℕ) (lc : LogicCell) : Type 0 where
   pub ins : All (IsNetIn nets) lc.ins
@@ -81,8 +88,8 @@ pub record IsJoinIn (nets : ℕ) (join : ℕ × ℕ) : Type 0 where
 abbrev pub is_async_at : List Register → ℕ → Bool
 is_async_at registers place = get_or (map (λ register. register.is_async) registers) place false
 
--- A fabric is closed if all nets that its parts name are among its nets. After the flip-flops there is a register for each pin that has one,
--- and none of these has an asynchronous set or reset.
+-- A fabric is closed if all nets that its parts name are among its nets. After the flip-flops come the registers of the pins, of which none
+-- has an asynchronous set or reset.
 pub record IsClosed (fabric : Fabric) : Type 0 where
   pub joins : All (IsJoinIn fabric.nets) fabric.joins
   pub buffers : All (IsBufferIn fabric.nets) fabric.buffers
@@ -92,5 +99,5 @@ pub record IsClosed (fabric : Fabric) : Type 0 where
   pub registers : All (IsRegisterIn fabric.nets) fabric.registers
   pub sets : All (IsSetIn fabric.nets) fabric.sets
   pub rams : All (IsRamIn fabric.nets) fabric.rams
-  pub pinned : flip_count fabric + length (filter is_registered fabric.pins) ≡ length fabric.registers
+  pub pinned : flip_count fabric + length (pin_keys fabric.pins) ≡ length fabric.registers
   pub steady : (place : ℕ) → flip_count fabric ≤ place → is_async_at fabric.registers place ≡ false

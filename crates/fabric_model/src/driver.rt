@@ -4,9 +4,9 @@
 /// A `Global` is ordered by `g`, then by net, and a `Link` by `line`.
 #[derive(Clone, Copy, Debug, PartialEq, Eq)]
 pub enum Driver {
-    /// An input pin without a register, on its `io_n/D_IN_0`.
+    /// The pad of a pin that never drives it, on its `io_n/D_IN_0`.
     Pin { x: u8, y: u8, n: u8 },
-    /// The readback of an output pin, on its `io_n/D_IN_0`: the value of the pin or of its register.
+    /// The pad of a pin that drives it, on its `io_n/D_IN_0`.
     Readback { x: u8, y: u8, n: u8 },
     /// The LUT of a cell without a flip-flop, on `lutff_i/out`.
     Lut { x: u8, y: u8, i: u8 },
@@ -24,8 +24,14 @@ pub enum Driver {
     Global { g: u8, net: u32 },
     /// The buffer with that index among the buffers of the database, on its destination.
     Link { line: u32 },
-    /// The register of an input pin, on its `io_n/D_IN_0`.
+    /// The register of a pin, on its `io_n/D_IN_0`.
     PinReg { x: u8, y: u8, n: u8 },
+    /// The second input register of a pin, on its `io_n/D_IN_1`.
+    PinReg1 { x: u8, y: u8, n: u8 },
+    /// What a pin drives its pad with, on its first inner net.
+    Data { x: u8, y: u8, n: u8 },
+    /// The pad of a pin that drives it at times, on its second inner net.
+    Pad { x: u8, y: u8, n: u8 },
 }
 
 /// What uses a clock at a tile.
@@ -33,9 +39,9 @@ pub enum Driver {
 pub enum ClockUser {
     /// The flip-flop of cell `i`.
     Cell { i: u8 },
-    /// The register of input pin `n`.
+    /// A register of the inputs of pin `n`.
     Input { n: u8 },
-    /// The register of output pin `n`.
+    /// A register of the outputs of pin `n`.
     Output { n: u8 },
     /// The read port of a RAM.
     Read,

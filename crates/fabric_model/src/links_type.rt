@@ -28,7 +28,7 @@ impl Model for Links {
 }
 
 impl Links {
-    /// How many nets the database has.
+    /// How many nets there are: those of the database, and inner nets after them.
     pub fn net_count(&self) -> usize
         ensures { result ≡ length self.now.classes }
     {
@@ -49,7 +49,7 @@ impl Links {
         &self.routings
     }
 
-    /// The class of joined nets that a net of the database belongs to, named by its least net.
+    /// The class of joined nets that a net belongs to, named by its least net.
     pub fn class_of(&self, net: u32) -> u32
         requires { net < length self.now.classes }
         ensures { result ≡ class_in self.now net }
@@ -57,7 +57,7 @@ impl Links {
         self.classes[net as usize]
     }
 
-    /// Whether a net of the database is the source of a buffer that is on, or an end of a routing that is on.
+    /// Whether a net is the source of a buffer that is on, or an end of a routing that is on.
     pub fn is_read(&self, net: u32) -> bool
         requires { net < length self.now.classes }
         ensures { result ≡ is_read_in self.now net }

@@ -2,12 +2,12 @@
 ghost use Rattle.std.specs.Prelude.{◌≡◌};
 ghost use Rattle.fabric_model.specs.Signals.{net_or_0, net_or_1};
 
-/// What an input reads: of a LUT, of a register or of an output pin.
+/// What an input reads: of a LUT, of a register or of an output.
 #[derive(Clone, Copy, Debug, PartialEq, Eq)]
 pub enum Signal {
     /// A net. The input has the value `otherwise` if there is no net, or if nothing drives the net.
     Net { net: Option<u32>, otherwise: bool },
-    /// An input pin, by its index among the input pins.
+    /// An input port, by its index among the input ports.
     Input(u32),
     /// A register, by its index among the registers.
     Register(u32),

@@ -1,16 +1,19 @@
 -- Names with other numbers are apart, and names of parts of several kinds begin differently.
-use Rattle.std.proofs.Common.{◌≡◌, ℕ, ◌^◌, ◌<◌, List, [], ◌∷◌, ◌++◌, refl, ap, ◌∙◌, subst, arith, append_assoc}
+use Rattle.std.proofs.Common.{◌≡◌, ℕ, ◌^◌, ◌<◌, List, [], ◌∷◌, ◌++◌, refl, sym, ap, ap₂, ◌∙◌, subst, arith, append_assoc}
 use Rattle.std.specs.Prelude.{Bool, true, false, bytes_eq, codes, decimal, if◌then◌else◌}
 use Rattle.std.specs.Char.{digit_value}
 use Rattle.std.specs.Str.Parse.{AllDigits}
 use Rattle.std.proofs.lemmas.Fmt.{decimal_injective, decimal_is_IsNumeral}
-use Rattle.fabric_model.specs.declared.driver.ClockUser.{ClockUser}
-use Rattle.fabric_model.specs.declared.driver.ClockUser.TheVariants.{Cell, Input, Output, Read, Write}
+use Rattle.fabric_model.specs.declared.input_port.InputPort.{InputPort}
+use Rattle.fabric_model.specs.declared.input_port.InputPort.TheVariants.{Pad, Outside}
+use Rattle.fabric_model.specs.declared.register.PinRegister.TheVariants as kind
+use Rattle.fabric_model.specs.declared.register.RegisterKind.{RegisterKind}
+use Rattle.fabric_model.specs.declared.register.RegisterKind.TheVariants.{FlipFlop, OfPin}
 use Rattle.fabric_model.specs.declared.register.Register.{Register}
 use Rattle.fabric_model.specs.declared.ram.RamCell.{RamCell}
 use Rattle.fabric_model.specs.declared.pin.Pin.{Pin}
 use Rattle.fabric_model.specs.Outputs.{Output as OutputPort}
-use Rattle.fabric_module.specs.Names.{two_numbers, three_numbers, port_name, enable_name, output_name, user_prefix, user_number, register_name, read_name, memory_name, wire_name}
+use Rattle.fabric_module.specs.Names.{two_numbers, three_numbers, pad_name, port_name, enable_name, outside_name, input_port_name, output_name, register_prefix, register_number, register_name, read_name, memory_name, wire_name}
 
 -- ---- numbers in names
 
@@ -56,44 +59,61 @@ three-same x y n a b c of_x of_y of_n of_a of_b of_c same =
     let rest = cut-same (decimal y) (decimal b) (decimal n) (decimal c) (number-digits y of_y) (number-digits b of_b) cut.1 in
     (decimal_injective x a of_x of_a cut.0, decimal_injective y b of_y of_b rest.0, decimal_injective n c of_n of_c rest.1)
 
+joined : (a b c : ℕ) (tail : List ℕ) → (decimal a ++ 95 ∷ (decimal b ++ 95 ∷ decimal c)) ++ 95 ∷ tail ≡ decimal a ++ 95 ∷ (decimal b ++ 95 ∷ (decimal c ++ 95 ∷ tail))
+joined a b c tail =
+    append_assoc (decimal a) (95 ∷ (decimal b ++ 95 ∷ decimal c)) (95 ∷ tail) ∙ ap (λ list. decimal a ++ 95 ∷ list) (append_assoc (decimal b) (95 ∷ decimal c) (95 ∷ tail))
+
 -- a tail after a third number tells three numbers from others
 pub three-tail : (x y n a b c : ℕ) (tail : List ℕ) → IsSmall x → IsSmall y → IsSmall n → IsSmall a → IsSmall b → three_numbers x y n ≡ three_numbers a b c ++ 95 ∷ tail → ⊥
 unfolding three_numbers
 three-tail x y n a b c tail of_x of_y of_n of_a of_b same =
-    let joined : (decimal a ++ 95 ∷ (decimal b ++ 95 ∷ decimal c)) ++ 95 ∷ tail ≡ decimal a ++ 95 ∷ (decimal b ++ 95 ∷ (decimal c ++ 95 ∷ tail)) =
-    append_assoc (decimal a) (95 ∷ (decimal b ++ 95 ∷ decimal c)) (95 ∷ tail)
-    ∙ ap (λ list. decimal a ++ 95 ∷ list) (append_assoc (decimal b) (95 ∷ decimal c) (95 ∷ tail)) in
-    let cut = cut-same (decimal x) (decimal a) (decimal y ++ 95 ∷ decimal n) (decimal b ++ 95 ∷ (decimal c ++ 95 ∷ tail)) (number-digits x of_x) (number-digits a of_a) (same ∙ joined) in
+    let cut = cut-same (decimal x) (decimal a) (decimal y ++ 95 ∷ decimal n) (decimal b ++ 95 ∷ (decimal c ++ 95 ∷ tail)) (number-digits x of_x) (number-digits a of_a) (same ∙ joined a b c tail) in
     let rest = cut-same (decimal y) (decimal b) (decimal n) (decimal c ++ 95 ∷ tail) (number-digits y of_y) (number-digits b of_b) cut.1 in
     no-tail (decimal n) (decimal c) tail (number-digits n of_n) rest.1
 
+-- three numbers are the same if they are so with tails
+pub three-tails : (x y n a b c : ℕ) (tail other : List ℕ) → IsSmall x → IsSmall y → IsSmall n → IsSmall a → IsSmall b → IsSmall c
+    → three_numbers x y n ++ 95 ∷ tail ≡ three_numbers a b c ++ 95 ∷ other → three_numbers x y n ≡ three_numbers a b c
+unfolding three_numbers
+three-tails x y n a b c tail other of_x of_y of_n of_a of_b of_c same =
+    let cut = cut-same (decimal x) (decimal a) (decimal y ++ 95 ∷ (decimal n ++ 95 ∷ tail)) (decimal b ++ 95 ∷ (decimal c ++ 95 ∷ other)) (number-digits x of_x) (number-digits a of_a)
+    (sym (joined x y n tail) ∙ (same ∙ joined a b c other)) in
+    let rest = cut-same (decimal y) (decimal b) (decimal n ++ 95 ∷ tail) (decimal c ++ 95 ∷ other) (number-digits y of_y) (number-digits b of_b) cut.1 in
+    let last = cut-same (decimal n) (decimal c) tail other (number-digits n of_n) (number-digits c of_c) rest.1 in
+    ap₂ (λ first more. first ++ 95 ∷ more) cut.0 (ap₂ (λ first more. first ++ 95 ∷ more) rest.0 last.0)
+
 -- ---- how names begin
 
-by-user : (P : List ℕ → Type 0) → ((rest : List ℕ) → P (codes "ff_" ++ rest)) → ((rest : List ℕ) → P (codes "pi_" ++ rest)) → ((rest : List ℕ) → P (codes "po_" ++ rest))
-    → (user : ClockUser) (rest : List ℕ) → P (user_prefix user ++ rest)
-by-user P of_flip of_input of_output (Cell i) rest = of_flip rest
-by-user P of_flip of_input of_output (Input n) rest = of_input rest
-by-user P of_flip of_input of_output (Output n) rest = of_output rest
-by-user P of_flip of_input of_output Read rest = of_flip rest
-by-user P of_flip of_input of_output Write rest = of_flip rest
+by-kind : (P : List ℕ → Type 0) → ((rest : List ℕ) → P (102 ∷ rest)) → ((rest : List ℕ) → P (112 ∷ rest)) → ((rest : List ℕ) → P (99 ∷ rest))
+    → (register : RegisterKind) (rest : List ℕ) → P (register_prefix register ++ rest)
+by-kind P of_f of_p of_c (FlipFlop i) rest = of_f (102 ∷ 95 ∷ rest)
+by-kind P of_f of_p of_c (OfPin n kind.Input) rest = of_p (105 ∷ 95 ∷ rest)
+by-kind P of_f of_p of_c (OfPin n kind.SecondInput) rest = of_p (106 ∷ 95 ∷ rest)
+by-kind P of_f of_p of_c (OfPin n kind.InputClockEnable) rest = of_c (105 ∷ 95 ∷ rest)
+by-kind P of_f of_p of_c (OfPin n kind.Output) rest = of_p (111 ∷ 95 ∷ rest)
+by-kind P of_f of_p of_c (OfPin n kind.SecondOutput) rest = of_p (113 ∷ 95 ∷ rest)
+by-kind P of_f of_p of_c (OfPin n kind.OutputClockEnable) rest = of_c (111 ∷ 95 ∷ rest)
+by-kind P of_f of_p of_c (OfPin n kind.OutputEnable) rest = of_p (101 ∷ 95 ∷ rest)
 
--- the name of a register begins in one of three ways
-pub register-begins : (P : List ℕ → Type 0) → ((rest : List ℕ) → P (codes "ff_" ++ rest)) → ((rest : List ℕ) → P (codes "pi_" ++ rest)) → ((rest : List ℕ) → P (codes "po_" ++ rest))
+-- the name of a register begins with an f, a p or a c
+pub register-begins : (P : List ℕ → Type 0) → ((rest : List ℕ) → P (102 ∷ rest)) → ((rest : List ℕ) → P (112 ∷ rest)) → ((rest : List ℕ) → P (99 ∷ rest))
     → (register : Register) → P (register_name register)
 unfolding register_name
-register-begins P of_flip of_input of_output register = by-user P of_flip of_input of_output register.user (three_numbers register.x register.y (user_number register.user))
+register-begins P of_f of_p of_c register = by-kind P of_f of_p of_c register.kind (three_numbers register.x register.y (register_number register.kind))
 
+-- the names of ports begin in one way
 by-enable : (P : List ℕ → Type 0) → ((rest : List ℕ) → P (codes "io_" ++ rest)) → (enable : Bool) (pin : Pin) → P (if enable then enable_name pin else port_name pin)
-unfolding port_name enable_name
+unfolding pad_name enable_name
 by-enable P each true pin = each (three_numbers pin.x pin.y pin.n ++ codes "_en")
 by-enable P each false pin = each (three_numbers pin.x pin.y pin.n)
 
--- the names of the ports of pins and of outputs begin in one way
-port-begins : (P : List ℕ → Type 0) → ((rest : List ℕ) → P (codes "io_" ++ rest)) → (pin : Pin) → P (port_name pin)
-port-begins P each pin = by-enable P each false pin
-
-output-begins : (P : List ℕ → Type 0) → ((rest : List ℕ) → P (codes "io_" ++ rest)) → (output : OutputPort) → P (output_name output)
+pub output-begins : (P : List ℕ → Type 0) → ((rest : List ℕ) → P (codes "io_" ++ rest)) → (output : OutputPort) → P (output_name output)
 output-begins P each output = by-enable P each output.enable output.pin
+
+pub input-begins : (P : List ℕ → Type 0) → ((rest : List ℕ) → P (codes "io_" ++ rest)) → (port : InputPort) → P (input_port_name port)
+unfolding pad_name outside_name
+input-begins P each (Pad x y n) = each (three_numbers x y n)
+input-begins P each (Outside x y n) = each (three_numbers x y n ++ codes "_in")
 
 -- a name that begins so is no register's, RAM's or wire's
 pub io-no_register : (rest : List ℕ) (register : Register) → bytes_eq (codes "io_" ++ rest) (register_name register) ≡ false
@@ -127,11 +147,11 @@ pub register-no_memory : (register : Register) (ram : RamCell) → bytes_eq (reg
 unfolding memory_name
 register-no_memory register ram = register-begins (λ name. bytes_eq name (memory_name ram) ≡ false) (λ rest. refl) (λ rest. refl) (λ rest. refl) register
 
-pub port-no_register : (pin : Pin) (register : Register) → bytes_eq (port_name pin) (register_name register) ≡ false
-port-no_register pin register = port-begins (λ name. bytes_eq name (register_name register) ≡ false) (λ rest. io-no_register rest register) pin
+pub input-no_register : (port : InputPort) (register : Register) → bytes_eq (input_port_name port) (register_name register) ≡ false
+input-no_register port register = input-begins (λ name. bytes_eq name (register_name register) ≡ false) (λ rest. io-no_register rest register) port
 
-pub port-no_wire : (pin : Pin) (class : ℕ) → bytes_eq (port_name pin) (wire_name class) ≡ false
-port-no_wire pin class = port-begins (λ name. bytes_eq name (wire_name class) ≡ false) (λ rest. io-no_wire rest class) pin
+pub input-no_wire : (port : InputPort) (class : ℕ) → bytes_eq (input_port_name port) (wire_name class) ≡ false
+input-no_wire port class = input-begins (λ name. bytes_eq name (wire_name class) ≡ false) (λ rest. io-no_wire rest class) port
 
 pub output-no_register : (output : OutputPort) (register : Register) → bytes_eq (output_name output) (register_name register) ≡ false
 output-no_register output register = output-begins (λ name. bytes_eq name (register_name register) ≡ false) (λ rest. io-no_register rest register) output

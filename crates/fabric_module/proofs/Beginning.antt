@@ -21,7 +21,7 @@ use Rattle.fabric_model.specs.Steps.{Entry, start_state, IsFirst}
 use Rattle.graph_order.specs.Wiring.{IsWriteOrder}
 use Rattle.fabric_model.specs.Wiring.{wiring_of}
 use Rattle.fabric_model.proofs.OneValue.{IsWithin}
-use Rattle.fabric_module.specs.Names.{port_name, register_name, read_name, memory_name}
+use Rattle.fabric_module.specs.Names.{input_port_name, register_name, read_name, memory_name}
 use Rattle.fabric_module.specs.Written.{register_item, read_register, ram_memory, start_item, start_items, items_of, module_of}
 use Rattle.fabric_module.specs.Matching.{HasValues, Matches}
 use Rattle.fabric_module.proofs.Lists.{NamesDiffer, map-map, map-numbered, made-names, made-values}
@@ -276,8 +276,8 @@ module _ (fabric : Fabric) (within : IsWithin fabric) (writable : IsWritable fab
   begin-holding : Holding fabric (start_state fabric) (replicate (length (inputs_of fabric)) false)
       (flat_map input_start (ports_of fabric)) (flat_map register_start (items_of fabric order)) (flat_map word_start (items_of fabric order))
   begin-holding = record {
-    input = subst (λ list. HasValues list (map port_name (inputs_of fabric)) (replicate (length (inputs_of fabric)) false)) (sym (inputs-start fabric.pins))
-        (constant-holds port_name false (inputs_of fabric));
+    input = subst (λ list. HasValues list (map input_port_name (inputs_of fabric)) (replicate (length (inputs_of fabric)) false)) (sym (inputs-start fabric.pins))
+        (constant-holds input_port_name false (inputs_of fabric));
     register = subst (λ list. HasValues list (map register_name fabric.registers) (replicate (length fabric.registers) false)) (sym start-registers)
         (constant-holds register_name false fabric.registers);
     word = subst (λ list. HasValues list (map read_name fabric.rams) (map word_of (replicate (length fabric.rams) (replicate 16 false)))) (sym start-words) words-hold;

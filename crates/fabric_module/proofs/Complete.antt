@@ -16,7 +16,7 @@ use Rattle.fabric_model.specs.Outputs.{Output, outputs_of}
 use Rattle.fabric_model.proofs.OneValue.{filter-has}
 use Rattle.fabric_module.specs.Names.{output_name}
 use Rattle.fabric_module.specs.Written.{output_assign}
-use Rattle.fabric_module.proofs.Ports.{ports_of, output_port, outputs-ports}
+use Rattle.fabric_module.proofs.Ports.{ports_of, port_of, outputs-ports}
 
 assigned-both : (first second : List Item) (name : List ℕ) → is_assigned (first ++ second) name ≡ (is_assigned first name || is_assigned second name)
 assigned-both first second name =
@@ -45,7 +45,7 @@ module _ (fabric : Fabric) where
       let items = front ++ (map (output_assign fabric) (outputs_of fabric) ++ back) in
       let assigned : All (λ (port : Port). is_assigned (front ++ (map (output_assign fabric) (outputs_of fabric) ++ back)) port.name ≡ true) (filter (λ port. port.output) (ports_of fabric)) =
       subst (All (λ (port : Port). is_assigned (front ++ (map (output_assign fabric) (outputs_of fabric) ++ back)) port.name ≡ true)) (sym (outputs-ports fabric))
-      (All-map (λ (port : Port). is_assigned (front ++ (map (output_assign fabric) (outputs_of fabric) ++ back)) port.name ≡ true) output_port (outputs_of fabric)
+      (All-map (λ (port : Port). is_assigned (front ++ (map (output_assign fabric) (outputs_of fabric) ++ back)) port.name ≡ true) port_of (outputs_of fabric)
       (All-weaker (λ output. is_assigned (map (output_assign fabric) (outputs_of fabric)) (output_name output) ≡ true) (λ output. is_assigned (front ++ (map (output_assign fabric) (outputs_of fabric) ++ back)) (output_name output) ≡ true)
       (λ output is.
       assigned-behind front (map (output_assign fabric) (outputs_of fabric) ++ back) (output_name output)

@@ -15,8 +15,8 @@ use Rattle.fabric_model.specs.declared.pin.GlobalNet.{GlobalNet}
 use Rattle.fabric_model.specs.declared.register.Register.{Register}
 use Rattle.fabric_model.specs.Rams.{rams_of}
 use Rattle.fabric_model.specs.Outputs.{outputs_of}
-use Rattle.fabric_model.specs.Fabric.{inputs_of, fabric_with, fabric_of}
-use Rattle.fabric_model.specs.declared.lut_inputs.LutInputs.{LutInputs}
+use Rattle.fabric_model.specs.Fabric.{inputs_of, fabric_with, reading_all}
+use Rattle.fabric_model.specs.declared.options.FabricOptions.{FabricOptions}
 use Rattle.fabric_model.specs.Steps.{Event, Entry, IsRun}
 use Rattle.graph_order.specs.Wiring.{IsWriteOrder}
 use Rattle.fabric_model.specs.Wiring.{wiring_of}
@@ -27,7 +27,7 @@ use Rattle.fabric_model.proofs.Taken.{design-taken}
 use Rattle.fabric_model.proofs.Runs.{fabric-placed}
 use Rattle.fabric_model.proofs.Paired.{pairs-give}
 use Rattle.fabric_model.proofs.Alike.{RegistersAlike, register-field, registers-alike, outputs-with, driven-with, run-with}
-use Rattle.fabric_module.specs.Names.{three_numbers, port_name, output_name, user_prefix, user_number, register_name, read_name, memory_name}
+use Rattle.fabric_module.specs.Names.{three_numbers, input_port_name, output_name, register_prefix, register_number, register_name, read_name, memory_name}
 use Rattle.fabric_module.specs.Written.{module_of}
 use Rattle.fabric_module.specs.Matching.{HasValues, HasWires, Matches, module_event}
 use Rattle.fabric_module.proofs.Settled.{IsWritable}
@@ -38,64 +38,64 @@ use Rattle.fabric_module.proofs.Headline.{module-is-fabric}
 use Rattle.fabric_module.proofs.Whole.{module-well_formed}
 use Rattle.fabric_module.proofs.Shapely.{fabric-shapely}
 
-module _ (reads : LutInputs) (db : Database) (image : Configuration) (fit : IsFit db) (few : db.chip.nets ≤ 2 ^ 64) (none : design_fault reads db image ≡ None) where
-  pads : All (λ (global : GlobalNet). IsPadIn (inputs_of (fabric_with reads db image)) global.from) (fabric_with reads db image).globals
+module _ (options : FabricOptions) (db : Database) (image : Configuration) (fit : IsFit db) (few : (fabric_with options db image).nets ≤ 2 ^ 64) (none : design_fault options db image ≡ None) where
+  pads : All (λ (global : GlobalNet). IsPadIn (fabric_with options db image).pins global.from) (fabric_with options db image).globals
   unfolding fabric_with
-  pads = pads-there reads db image fit (design-taken reads db image none)
+  pads = pads-there options db image fit (design-taken options db image none)
 
   -- the fabric can be written
-  pub fabric-writable : IsWritable (fabric_with reads db image)
+  pub fabric-writable : IsWritable (fabric_with options db image)
   unfolding fabric_with
   fabric-writable = record {
     few = few;
-    places = drives-there (fabric_with reads db image) (fabric-in db image fit reads) pads
-        (All-weaker IsPorted (λ ram. length ram.rdata ≡ 16) (λ ram ported. ported.read) (rams_of db image) (fabric-started db image reads).each_port);
-    tables = registers-signals db image reads;
-    ports = ports-apart db image;
-    registers = registers-apart db image reads;
+    places = drives-there (fabric_with options db image) (fabric-in db image fit options) pads
+        (All-weaker IsPorted (λ ram. length ram.rdata ≡ 16) (λ ram ported. ported.read) (rams_of db image) (fabric-started db image options).each_port);
+    tables = registers-signals db image fit options;
+    ports = ports-apart db image options.all_pins;
+    registers = registers-apart db image options;
     reads = rams-apart db image read_name read-places;
     memories = rams-apart db image memory_name memory-places;
   }
 
   -- For each list of events, the fabric's run and the run of the written module match at the start and after each event.
-  with-is-module : (order : List ℕ) → IsWriteOrder (wiring_of (fabric_with reads db image)) order → (name : List ℕ) (events : List Event) (entries : List Entry)
-      → IsRun (fabric_with reads db image) events entries
-      → AllZip (Matches (fabric_with reads db image)) entries (module_run (module_of (fabric_with reads db image) order name) (map module_event events))
+  with-is-module : (order : List ℕ) → IsWriteOrder (wiring_of (fabric_with options db image)) order → (name : List ℕ) (events : List Event) (entries : List Entry)
+      → IsRun (fabric_with options db image) events entries
+      → AllZip (Matches (fabric_with options db image)) entries (module_run (module_of (fabric_with options db image) order name) (map module_event events))
   with-is-module order ordered name =
-      module-is-fabric image.layout.device (fabric_with reads db image) (design-taken reads db image none).fabric (fabric-placed db image reads) (fabric-within db image fit reads)
-      fabric-writable (fabric-started db image reads) order ordered name
+      module-is-fabric image.layout.device (fabric_with options db image) (design-taken options db image none).fabric (fabric-placed db image options) (fabric-within db image fit options)
+      fabric-writable (fabric-started db image options) order ordered name
 
   -- ---- the same of the fabric whose LUTs read all inputs
 
-  same-inputs : map port_name (inputs_of (fabric_with reads db image)) ≡ map port_name (inputs_of (fabric_of db image))
+  same-inputs : map input_port_name (inputs_of (fabric_with options db image)) ≡ map input_port_name (inputs_of (fabric_with (reading_all options) db image))
   unfolding fabric_with
   same-inputs = refl
 
-  same-outputs : map output_name (outputs_of (fabric_with reads db image)) ≡ map output_name (outputs_of (fabric_of db image))
+  same-outputs : map output_name (outputs_of (fabric_with options db image)) ≡ map output_name (outputs_of (fabric_with (reading_all options) db image))
   same-outputs =
-      ap (map output_name) (outputs-with reads db image)
+      ap (map output_name) (outputs-with options db image)
 
   register-named : (one two : Register) → RegistersAlike one two → register_name one ≡ register_name two
   unfolding register_name
-  register-named one two alike = register-field one two alike (λ register. user_prefix register.user ++ three_numbers register.x register.y (user_number register.user)) refl
+  register-named one two alike = register-field one two alike (λ register. register_prefix register.kind ++ three_numbers register.x register.y (register_number register.kind)) refl
 
-  same-registers : map register_name (fabric_with reads db image).registers ≡ map register_name (fabric_of db image).registers
+  same-registers : map register_name (fabric_with options db image).registers ≡ map register_name (fabric_with (reading_all options) db image).registers
   same-registers =
-      pairs-give RegistersAlike register_name register_name register-named (fabric_with reads db image).registers (fabric_of db image).registers (registers-alike reads db image)
+      pairs-give RegistersAlike register_name register_name register-named (fabric_with options db image).registers (fabric_with (reading_all options) db image).registers (registers-alike options db image)
 
-  same-rams : (fabric_with reads db image).rams ≡ (fabric_of db image).rams
+  same-rams : (fabric_with options db image).rams ≡ (fabric_with (reading_all options) db image).rams
   unfolding fabric_with
   same-rams = refl
 
-  wires-all : (v : List Bool) (wires : List (List ℕ × Bool)) → HasWires (fabric_with reads db image) v wires → HasWires (fabric_of db image) v wires
+  wires-all : (v : List Bool) (wires : List (List ℕ × Bool)) → HasWires (fabric_with options db image) v wires → HasWires (fabric_with (reading_all options) db image) v wires
   wires-all v wires has = record {
-    each = λ class driven. has.each class (driven-with reads db image class ∙ driven);
+    each = λ class driven. has.each class (driven-with options db image class ∙ driven);
     only = λ wire there.
         let found = has.only wire there in
-        (found.0, sym (driven-with reads db image found.0) ∙ found.1, found.2, found.3);
+        (found.0, sym (driven-with options db image found.0) ∙ found.1, found.2, found.3);
   }
 
-  matches-all : (entry : Entry) (other : ModuleEntry) → Matches (fabric_with reads db image) entry other → Matches (fabric_of db image) entry other
+  matches-all : (entry : Entry) (other : ModuleEntry) → Matches (fabric_with options db image) entry other → Matches (fabric_with (reading_all options) db image) entry other
   matches-all entry other matches = record {
     inputs = subst (λ names. HasValues other.inputs names entry.pins) same-inputs matches.inputs;
     outputs = subst (λ names. HasValues other.outputs names entry.outputs) same-outputs matches.outputs;
@@ -105,21 +105,21 @@ module _ (reads : LutInputs) (db : Database) (image : Configuration) (fit : IsFi
     wires = wires-all entry.v other.wires matches.wires;
   }
 
-  each-matches : (entries : List Entry) (others : List ModuleEntry) → AllZip (Matches (fabric_with reads db image)) entries others → AllZip (Matches (fabric_of db image)) entries others
+  each-matches : (entries : List Entry) (others : List ModuleEntry) → AllZip (Matches (fabric_with options db image)) entries others → AllZip (Matches (fabric_with (reading_all options) db image)) entries others
   each-matches [] [] match = tt
   each-matches [] (other ∷ others) match = absurd match
   each-matches (entry ∷ entries) [] match = absurd match
   each-matches (entry ∷ entries) (other ∷ others) match = (matches-all entry other match.0, each-matches entries others match.1)
 
-  pub design-is-module : (order : List ℕ) → IsWriteOrder (wiring_of (fabric_with reads db image)) order → (name : List ℕ) (events : List Event) (entries : List Entry)
-      → IsRun (fabric_of db image) events entries
-      → AllZip (Matches (fabric_of db image)) entries (module_run (module_of (fabric_with reads db image) order name) (map module_event events))
+  pub design-is-module : (order : List ℕ) → IsWriteOrder (wiring_of (fabric_with options db image)) order → (name : List ℕ) (events : List Event) (entries : List Entry)
+      → IsRun (fabric_with (reading_all options) db image) events entries
+      → AllZip (Matches (fabric_with (reading_all options) db image)) entries (module_run (module_of (fabric_with options db image) order name) (map module_event events))
   design-is-module order ordered name events entries run =
-      each-matches entries (module_run (module_of (fabric_with reads db image) order name) (map module_event events))
-      (with-is-module order ordered name events entries (run-with reads db image events entries run))
+      each-matches entries (module_run (module_of (fabric_with options db image) order name) (map module_event events))
+      (with-is-module order ordered name events entries (run-with options db image events entries run))
 
   -- The written module is well-formed.
-  pub design-well_formed : (order : List ℕ) → IsWriteOrder (wiring_of (fabric_with reads db image)) order → (name : List ℕ) → IsName name
-      → IsModule (module_of (fabric_with reads db image) order name)
+  pub design-well_formed : (order : List ℕ) → IsWriteOrder (wiring_of (fabric_with options db image)) order → (name : List ℕ) → IsName name
+      → IsModule (module_of (fabric_with options db image) order name)
   design-well_formed order ordered =
-      module-well_formed (fabric_with reads db image) (fabric-within db image fit reads) fabric-writable (fabric-started db image reads) (fabric-shapely db image reads) order ordered
+      module-well_formed (fabric_with options db image) (fabric-within db image fit options) fabric-writable (fabric-started db image options) (fabric-shapely db image options) order ordered

@@ -26,7 +26,7 @@ use Rattle.fabric_model.specs.Faults.{fabric_fault}
 use Rattle.fabric_model.proofs.OneValue.{IsWithin}
 use Rattle.fabric_model.proofs.Within.{All-numbered}
 use Rattle.fabric_model.proofs.Runs.{IsPlaced, IsClocked, clock_bit, register-good, read-good, write-good, entry-one, state-clocked, first-settled, follows-settled}
-use Rattle.fabric_module.specs.Names.{port_name, register_name, read_name, memory_name}
+use Rattle.fabric_module.specs.Names.{input_port_name, register_name, read_name, memory_name}
 use Rattle.fabric_module.specs.Rights.{setting_wire}
 use Rattle.fabric_module.specs.Written.{clock_name, is_falling, register_items, read_item, read_items, write_item, write_items, items_of, module_of}
 use Rattle.fabric_module.specs.Matching.{HasValues, Matches, module_event}
@@ -104,7 +104,7 @@ module _ (device : DeviceName) (fabric : Fabric) (taken : fabric_fault device fa
         sym (length-map before.state.words (map word_of)) ∙ values-count memory_name fabric.rams held.memories (map (map word_of) before.state.words) match.memories
 
     pins-count : length before.pins ≡ length (inputs_of fabric)
-    pins-count = values-count port_name (inputs_of fabric) held.inputs before.pins match.inputs
+    pins-count = values-count input_port_name (inputs_of fabric) held.inputs before.pins match.inputs
 
     -- what the event makes of the state, before it settles
     abbrev next : State
@@ -144,7 +144,7 @@ module _ (device : DeviceName) (fabric : Fabric) (taken : fabric_fault device fa
       unfolding module_of
       ticks inverted clock good = tick device fabric taken placed within writable before event after of_before follows pins-count changes inverted clock good
 
-      inputs-after : HasValues (with_input held.inputs event.pin event.bit) (map port_name (inputs_of fabric)) after.pins
+      inputs-after : HasValues (with_input held.inputs event.pin event.bit) (map input_port_name (inputs_of fabric)) after.pins
       inputs-after = record {
         named = names-input held.inputs event.pin event.bit ∙ match.inputs.named;
         valued = values-input held.inputs event.pin event.bit ∙ (ap (λ values. set values event.pin event.bit) match.inputs.valued ∙ sym follows.pins);

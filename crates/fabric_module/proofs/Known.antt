@@ -18,11 +18,11 @@ use Rattle.fabric_model.specs.Fabric.{Fabric, inputs_of}
 use Rattle.fabric_model.specs.Outputs.{outputs_of}
 use Rattle.graph_order.specs.Wiring.{has}
 use Rattle.graph_order.proofs.OneOrder.{has-none, has-cases}
-use Rattle.fabric_module.specs.Names.{port_name, output_name, register_name, read_name, memory_name, wire_name}
-use Rattle.fabric_module.specs.Written.{port_of}
+use Rattle.fabric_module.specs.Names.{input_port_name, output_name, register_name, read_name, memory_name, wire_name}
+use Rattle.fabric_module.specs.Written.{input_port}
 use Rattle.fabric_module.proofs.Lists.{Apart, value_in-front, value_in-behind, names-absent, map-map, All-pick}
 use Rattle.fabric_module.proofs.Apart.{io-no_register, io-no_read, io-no_memory, io-no_wire, register-no_read, register-no_memory, register-no_wire, read-no_memory}
-use Rattle.fabric_module.proofs.Ports.{ports_of, port_label, output_port, ports-inputs, outputs-ports, All-unmap, ports-absent}
+use Rattle.fabric_module.proofs.Ports.{ports_of, port_label, port_of, ports-inputs, outputs-ports, All-unmap, ports-absent}
 use Rattle.fabric_module.proofs.Settled.{IsWritable}
 use Rattle.fabric_module.proofs.Declared.{AreNamed, StateLeft}
 use Rattle.fabric_module.proofs.Used.{IsThere, Knows, there-more}
@@ -81,7 +81,7 @@ no-name-both first second q of_first of_second =
 
 -- all ports, registers, words and memories of a fabric are declared
 pub record Stands (fabric : Fabric) (scope : Scope) : Type 0 where
-  pub inputs : All (λ pin. IsThere scope (port_name pin) sort.Input) (inputs_of fabric)
+  pub inputs : All (λ port. IsThere scope (input_port_name port) sort.Input) (inputs_of fabric)
   pub outputs : All (λ output. IsThere scope (output_name output) sort.Output) (outputs_of fabric)
   pub registers : All (λ register. IsThere scope (register_name register) sort.Register) fabric.registers
   pub reads : All (λ ram. IsThere scope (read_name ram) sort.Word) fabric.rams
@@ -91,7 +91,7 @@ pub record Stands (fabric : Fabric) (scope : Scope) : Type 0 where
 pub stands-more : (fabric : Fabric) (old new : Scope) (more : List (List ℕ × Sort)) → new.declared ≡ old.declared ++ more → Stands fabric old → Stands fabric new
 stands-more fabric old new more is stands =
     let moved = λ (name : List ℕ) (as_sort : Sort) (there : IsThere old name as_sort). there-more old new more name as_sort is there in record {
-      inputs = All-weaker (λ pin. IsThere old (port_name pin) sort.Input) (λ pin. IsThere new (port_name pin) sort.Input) (λ pin there. moved (port_name pin) sort.Input there) (inputs_of fabric) stands.inputs;
+      inputs = All-weaker (λ port. IsThere old (input_port_name port) sort.Input) (λ port. IsThere new (input_port_name port) sort.Input) (λ port there. moved (input_port_name port) sort.Input there) (inputs_of fabric) stands.inputs;
       outputs = All-weaker (λ output. IsThere old (output_name output) sort.Output) (λ output. IsThere new (output_name output) sort.Output) (λ output there. moved (output_name output) sort.Output there) (outputs_of fabric) stands.outputs;
       registers = All-weaker (λ register. IsThere old (register_name register) sort.Register) (λ register. IsThere new (register_name register) sort.Register) (λ register there. moved (register_name register) sort.Register there) fabric.registers stands.registers;
       reads = All-weaker (λ ram. IsThere old (read_name ram) sort.Word) (λ ram. IsThere new (read_name ram) sort.Word) (λ ram there. moved (read_name ram) sort.Word there) fabric.rams stands.reads;
@@ -101,7 +101,7 @@ stands-more fabric old new more is stands =
 -- so inputs and read registers are known by their places, and registers
 pub stands-knows : (fabric : Fabric) (scope : Scope) (wired : ℕ → Bool) → Stands fabric scope → ((class : ℕ) → wired class ≡ true → IsThere scope (wire_name class) sort.Wire) → Knows fabric scope wired
 stands-knows fabric scope wired stands wires = record {
-  input = λ place there. All-pick port_name (λ n. IsThere scope n sort.Input) (inputs_of fabric) place stands.inputs there;
+  input = λ place there. All-pick input_port_name (λ n. IsThere scope n sort.Input) (inputs_of fabric) place stands.inputs there;
   register = λ register there. All-contains (λ r. IsThere scope (register_name r) sort.Register) fabric.registers register stands.registers there;
   read = λ place there. All-pick read_name (λ n. IsThere scope n sort.Word) fabric.rams place stands.reads there;
   wire = wires;
@@ -200,9 +200,9 @@ module _ (fabric : Fabric) (writable : IsWritable fabric) (named : AreNamed fabr
   -- after the state, all of it is declared
   pub state-stands : Stands fabric scope
   state-stands = record {
-    inputs = All-unmap (λ port. IsThere scope (port_label port) sort.Input) port_of (inputs_of fabric)
+    inputs = All-unmap (λ port. IsThere scope (port_label port) sort.Input) input_port (inputs_of fabric)
         (subst (All (λ port. IsThere scope (port_label port) sort.Input)) (ports-inputs fabric.pins) (sorted-port (λ port. not port.output) sort.Input input-sort));
-    outputs = All-unmap (λ port. IsThere scope (port_label port) sort.Output) output_port (outputs_of fabric)
+    outputs = All-unmap (λ port. IsThere scope (port_label port) sort.Output) port_of (outputs_of fabric)
         (subst (All (λ port. IsThere scope (port_label port) sort.Output)) (outputs-ports fabric) (sorted-port (λ port. port.output) sort.Output output-sort));
     registers = All-both (λ register. IsName (register_name register)) (IsSorted register_name (λ register. sort.Register) scope.declared) (λ register. IsThere scope (register_name register) sort.Register)
         (λ register name found. record { named = name; declared = found }) fabric.registers named.registers register-sorts;

@@ -10,7 +10,7 @@ use Rattle.vlog_module.specs.Maps.{value_in}
 use Rattle.vlog_semantics.specs.Named.{names_of, values_of}
 use Rattle.fabric_model.specs.Fabric.{numbered_from, numbered}
 use Rattle.fabric_model.proofs.Apart.{AreApart}
-use Rattle.fabric_model.proofs.Within.{All-numbered}
+use Rattle.fabric_model.proofs.Within.{All-numbered, places-below}
 use Rattle.fabric_model.proofs.Settling.{numbered-read}
 
 -- ---- names
@@ -42,13 +42,6 @@ named-one name (x ∷ xs) a b apart (suc j, in_a, at_a) (suc k, in_b, at_b) same
 pub flat_map-every : {X A : Type 0} (one two : X → List A) → ((x : X) → one x ≡ two x) → (xs : List X) → flat_map one xs ≡ flat_map two xs
 flat_map-every one two same [] = refl
 flat_map-every one two same (x ∷ xs) = rw (same x, flat_map-every one two same xs) refl
-
-pub places-below : {X : Type 0} (from : ℕ) (xs : List X) → All (λ (place : ℕ × X). place.0 < from + length xs) (numbered_from from xs)
-unfolding numbered_from
-places-below {X} from [] = All-nil (λ (place : ℕ × X). place.0 < from + length {A = X} [])
-places-below {X} from (x ∷ xs) =
-    All-cons (λ (place : ℕ × X). place.0 < from + length (x ∷ xs)) (from, x) (numbered_from (suc from) xs) (omega arith)
-    (All-weaker (λ (place : ℕ × X). place.0 < suc from + length xs) (λ (place : ℕ × X). place.0 < from + length (x ∷ xs)) (λ place found. omega (arith, found)) (numbered_from (suc from) xs) (places-below (suc from) xs))
 
 -- an item with its place is one of the items, its place is one of theirs, and its name stands there
 pub item-there : {X : Type 0} (xs : List X) (place : ℕ × X) → Contains (numbered xs) place → Contains xs place.1

@@ -5,24 +5,29 @@ use Rattle.fabric_model.specs.declared.register.Register.{Register}
 use Rattle.fabric_model.specs.declared.ram.RamCell.{RamCell}
 use Rattle.fabric_model.specs.declared.pin.Pin.{Pin}
 use Rattle.vlog_module.specs.Names.{IsName}
-use Rattle.fabric_module.specs.Names.{two_numbers, three_numbers, port_name, enable_name, user_prefix, user_number, register_name, read_name, memory_name, wire_name}
+use Rattle.fabric_module.specs.Names.{two_numbers, three_numbers, pad_name, enable_name, outside_name, register_prefix, register_number, register_name, read_name, memory_name, wire_name}
 use Rattle.fabric_module.proofs.Apart.{IsSmall}
-use Rattle.fabric_module.proofs.Named.{port-named, enable-named, register-named, read-named, memory-named, wire-named}
+use Rattle.fabric_module.proofs.Named.{pad-named, enable-named, outside-named, register-named, read-named, memory-named, wire-named}
 
-pub port-bytes : (pin : Pin) (bytes : List ℕ) → bytes ≡ codes "io_" ++ three_numbers pin.x pin.y pin.n → IsSmall pin.x → IsSmall pin.y → IsSmall pin.n → IsName bytes
-unfolding port_name
-port-bytes pin bytes is x y n = let named : IsName (codes "io_" ++ three_numbers pin.x pin.y pin.n) = port-named pin x y n in subst IsName (sym is) named
+pub pad-bytes : (x y n : ℕ) (bytes : List ℕ) → bytes ≡ codes "io_" ++ three_numbers x y n → IsSmall x → IsSmall y → IsSmall n → IsName bytes
+unfolding pad_name
+pad-bytes x y n bytes is of_x of_y of_n = let named : IsName (codes "io_" ++ three_numbers x y n) = pad-named x y n of_x of_y of_n in subst IsName (sym is) named
 
 pub enable-bytes : (pin : Pin) (bytes : List ℕ) → bytes ≡ codes "io_" ++ three_numbers pin.x pin.y pin.n ++ codes "_en" → IsSmall pin.x → IsSmall pin.y → IsSmall pin.n → IsName bytes
-unfolding port_name enable_name
+unfolding pad_name enable_name
 enable-bytes pin bytes is x y n =
     let named : IsName (codes "io_" ++ three_numbers pin.x pin.y pin.n ++ codes "_en") = enable-named pin x y n in subst IsName (sym is) named
 
-pub register-bytes : (register : Register) (bytes : List ℕ) → bytes ≡ user_prefix register.user ++ three_numbers register.x register.y (user_number register.user)
-    → IsSmall register.x → IsSmall register.y → IsSmall (user_number register.user) → IsName bytes
+pub outside-bytes : (x y n : ℕ) (bytes : List ℕ) → bytes ≡ codes "io_" ++ three_numbers x y n ++ codes "_in" → IsSmall x → IsSmall y → IsSmall n → IsName bytes
+unfolding pad_name outside_name
+outside-bytes x y n bytes is of_x of_y of_n =
+    let named : IsName (codes "io_" ++ three_numbers x y n ++ codes "_in") = outside-named x y n of_x of_y of_n in subst IsName (sym is) named
+
+pub register-bytes : (register : Register) (bytes : List ℕ) → bytes ≡ register_prefix register.kind ++ three_numbers register.x register.y (register_number register.kind)
+    → IsSmall register.x → IsSmall register.y → IsSmall (register_number register.kind) → IsName bytes
 unfolding register_name
 register-bytes register bytes is x y n =
-    let named : IsName (user_prefix register.user ++ three_numbers register.x register.y (user_number register.user)) = register-named register x y n in subst IsName (sym is) named
+    let named : IsName (register_prefix register.kind ++ three_numbers register.x register.y (register_number register.kind)) = register-named register x y n in subst IsName (sym is) named
 
 pub read-bytes : (ram : RamCell) (bytes : List ℕ) → bytes ≡ codes "rd_" ++ two_numbers ram.x ram.y → IsSmall ram.x → IsSmall ram.y → IsName bytes
 unfolding read_name

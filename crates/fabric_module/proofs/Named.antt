@@ -8,12 +8,13 @@ use Rattle.std.proofs.lemmas.Str.Parse.{tells_digits}
 use Rattle.std.proofs.lemmas.List.Folds.{list_all-append}
 use Rattle.std.proofs.lemmas.List.Elements.{All-head, All-tail}
 use Rattle.vlog_module.specs.Names.{is_name_byte, reserved_words, is_name, IsName}
-use Rattle.fabric_model.specs.declared.driver.ClockUser.{ClockUser}
-use Rattle.fabric_model.specs.declared.driver.ClockUser.TheVariants.{Cell, Input, Output, Read, Write}
+use Rattle.fabric_model.specs.declared.register.PinRegister.TheVariants as kind
+use Rattle.fabric_model.specs.declared.register.RegisterKind.{RegisterKind}
+use Rattle.fabric_model.specs.declared.register.RegisterKind.TheVariants.{FlipFlop, OfPin}
 use Rattle.fabric_model.specs.declared.register.Register.{Register}
 use Rattle.fabric_model.specs.declared.ram.RamCell.{RamCell}
 use Rattle.fabric_model.specs.declared.pin.Pin.{Pin}
-use Rattle.fabric_module.specs.Names.{two_numbers, three_numbers, port_name, enable_name, user_prefix, user_number, register_name, read_name, memory_name, wire_name}
+use Rattle.fabric_module.specs.Names.{two_numbers, three_numbers, pad_name, enable_name, outside_name, register_prefix, register_number, register_name, read_name, memory_name, wire_name}
 use Rattle.fabric_module.proofs.Lists.{Apart}
 use Rattle.fabric_module.proofs.Apart.{IsSmall, number-digits}
 
@@ -50,31 +51,40 @@ name-true true false is away = refl
 name-true true true is away = absurd cc
 name-true false reserved is away = absurd cc
 
-pub port-named : (pin : Pin) → IsSmall pin.x → IsSmall pin.y → IsSmall pin.n → IsName (port_name pin)
-unfolding is_name reserved_words port_name
-port-named pin of_x of_y of_n = name-true (list_all is_name_byte (three_numbers pin.x pin.y pin.n)) false (three-named pin.x pin.y pin.n of_x of_y of_n) refl
+pub pad-named : (x y n : ℕ) → IsSmall x → IsSmall y → IsSmall n → IsName (pad_name x y n)
+unfolding is_name reserved_words pad_name
+pad-named x y n of_x of_y of_n = name-true (list_all is_name_byte (three_numbers x y n)) false (three-named x y n of_x of_y of_n) refl
+
+-- three numbers and a tail
+tail-named : (x y n : ℕ) (tail : List ℕ) → list_all is_name_byte tail ≡ true → IsSmall x → IsSmall y → IsSmall n → list_all is_name_byte (three_numbers x y n ++ tail) ≡ true
+tail-named x y n tail of_tail of_x of_y of_n =
+    list_all-append is_name_byte (three_numbers x y n) tail ∙ and_from (list_all is_name_byte (three_numbers x y n)) (list_all is_name_byte tail) (three-named x y n of_x of_y of_n) of_tail
 
 pub enable-named : (pin : Pin) → IsSmall pin.x → IsSmall pin.y → IsSmall pin.n → IsName (enable_name pin)
-unfolding is_name reserved_words port_name enable_name
+unfolding is_name reserved_words pad_name enable_name
 enable-named pin of_x of_y of_n =
-    name-true (list_all is_name_byte (three_numbers pin.x pin.y pin.n ++ codes "_en")) false
-    (list_all-append is_name_byte (three_numbers pin.x pin.y pin.n) (codes "_en")
-    ∙ and_from (list_all is_name_byte (three_numbers pin.x pin.y pin.n)) true (three-named pin.x pin.y pin.n of_x of_y of_n) refl) refl
+    name-true (list_all is_name_byte (three_numbers pin.x pin.y pin.n ++ codes "_en")) false (tail-named pin.x pin.y pin.n (codes "_en") refl of_x of_y of_n) refl
 
-named-begins : (P : List ℕ → Type 0) → ((rest : List ℕ) → list_all is_name_byte rest ≡ true → P (codes "ff_" ++ rest)) → ((rest : List ℕ) → list_all is_name_byte rest ≡ true → P (codes "pi_" ++ rest))
-    → ((rest : List ℕ) → list_all is_name_byte rest ≡ true → P (codes "po_" ++ rest)) → (user : ClockUser) (rest : List ℕ) → list_all is_name_byte rest ≡ true → P (user_prefix user ++ rest)
-named-begins P of_flip of_input of_output (Cell i) rest = of_flip rest
-named-begins P of_flip of_input of_output (Input n) rest = of_input rest
-named-begins P of_flip of_input of_output (Output n) rest = of_output rest
-named-begins P of_flip of_input of_output Read rest = of_flip rest
-named-begins P of_flip of_input of_output Write rest = of_flip rest
+pub outside-named : (x y n : ℕ) → IsSmall x → IsSmall y → IsSmall n → IsName (outside_name x y n)
+unfolding is_name reserved_words pad_name outside_name
+outside-named x y n of_x of_y of_n =
+    name-true (list_all is_name_byte (three_numbers x y n ++ codes "_in")) false (tail-named x y n (codes "_in") refl of_x of_y of_n) refl
 
-pub register-named : (register : Register) → IsSmall register.x → IsSmall register.y → IsSmall (user_number register.user) → IsName (register_name register)
-unfolding is_name reserved_words register_name
-register-named register of_x of_y of_user =
-    named-begins IsName (λ rest all. name-true (list_all is_name_byte rest) false all refl) (λ rest all. name-true (list_all is_name_byte rest) false all refl)
-    (λ rest all. name-true (list_all is_name_byte rest) false all refl) register.user (three_numbers register.x register.y (user_number register.user))
-    (three-named register.x register.y (user_number register.user) of_x of_y of_user)
+kind-named : (register : RegisterKind) (rest : List ℕ) → list_all is_name_byte rest ≡ true → IsName (register_prefix register ++ rest)
+unfolding is_name reserved_words
+kind-named (FlipFlop i) rest all = name-true (list_all is_name_byte rest) false all refl
+kind-named (OfPin n kind.Input) rest all = name-true (list_all is_name_byte rest) false all refl
+kind-named (OfPin n kind.SecondInput) rest all = name-true (list_all is_name_byte rest) false all refl
+kind-named (OfPin n kind.InputClockEnable) rest all = name-true (list_all is_name_byte rest) false all refl
+kind-named (OfPin n kind.Output) rest all = name-true (list_all is_name_byte rest) false all refl
+kind-named (OfPin n kind.SecondOutput) rest all = name-true (list_all is_name_byte rest) false all refl
+kind-named (OfPin n kind.OutputClockEnable) rest all = name-true (list_all is_name_byte rest) false all refl
+kind-named (OfPin n kind.OutputEnable) rest all = name-true (list_all is_name_byte rest) false all refl
+
+pub register-named : (register : Register) → IsSmall register.x → IsSmall register.y → IsSmall (register_number register.kind) → IsName (register_name register)
+unfolding register_name
+register-named register of_x of_y of_number =
+    kind-named register.kind (three_numbers register.x register.y (register_number register.kind)) (three-named register.x register.y (register_number register.kind) of_x of_y of_number)
 
 pub read-named : (ram : RamCell) → IsSmall ram.x → IsSmall ram.y → IsName (read_name ram)
 unfolding is_name reserved_words read_name

@@ -1,7 +1,7 @@
--- Where a database and an image aren't refused, each pad that drives a global is an input pin.
-use Rattle.std.proofs.Common.{◌≡◌, ℕ, ◌/◌, ◌<◌, ◌≤◌, Bool, true, false, List, [], ◌∷◌, length, refl, ap, subst, arith, inl, inr, eq-eqb}
+-- If a database and an image aren't refused, each pad of a global network is an input port.
+use Rattle.std.proofs.Common.{◌≡◌, ℕ, zero, suc, ◌/◌, ◌%◌, ◌<◌, ◌≤◌, Bool, true, false, List, [], ◌∷◌, length, refl, ap, subst, arith, inl, inr, eq-eqb}
 use Rattle.std.specs.Prelude.{All, Contains, Option, Some, None, not, codes, ◌&&◌, ◌||◌, ◌==◌, find, option_map, if◌then◌else◌}
-use Rattle.std.proofs.lemmas.Bool.{cases_Bool, eqb-true, and_from, or_left}
+use Rattle.std.proofs.lemmas.Bool.{cases_Bool, eqb-true, and_from, or_right}
 use Rattle.std.proofs.lemmas.List.Elements.{All-nil, All-head, All-tail, All-map}
 use Rattle.plane_map.proofs.Grids.{kind_of-inside}
 use Rattle.index_search.proofs.Gathered.{All-gathered_below, Contains-gathered_below}
@@ -18,26 +18,33 @@ use Rattle.chipdb_reader.specs.declared.items.PinXy.{PinXy}
 use Rattle.chipdb_reader.specs.Database.{Database}
 use Rattle.chipdb_reader.specs.Lookups.{pin_of, pad_of}
 use Rattle.chipdb_reader.specs.Fit.{IsFit, IsGlobalPin}
-use Rattle.index_search.specs.Places.{gathered_below}
 use Rattle.index_search.proofs.Places.{any_below-at}
 use Rattle.fabric_model.specs.declared.pin.Pin.{Pin}
 use Rattle.fabric_model.specs.declared.pin.GlobalNet.{GlobalNet}
 use Rattle.fabric_model.specs.declared.pin.GlobalFrom.{GlobalFrom}
 use Rattle.fabric_model.specs.declared.pin.GlobalFrom.TheVariants.{Pad, Fabout}
-use Rattle.fabric_model.specs.Tiles.{over_grid, at_kind}
+use Rattle.fabric_model.specs.Tiles.{each_below, at_kind}
 use Rattle.fabric_model.specs.On.{is_function_on}
-use Rattle.fabric_model.specs.Nets.{is_some_read}
-use Rattle.fabric_model.specs.Pins.{pintype_of, has_no_output, has_tri_state_output, has_plain_input, is_plain_input, is_registered_input, is_output_pin, is_port, is_input_read, place_among, io_net, pin_with, port_at, pins_of, global_pad, global_source, global_fabout, source_of_global, global_nets, nets_from, globals_of, is_pin_at, is_global_pad, is_refused_with}
-use Rattle.fabric_model.specs.Fabric.{inputs_of, fabric_with}
-use Rattle.fabric_model.specs.declared.lut_inputs.LutInputs.{LutInputs}
-use Rattle.fabric_model.specs.Faults.{Fault, device_faults, pin_fault_at, pin_faults}
-use Rattle.fabric_model.proofs.OneValue.{filter-has}
-use Rattle.fabric_model.proofs.Taken.{IsTaken, gathered_below-empty, item_if-none}
+use Rattle.fabric_model.specs.PinTypes.{pintype_of, type_bit, drive_of, ever_drives, takes_pad, is_latched}
+use Rattle.fabric_model.specs.Pins.{PinPlace, pin_places, has_no_output, has_tri_state_output, has_plain_input, is_plain_input, is_registered_input, is_output_pin, is_input_read, is_second_read, drives, is_port, is_pad_read, has_input, pin_with, port_at, pins_of, global_pad, global_source, global_fabout, source_of_global, global_nets, nets_from, globals_of, is_pin_at, is_global_pad, is_refused_with}
+use Rattle.fabric_model.specs.Numbered.{numbered_from, numbered}
+use Rattle.fabric_model.specs.InputPorts.{inputs_among, input_place}
+use Rattle.fabric_model.specs.declared.input_port.InputPort.TheVariants.{Pad as PadPort}
+use Rattle.fabric_model.specs.declared.options.FabricOptions.{FabricOptions}
+use Rattle.fabric_model.specs.Faults.{Fault, device_faults, is_refused_at, pin_fault_at, pin_faults}
+use Rattle.fabric_model.specs.Faults.Fault.{pin_mode}
+use Rattle.fabric_model.proofs.Contained.{contains-flat_map}
+use Rattle.fabric_model.proofs.Taken.{IsTaken}
 use Rattle.fabric_model.proofs.Runs.{contains-over_grid}
-use Rattle.fabric_model.proofs.Signals.{place-found}
+use Rattle.fabric_model.proofs.Signals.{pad-port-there}
 use Rattle.fabric_module.proofs.Configured.{IsPadIn}
 
 -- ---- tests and places
+
+second-none : (a b c : Bool) → (a || (b || c)) ≡ false → b ≡ false
+second-none true b c none = absurd cc
+second-none false true c none = absurd cc
+second-none false false c none = refl
 
 fourth-none : (a b c d e : Bool) → (a || (b || (c || (d || e)))) ≡ false → d ≡ false
 fourth-none true b c d e none = absurd cc
@@ -50,11 +57,24 @@ no-fault : (passes : Bool) (fault : Fault) → (if passes then [] else fault ∷
 no-fault true fault none = refl
 no-fault false fault none = absurd cc
 
--- an input pin is no output pin
-input-only : (pintype : ℕ) → is_plain_input pintype ≡ true → is_output_pin pintype ≡ false
+-- an item has a place among the items
+numbered-has : {X : Type 0} (from : ℕ) (xs : List X) (item : X) → Contains xs item → (place : ℕ) × Contains (numbered_from from xs) (place, item)
+unfolding numbered_from
+numbered-has from [] item (k, within, at) = absurd (omega (arith, within))
+numbered-has {X} from (x ∷ xs) item (zero, within, at) = (from, subst (λ y. Contains ((from, x) ∷ numbered_from (suc from) xs) (from, y)) at (0, omega arith, refl))
+numbered-has {X} from (x ∷ xs) item (suc k, within, at) =
+    let later = numbered-has (suc from) xs item (k, omega (arith, within), at) in
+    (later.0, (suc later.1.0, omega (arith, later.1.1), later.1.2))
+
+-- a plain input pin doesn't drive its pad
+input-only : (pintype : ℕ) → is_plain_input pintype ≡ true → ever_drives (drive_of pintype) ≡ false
 input-only pintype is =
     let none : pintype / 4 ≡ 0 = eqb-true (pintype / 4) 0 (first_true (has_no_output pintype) (has_plain_input pintype) is) in
-    ap (λ n. (n == 6) || ((n == 5) || (n == 10))) none
+    let high : pintype / 32 ≡ 0 = omega (arith, none) in
+    let low : pintype / 16 ≡ 0 = omega (arith, none) in
+    let fifth : type_bit pintype 5 ≡ false = ap (λ n. n % 2 == 1) high in
+    let fourth : type_bit pintype 4 ≡ false = ap (λ n. n % 2 == 1) low in
+    rw (fifth, fourth) refl
 
 -- ---- pads of the database
 
@@ -78,10 +98,38 @@ if-some : {A : Type 0} (passes : Bool) (value : Option A) (item : A) → (if pas
 if-some true value item is = is
 if-some false value item is = absurd cc
 
-module _ (reads : LutInputs) (db : Database) (image : Configuration) (fit : IsFit db) (taken : IsTaken reads db image) where
+module _ (options : FabricOptions) (db : Database) (image : Configuration) (fit : IsFit db) (taken : IsTaken options db image) where
+  abbrev pins : List Pin
+  pins = pins_of options.all_pins db image
+
   devices : db.chip.device ≡ image.layout.device
   unfolding device_faults
   devices = one-device db.chip.device image.layout.device (no-fault (is_same_device db.chip.device image.layout.device) Fault.other_device taken.device)
+
+  -- a pin of a global network that isn't refused never drives its pad
+  never-drives : (all : Bool) (place : ℕ × PinPlace) → is_refused_at all db image place ≡ false → is_global_pad db image place.1.x place.1.y place.1.n ≡ true
+      → drives (pin_with all db image place.0 place.1.x place.1.y place.1.n) ≡ false
+  unfolding pin_with is_refused_with
+  never-drives true place fine global =
+      let pin = pin_with true db image place.0 place.1.x place.1.y place.1.n in
+      let second : (pin.is_global && drives pin) ≡ false =
+      second-none (pin.reads_0 && is_latched pin.takes) (pin.is_global && drives pin)
+      (is_function_on db image Io pin.x pin.y (codes "IoCtrl.LVDS") && (is_port pin && not ((pin.n == 0) && not (drives pin)))) fine in
+      rw global at second
+  never-drives false place fine global =
+      let x = place.1.x in let y = place.1.y in let n = place.1.n in
+      let pintype = pintype_of db image x y n in
+      let read = is_input_read db image x y n in
+      let fourth : (is_global_pad db image x y n && not (is_plain_input pintype)) ≡ false =
+      fourth-none (not (has_no_output pintype || is_output_pin pintype))
+      (read && not (has_plain_input pintype || is_registered_input pintype))
+      (is_second_read db image x y n)
+      (is_global_pad db image x y n && not (is_plain_input pintype))
+      (((is_plain_input pintype || ((is_registered_input pintype && read) || is_output_pin pintype)) && is_function_on db image Io x y (codes "IoCtrl.LVDS")) || (has_tri_state_output pintype && read)) fine in
+      elim (cases_Bool (is_plain_input pintype)) [
+        | inl here ↦ input-only pintype here
+        | inr away ↦ let never : true ≡ false = rw (global, away) at fourth in absurd cc
+      ]
 
   module _ (g : ℕ) (small : g < 8) (pad : PinXy) (is : global_pad db image g ≡ Some pad) where
     pad-is : IsPad db.chip pad
@@ -104,74 +152,79 @@ module _ (reads : LutInputs) (db : Database) (image : Configuration) (fit : IsFi
         (rw is (and_from (pad.x == pad.x) ((pad.y == pad.y) && (pad.n == pad.n)) (eq-eqb pad.x pad.x refl)
         (and_from (pad.y == pad.y) (pad.n == pad.n) (eq-eqb pad.y pad.y refl) (eq-eqb pad.n pad.n refl))))
 
-    -- so it isn't refused
-    pad-fine : is_refused_with db image pad.x pad.y pad.n (pintype_of db image pad.x pad.y pad.n) ≡ false
-    unfolding pin_faults over_grid
-    pad-fine =
-        let row = gathered_below-empty (grid_height image.layout.device) pad.y (λ y. gathered_below (grid_width image.layout.device) (λ x. at_kind image.layout.device Io (λ a b. gathered_below 2 (pin_fault_at db image a b)) x y)) taken.pins pad-in.1 in
-        let tile = gathered_below-empty (grid_width image.layout.device) pad.x (λ x. at_kind image.layout.device Io (λ a b. gathered_below 2 (pin_fault_at db image a b)) x pad.y) row pad-in.0 in
-        let pins : gathered_below 2 (pin_fault_at db image pad.x pad.y) ≡ [] = rw pad-io at tile in
-        item_if-none (is_refused_with db image pad.x pad.y pad.n (pintype_of db image pad.x pad.y pad.n)) _
-        (gathered_below-empty 2 pad.n (pin_fault_at db image pad.x pad.y) pins (omega (arith, pad-is.number)))
+    the_place : PinPlace
+    the_place = record { x = pad.x; y = pad.y; n = pad.n }
 
-    -- and is an input pin
-    pad-input : is_plain_input (pintype_of db image pad.x pad.y pad.n) ≡ true
-    unfolding is_refused_with
-    pad-input =
-        let pintype = pintype_of db image pad.x pad.y pad.n in
-        let read = is_input_read db image pad.x pad.y pad.n in
-        let last : (is_global_pad db image pad.x pad.y pad.n && not (is_plain_input pintype)) ≡ false =
-        fourth-none (not (has_no_output pintype || is_output_pin pintype))
-        (read && not (has_plain_input pintype || is_registered_input pintype))
-        (is_some_read db image (io_net db pad.x pad.y pad.n (codes "/D_IN_1")))
-        (is_global_pad db image pad.x pad.y pad.n && not (is_plain_input pintype))
-        ((is_port pintype read && is_function_on db image Io pad.x pad.y (codes "IoCtrl.LVDS")) || (has_tri_state_output pintype && read)) pad-fine in
-        elim (cases_Bool (is_plain_input pintype)) [
-          | inl here ↦ here
-          | inr away ↦ let never : true ≡ false = rw (pad-global, away) at last in absurd cc
+    place-there : Contains (pin_places image.layout.device) the_place
+    unfolding pin_places the_place
+    place-there =
+        contains-over_grid image.layout.device (at_kind image.layout.device Io (λ x y. each_below 2 (λ n. record { x = x; y = y; n = n }))) pad.x pad.y the_place pad-in.0 pad-in.1
+        (rw pad-io (Contains-gathered_below 2 pad.n (λ n. record { x = pad.x; y = pad.y; n = n } ∷ []) the_place (omega (arith, pad-is.number)) (0, omega arith, refl)))
+
+    numbered-there : (place : ℕ) × Contains (numbered (pin_places image.layout.device)) (place, the_place)
+    numbered-there = numbered-has 0 (pin_places image.layout.device) the_place place-there
+
+    abbrev the_pin : Pin
+    the_pin = pin_with options.all_pins db image numbered-there.0 pad.x pad.y pad.n
+
+    -- so it isn't refused
+    pad-fine : is_refused_at options.all_pins db image (numbered-there.0, the_place) ≡ false
+    unfolding pin_faults
+    pad-fine =
+        elim (cases_Bool (is_refused_at options.all_pins db image (numbered-there.0, the_place))) [
+          | inl here ↦
+              let fault = pin_mode the_place.x the_place.y the_place.n (pintype_of db image the_place.x the_place.y the_place.n) in
+              let found : Contains (pin_fault_at options.all_pins db image (numbered-there.0, the_place)) fault = rw here (0, omega arith, refl) in
+              let among : Contains (pin_faults options.all_pins db image) fault =
+              contains-flat_map (pin_fault_at options.all_pins db image) (numbered (pin_places image.layout.device)) (numbered-there.0, the_place) fault numbered-there.1 found in
+              let never : Contains [] fault = subst (λ faults. Contains faults fault) taken.pins among in
+              absurd (omega (arith, never.1))
+          | inr away ↦ away
         ]
 
-    the_pin : Pin
-    the_pin = pin_with db pad.x pad.y pad.n (pintype_of db image pad.x pad.y pad.n)
+    -- and never drives its pad
+    pad-never : drives the_pin ≡ false
+    unfolding the_place
+    pad-never = never-drives options.all_pins (numbered-there.0, the_place) pad-fine pad-global
 
-    pin-there : Contains (pins_of db image) the_pin
-    unfolding pins_of the_pin
+    pin-global : the_pin.is_global ≡ true
+    unfolding pin_with
+    pin-global = pad-global
+
+    -- so it is an input
+    pin-input : has_input the_pin ≡ true
+    pin-input =
+        and_from (not (drives the_pin)) (takes_pad the_pin.takes || is_pad_read the_pin) (ap not pad-never)
+        (or_right (takes_pad the_pin.takes) (is_pad_read the_pin) (or_right the_pin.reads_0 (the_pin.reads_1 || the_pin.is_global) (or_right the_pin.reads_1 the_pin.is_global pin-global)))
+
+    pin-there : Contains pins the_pin
+    unfolding pins_of the_place
     pin-there =
-        contains-over_grid image.layout.device (at_kind image.layout.device Io (λ x y. gathered_below 2 (port_at db image x y))) pad.x pad.y the_pin pad-in.0 pad-in.1
-        (rw pad-io (Contains-gathered_below 2 pad.n (port_at db image pad.x pad.y) the_pin (omega (arith, pad-is.number))
-        (rw (or_left (is_plain_input (pintype_of db image pad.x pad.y pad.n)) ((is_registered_input (pintype_of db image pad.x pad.y pad.n) && is_input_read db image pad.x pad.y pad.n) || is_output_pin (pintype_of db image pad.x pad.y pad.n)) pad-input)
-        (0, omega arith, refl))))
+        contains-flat_map (port_at options.all_pins db image) (numbered (pin_places image.layout.device)) (numbered-there.0, the_place) the_pin numbered-there.1
+        (rw (or_right (drives the_pin) (has_input the_pin) pin-input) (0, omega arith, refl))
 
-    pin-input : not the_pin.output ≡ true
-    unfolding the_pin pin_with
-    pin-input = rw (input-only (pintype_of db image pad.x pad.y pad.n) pad-input) refl
-
-    pin-among : Contains (inputs_of (fabric_with reads db image)) the_pin
-    unfolding fabric_with
-    pin-among = filter-has (λ pin. not pin.output) (pins_of db image) the_pin pin-there pin-input
-
-    pad-there : place_among (inputs_of (fabric_with reads db image)) pad.x pad.y pad.n < length (inputs_of (fabric_with reads db image))
-    unfolding the_pin pin_with
-    pad-there = place-found (inputs_of (fabric_with reads db image)) the_pin pin-among
+    pad-there : input_place pins (PadPort pad.x pad.y pad.n) < length (inputs_among pins)
+    unfolding pin_with
+    pad-there = pad-port-there pins the_pin pin-there pin-input
 
   -- what gives a global its value
   source-there : (g : ℕ) → g < 8 → (pad : Option PinXy) → global_pad db image g ≡ pad → (fabout : Option ℕ) (from : GlobalFrom)
-      → source_of_global pad fabout ≡ Some from → IsPadIn (inputs_of (fabric_with reads db image)) from
+      → source_of_global pad fabout ≡ Some from → IsPadIn pins from
   source-there g small (Some pad) is fabout from source =
-      let same : Pad pad.x pad.y pad.n ≡ from = cc in subst (IsPadIn (inputs_of (fabric_with reads db image))) same (pad-there g small pad is)
-  source-there g small None is (Some net) from source = let same : Fabout net ≡ from = cc in subst (IsPadIn (inputs_of (fabric_with reads db image))) same tt
+      let same : Pad pad.x pad.y pad.n ≡ from = cc in subst (IsPadIn pins) same (pad-there g small pad is)
+  source-there g small None is (Some net) from source = let same : Fabout net ≡ from = cc in subst (IsPadIn pins) same tt
   source-there g small None is None from source = absurd cc
 
-  nets-there : (g : ℕ) (source : Option GlobalFrom) → ((from : GlobalFrom) → source ≡ Some from → IsPadIn (inputs_of (fabric_with reads db image)) from)
-      → All (λ (global : GlobalNet). IsPadIn (inputs_of (fabric_with reads db image)) global.from) (nets_from db g source)
-  nets-there g None good = All-nil (λ (global : GlobalNet). IsPadIn (inputs_of (fabric_with reads db image)) global.from)
+  nets-there : (g : ℕ) (source : Option GlobalFrom) → ((from : GlobalFrom) → source ≡ Some from → IsPadIn pins from)
+      → All (λ (global : GlobalNet). IsPadIn pins global.from) (nets_from db g source)
+  nets-there g None good = All-nil (λ (global : GlobalNet). IsPadIn pins global.from)
   nets-there g (Some from) good =
-      All-map (λ (global : GlobalNet). IsPadIn (inputs_of (fabric_with reads db image)) global.from) (λ net. record { g = g; net = net; from = from }) (global_nets db g)
+      All-map (λ (global : GlobalNet). IsPadIn pins global.from) (λ net. record { g = g; net = net; from = from }) (global_nets db g)
       (λ k d below. good from refl)
 
-  -- all pads are input pins
-  pub pads-there : All (λ (global : GlobalNet). IsPadIn (inputs_of (fabric_with reads db image)) global.from) (globals_of db image)
+  -- all pads are input ports
+  pub pads-there : All (λ (global : GlobalNet). IsPadIn pins global.from) (globals_of db image)
   unfolding globals_of
   pads-there =
-      All-gathered_below (λ (global : GlobalNet). IsPadIn (inputs_of (fabric_with reads db image)) global.from) 8 (λ g. nets_from db g (global_source db image g))
+      All-gathered_below (λ (global : GlobalNet). IsPadIn pins global.from) 8 (λ g. nets_from db g (global_source db image g))
       (λ g small. nets-there g (global_source db image g) (λ from source. source-there g small (global_pad db image g) refl (global_fabout db g) from source))

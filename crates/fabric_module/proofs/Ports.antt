@@ -1,19 +1,27 @@
 -- The ports of a written module: those that are inputs and those that are outputs, each in their order.
-use Rattle.std.proofs.Common.{◌≡◌, ℕ, true, false, List, [], ◌∷◌, ◌++◌, map, refl, ap, ◌∙◌, subst, inl, inr}
-use Rattle.std.specs.Prelude.{All, filter, flat_map, bytes_eq, codes, not, ◌&&◌}
+use Rattle.std.proofs.Common.{◌≡◌, ℕ, Bool, true, false, List, [], ◌∷◌, ◌++◌, map, refl, sym, ap, ap₂, ◌∙◌, subst, inl, inr}
+use Rattle.std.specs.Prelude.{All, filter, flat_map, bytes_eq, codes, not}
 use Rattle.std.proofs.lemmas.Bool.{cases_Bool}
-use Rattle.std.proofs.lemmas.List.Elements.{All-nil, All-cons, All-head, All-tail, All-map}
+use Rattle.std.proofs.lemmas.List.{map-append, append-nil}
+use Rattle.std.proofs.lemmas.List.Elements.{All-nil, All-cons, All-head, All-tail, All-append, All-map, filter-append}
 use Rattle.vlog_module.specs.declared.modules.Port.{Port}
 use Rattle.vlog_semantics.specs.Run.{input_start, output_start}
 use Rattle.fabric_model.specs.declared.pin.Pin.{Pin}
-use Rattle.fabric_model.specs.Pins.{is_tri_state_kind}
-use Rattle.fabric_model.specs.Fabric.{Fabric}
-use Rattle.fabric_model.specs.Outputs.{Output, pin_outputs, outputs_of}
+use Rattle.fabric_model.specs.declared.pin.PadDrive.{PadDrive}
+use Rattle.fabric_model.specs.declared.pin.PadDrive.TheVariants.{Never, Always, ByNet, ByRegister}
+use Rattle.fabric_model.specs.declared.input_port.InputPort.{InputPort}
+use Rattle.fabric_model.specs.Tiles.{item_if}
+use Rattle.fabric_model.specs.PinTypes.{ever_drives, drives_at_times}
+use Rattle.fabric_model.specs.Pins.{drives, is_switched}
+use Rattle.fabric_model.specs.InputPorts.{pin_inputs, inputs_among}
+use Rattle.fabric_model.specs.Fabric.{Fabric, inputs_of}
+use Rattle.fabric_model.specs.Outputs.{Output, enable_outputs, pin_outputs, outputs_of}
 use Rattle.fabric_model.proofs.Apart.{All-every, apart-filter}
-use Rattle.fabric_model.proofs.Within.{All-flat_map, All-if, All-single}
-use Rattle.fabric_module.specs.Names.{three_numbers, port_name, enable_name, output_name}
-use Rattle.fabric_module.specs.Written.{port_of, enable_ports, pin_ports}
+use Rattle.fabric_model.proofs.Within.{All-flat_map, All-item_if}
+use Rattle.fabric_module.specs.Names.{three_numbers, pad_name, port_name, enable_name, input_port_name, output_name}
+use Rattle.fabric_module.specs.Written.{output_port, input_port, pin_ports}
 use Rattle.fabric_module.proofs.Lists.{NamesDiffer, Apart, map-map}
+use Rattle.fabric_module.proofs.Apart.{input-begins}
 
 -- the ports of a fabric's pins
 abbrev pub ports_of : Fabric → List Port
@@ -23,37 +31,77 @@ abbrev pub port_label : Port → List ℕ
 port_label port = port.name
 
 -- the port of an output
-abbrev pub output_port : Output → Port
-output_port output = record { name = output_name output; output = true }
+abbrev pub port_of : Output → Port
+port_of output = output_port (output_name output)
+
+abbrev is_input : Port → Bool
+is_input port = not port.output
+
+abbrev is_output : Port → Bool
+is_output port = port.output
 
 -- ---- inputs and outputs among them
 
-pub ports-inputs : (pins : List Pin) → filter (λ port. not port.output) (flat_map pin_ports pins) ≡ map port_of (filter (λ pin. not pin.output) pins)
-unfolding port_name
+no-input : (passes : Bool) (name : List ℕ) → filter is_input (item_if passes (output_port name)) ≡ []
+no-input true name = refl
+no-input false name = refl
+
+all-outputs : (passes : Bool) (name : List ℕ) → filter is_output (item_if passes (output_port name)) ≡ item_if passes (output_port name)
+all-outputs true name = refl
+all-outputs false name = refl
+
+all-inputs : (ports : List InputPort) → filter is_input (map input_port ports) ≡ map input_port ports
+all-inputs [] = refl
+all-inputs (port ∷ ports) = ap (λ list. input_port port ∷ list) (all-inputs ports)
+
+no-output : (ports : List InputPort) → filter is_output (map input_port ports) ≡ []
+no-output [] = refl
+no-output (port ∷ ports) = no-output ports
+
+-- the two outputs of a pin, if it has them
+abbrev two_outputs : Pin → List Port
+two_outputs pin = item_if (drives pin) (output_port (port_name pin)) ++ item_if (is_switched pin) (output_port (enable_name pin))
+
+pin-inputs : (pin : Pin) → filter is_input (pin_ports pin) ≡ map input_port (pin_inputs pin)
+pin-inputs pin =
+    let first = item_if (drives pin) (output_port (port_name pin)) in
+    let second = item_if (is_switched pin) (output_port (enable_name pin)) in
+    let last = map input_port (pin_inputs pin) in
+    filter-append is_input first (second ++ last)
+    ∙ (ap₂ (λ one other. one ++ other) (no-input (drives pin) (port_name pin))
+    (filter-append is_input second last ∙ ap₂ (λ one other. one ++ other) (no-input (is_switched pin) (enable_name pin)) (all-inputs (pin_inputs pin))))
+
+pin-both : (pin : Pin) → filter is_output (pin_ports pin) ≡ two_outputs pin
+pin-both pin =
+    let first = item_if (drives pin) (output_port (port_name pin)) in
+    let second = item_if (is_switched pin) (output_port (enable_name pin)) in
+    let last = map input_port (pin_inputs pin) in
+    filter-append is_output first (second ++ last)
+    ∙ ap₂ (λ one other. one ++ other) (all-outputs (drives pin) (port_name pin))
+    (filter-append is_output second last
+    ∙ (ap₂ (λ one other. one ++ other) (all-outputs (is_switched pin) (enable_name pin)) (no-output (pin_inputs pin)) ∙ append-nil second))
+
+pub ports-inputs : (pins : List Pin) → filter is_input (flat_map pin_ports pins) ≡ map input_port (inputs_among pins)
 ports-inputs [] = refl
 ports-inputs (pin ∷ pins) =
-    elim (cases_Bool pin.output) [
-      | inl here ↦ rw here (elim (cases_Bool (is_tri_state_kind pin.kind)) [
-        | inl switched ↦ rw switched (ports-inputs pins)
-        | inr still ↦ rw still (ports-inputs pins)
-      ])
-      | inr away ↦ rw away (ap (λ list. record { name = port_name pin; output = false } ∷ list) (ports-inputs pins))
-    ]
+    filter-append is_input (pin_ports pin) (flat_map pin_ports pins)
+    ∙ (ap₂ (λ one other. one ++ other) (pin-inputs pin) (ports-inputs pins) ∙ sym (map-append input_port (pin_inputs pin) (inputs_among pins)))
 
-pub ports-outputs : (fabric : Fabric) (pins : List Pin)
-    → filter (λ port. port.output) (flat_map pin_ports pins) ≡ map output_port (flat_map (pin_outputs fabric) (filter (λ pin. pin.output) pins))
-unfolding port_name enable_name
+-- the outputs of a pin that drives its pad so
+outputs-by : (fabric : Fabric) (pin : Pin) (rest : List Pin) (so : PadDrive) → pin.drive ≡ so
+    → map port_of (flat_map (pin_outputs fabric) (filter drives (pin ∷ rest))) ≡ two_outputs pin ++ map port_of (flat_map (pin_outputs fabric) (filter drives rest))
+outputs-by fabric pin rest Never is = rw is refl
+outputs-by fabric pin rest Always is = rw is refl
+outputs-by fabric pin rest ByNet is = rw is refl
+outputs-by fabric pin rest ByRegister is = rw is refl
+
+pub ports-outputs : (fabric : Fabric) (pins : List Pin) → filter is_output (flat_map pin_ports pins) ≡ map port_of (flat_map (pin_outputs fabric) (filter drives pins))
 ports-outputs fabric [] = refl
 ports-outputs fabric (pin ∷ pins) =
-    elim (cases_Bool pin.output) [
-      | inl here ↦ rw here (elim (cases_Bool (is_tri_state_kind pin.kind)) [
-        | inl switched ↦ rw switched (ap (λ list. record { name = port_name pin; output = true } ∷ record { name = enable_name pin; output = true } ∷ list) (ports-outputs fabric pins))
-        | inr still ↦ rw still (ap (λ list. record { name = port_name pin; output = true } ∷ list) (ports-outputs fabric pins))
-      ])
-      | inr away ↦ rw away (ports-outputs fabric pins)
-    ]
+    filter-append is_output (pin_ports pin) (flat_map pin_ports pins)
+    ∙ (ap₂ (λ one other. one ++ other) (pin-both pin) (ports-outputs fabric pins) ∙ sym (outputs-by fabric pin pins pin.drive refl))
 
-pub outputs-ports : (fabric : Fabric) → filter (λ port. port.output) (ports_of fabric) ≡ map output_port (outputs_of fabric)
+pub outputs-ports : (fabric : Fabric) → filter is_output (ports_of fabric) ≡ map port_of (outputs_of fabric)
 unfolding outputs_of
 outputs-ports fabric = ports-outputs fabric fabric.pins
 
@@ -68,15 +116,15 @@ apart-unmap name f [] apart = tt
 apart-unmap name f (x ∷ xs) apart = (All-unmap (λ y. bytes_eq (name (f x)) (name y) ≡ false) f xs apart.0, apart-unmap name f xs apart.1)
 
 -- the names of inputs and of outputs are apart
-pub inputs-apart : (pins : List Pin) → Apart port_label (flat_map pin_ports pins) → Apart port_name (filter (λ pin. not pin.output) pins)
+pub inputs-apart : (pins : List Pin) → Apart port_label (flat_map pin_ports pins) → Apart input_port_name (inputs_among pins)
 inputs-apart pins apart =
-    apart-unmap port_label port_of (filter (λ pin. not pin.output) pins)
-    (subst (Apart port_label) (ports-inputs pins) (apart-filter (NamesDiffer port_label) (λ port. not port.output) (flat_map pin_ports pins) apart))
+    apart-unmap port_label input_port (inputs_among pins)
+    (subst (Apart port_label) (ports-inputs pins) (apart-filter (NamesDiffer port_label) is_input (flat_map pin_ports pins) apart))
 
 pub outputs-apart : (fabric : Fabric) → Apart port_label (ports_of fabric) → Apart output_name (outputs_of fabric)
 outputs-apart fabric apart =
-    apart-unmap port_label output_port (outputs_of fabric)
-    (subst (Apart port_label) (outputs-ports fabric) (apart-filter (NamesDiffer port_label) (λ port. port.output) (ports_of fabric) apart))
+    apart-unmap port_label port_of (outputs_of fabric)
+    (subst (Apart port_label) (outputs-ports fabric) (apart-filter (NamesDiffer port_label) is_output (ports_of fabric) apart))
 
 -- ---- what starts
 
@@ -96,28 +144,36 @@ outputs-from (port ∷ ports) =
       | inr away ↦ rw away (outputs-from ports)
     ]
 
-pub inputs-start : (pins : List Pin) → flat_map input_start (flat_map pin_ports pins) ≡ map (λ pin. (port_name pin, false)) (filter (λ pin. not pin.output) pins)
+pub inputs-start : (pins : List Pin) → flat_map input_start (flat_map pin_ports pins) ≡ map (λ port. (input_port_name port, false)) (inputs_among pins)
 inputs-start pins =
     inputs-from (flat_map pin_ports pins)
-    ∙ (ap (map (λ (port : Port). (port.name, false))) (ports-inputs pins) ∙ map-map port_of (λ (port : Port). (port.name, false)) (filter (λ pin. not pin.output) pins))
+    ∙ (ap (map (λ (port : Port). (port.name, false))) (ports-inputs pins) ∙ map-map input_port (λ (port : Port). (port.name, false)) (inputs_among pins))
 
 -- the outputs before they are assigned
 pub outputs-start : (fabric : Fabric) → flat_map output_start (ports_of fabric) ≡ map (λ output. (output_name output, false)) (outputs_of fabric)
 outputs-start fabric =
     outputs-from (ports_of fabric)
-    ∙ (ap (map (λ (port : Port). (port.name, false))) (outputs-ports fabric) ∙ map-map output_port (λ (port : Port). (port.name, false)) (outputs_of fabric))
+    ∙ (ap (map (λ (port : Port). (port.name, false))) (outputs-ports fabric) ∙ map-map port_of (λ (port : Port). (port.name, false)) (outputs_of fabric))
 
 -- ---- names
 
+-- what holds of the names of a pin's outputs and of all input ports holds of the names of its ports
+pub each-port : (P : Port → Type 0) (pin : Pin) → P (output_port (port_name pin)) → P (output_port (enable_name pin)) → All (λ port. P (input_port port)) (pin_inputs pin)
+    → All P (pin_ports pin)
+each-port P pin of_output of_enable of_inputs =
+    All-append P (item_if (drives pin) (output_port (port_name pin))) (item_if (is_switched pin) (output_port (enable_name pin)) ++ map input_port (pin_inputs pin))
+    (All-item_if P (drives pin) (output_port (port_name pin)) of_output)
+    (All-append P (item_if (is_switched pin) (output_port (enable_name pin))) (map input_port (pin_inputs pin))
+    (All-item_if P (is_switched pin) (output_port (enable_name pin)) of_enable) (All-map P input_port (pin_inputs pin) of_inputs))
+
 -- what holds of all names that begin so holds of the names of ports
 pub ports-begin : (P : List ℕ → Type 0) → ((rest : List ℕ) → P (codes "io_" ++ rest)) → (pins : List Pin) → All (λ (port : Port). P port.name) (flat_map pin_ports pins)
-unfolding port_name enable_name
+unfolding pad_name enable_name
 ports-begin P each pins =
     All-flat_map (λ (port : Port). P port.name) pin_ports pins
     (All-every (λ pin. All (λ (port : Port). P port.name) (pin_ports pin))
-    (λ pin. All-cons (λ (port : Port). P port.name) (port_of pin) (enable_ports pin) (each (three_numbers pin.x pin.y pin.n))
-    (All-if (λ (port : Port). P port.name) (pin.output && is_tri_state_kind pin.kind) (record { name = enable_name pin; output = true } ∷ [])
-    (All-single (λ (port : Port). P port.name) (record { name = enable_name pin; output = true }) (each (three_numbers pin.x pin.y pin.n ++ codes "_en"))))) pins)
+    (λ pin. each-port (λ port. P port.name) pin (each (three_numbers pin.x pin.y pin.n)) (each (three_numbers pin.x pin.y pin.n ++ codes "_en"))
+    (All-every (λ port. P (input_port_name port)) (input-begins P each) (pin_inputs pin))) pins)
 
 -- so a name that begins otherwise is none of them
 pub ports-absent : (pins : List Pin) (q : List ℕ) → ((rest : List ℕ) → bytes_eq (codes "io_" ++ rest) q ≡ false) → All (λ n. bytes_eq n q ≡ false) (map port_label (flat_map pin_ports pins))

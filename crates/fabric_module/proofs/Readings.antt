@@ -8,15 +8,15 @@ use Rattle.vlog_module.specs.Uses.{Use, right_uses}
 use Rattle.vlog_module.specs.WellFormed.{Reading, read_by, is_unless, is_read_unless, wire_readings}
 use Rattle.vlog_module.specs.WellFormed.Reading.{plainly, unless}
 use Rattle.fabric_model.specs.declared.register.Register.{Register}
-use Rattle.fabric_model.specs.declared.pin.Pin.{Pin}
+use Rattle.fabric_model.specs.declared.input_port.InputPort.{InputPort}
 use Rattle.fabric_model.specs.Fabric.{Fabric, inputs_of}
 use Rattle.fabric_model.specs.Drivers.{Drive, drives_of, is_driver_of, drivers_of, is_driven}
 use Rattle.fabric_model.proofs.Within.{All-flat_map, All-single}
-use Rattle.fabric_module.specs.Names.{port_name, register_name, wire_name}
+use Rattle.fabric_module.specs.Names.{input_port_name, register_name, wire_name}
 use Rattle.fabric_module.specs.Rights.{input_name, setting_wire, right_by, class_right}
 use Rattle.fabric_module.specs.Written.{class_wire}
 use Rattle.fabric_module.proofs.Lists.{named-one}
-use Rattle.fabric_module.proofs.Apart.{register-begins, port-no_register, wire-no_register}
+use Rattle.fabric_module.proofs.Apart.{register-begins, input-no_register, wire-no_register}
 use Rattle.fabric_module.proofs.Settled.{IsWritable}
 use Rattle.fabric_module.proofs.Used.{Allows, right-fine}
 
@@ -36,10 +36,10 @@ read-unless fabric (one ∷ readings) all register wire there is =
     and_from (not (bytes_eq one.0 (register_name register)) || is_unless wire register.«set» one.1) (is_read_unless readings wire register.«set» (register_name register))
     (All-head (IsReadWell fabric) one readings all register wire there is) (read-unless fabric readings (All-tail (IsReadWell fabric) one readings all) register wire there is)
 
-input-no_register : (pins : List Pin) (place : ℕ) (register : Register) → bytes_eq (get_or (map port_name pins) place []) (register_name register) ≡ false
-input-no_register [] place register = register-begins (λ name. bytes_eq [] name ≡ false) (λ rest. refl) (λ rest. refl) (λ rest. refl) register
-input-no_register (pin ∷ pins) zero register = port-no_register pin register
-input-no_register (pin ∷ pins) (suc place) register = input-no_register pins place register
+name-no_register : (ports : List InputPort) (place : ℕ) (register : Register) → bytes_eq (get_or (map input_port_name ports) place []) (register_name register) ≡ false
+name-no_register [] place register = register-begins (λ name. bytes_eq [] name ≡ false) (λ rest. refl) (λ rest. refl) (λ rest. refl) register
+name-no_register (port ∷ ports) zero register = input-no_register port register
+name-no_register (port ∷ ports) (suc place) register = name-no_register ports place register
 
 itself : (wire : List ℕ) (set : Bool) → is_unless wire set (unless wire set) ≡ true
 itself wire true = and_from (bytes_eq wire wire) true (bytes_eq-same wire wire refl) refl
@@ -78,7 +78,7 @@ module _ (fabric : Fabric) (writable : IsWritable fabric) where
 
   reads-well : Allows fabric (is_driven fabric) (IsUsedWell fabric)
   reads-well = record {
-    input = λ place within. All-single (IsReadWell fabric) (input_name fabric place, plainly) (other-well (input_name fabric place) plainly (input-no_register (inputs_of fabric) place));
+    input = λ place within. All-single (IsReadWell fabric) (input_name fabric place, plainly) (other-well (input_name fabric place) plainly (name-no_register (inputs_of fabric) place));
     wire = λ class driven. All-single (IsReadWell fabric) (wire_name class, plainly) (other-well (wire_name class) plainly (wire-no_register class));
     register = λ register there none. All-single (IsReadWell fabric) (register_name register, plainly) (plain-well register there none);
     read = λ ram bit within few. All-nil (IsReadWell fabric);

@@ -33,14 +33,14 @@ use Rattle.fabric_model.proofs.Facts.{has-left, has-right}
 use Rattle.fabric_model.proofs.Signals.{IsSignalThere, HasSignals}
 use Rattle.fabric_model.proofs.Settling.{outputs-have, consistent-unsettled}
 use Rattle.fabric_model.proofs.OneValue.{IsWithin, driven-is, count-is, driven-below}
-use Rattle.fabric_module.specs.Names.{port_name, output_name, register_name, read_name, memory_name, wire_name}
+use Rattle.fabric_module.specs.Names.{input_port_name, output_name, register_name, read_name, memory_name, wire_name}
 use Rattle.fabric_module.specs.Rights.{signal_atom, input_name, read_at, setting_wire, class_right}
 use Rattle.fabric_module.specs.Written.{class_wire, output_assign, items_by, register_items, items_of, module_of}
 use Rattle.fabric_module.specs.Matching.{HasValues, HasWires, Matches}
 use Rattle.fabric_module.proofs.Lists.{NamesDiffer, Apart, flat_map-numbered, entries-are, made-names, made-values, place-there, name-there, value_in-front, value_in-behind, value_in-at, names-absent, map-map}
 use Rattle.fabric_module.proofs.Sections.{Skips, fold-section, wires-section, assigns-section, flips-section}
 use Rattle.fabric_module.proofs.Fills.{FillsOwn, filled}
-use Rattle.fabric_module.proofs.Apart.{port-no_register, port-no_wire, register-no_wire}
+use Rattle.fabric_module.proofs.Apart.{input-no_register, input-no_wire, register-no_wire}
 use Rattle.fabric_module.proofs.Ports.{ports_of, port_label, inputs-apart, outputs-apart, outputs-start}
 use Rattle.fabric_module.proofs.Rights.{IsPlaceIn, Gives, signal-value, unless_set, unless-settles, class-written}
 
@@ -89,7 +89,7 @@ wires-value v (first ∷ front) class small low listed =
 
 -- inputs, registers and words that hold the pins and the state
 pub record Holding (fabric : Fabric) (state : State) (pins : List Bool) (inputs registers : List (List ℕ × Bool)) (words : List (List ℕ × ℕ)) : Type 0 where
-  pub input : HasValues inputs (map port_name (inputs_of fabric)) pins
+  pub input : HasValues inputs (map input_port_name (inputs_of fabric)) pins
   pub register : HasValues registers (map register_name fabric.registers) state.bits
   pub word : HasValues words (map read_name fabric.rams) (map word_of state.reads)
 
@@ -206,7 +206,7 @@ module _ (fabric : Fabric) (within : IsWithin fabric) (writable : IsWritable fab
     (inputs registers : List (List ℕ × Bool)) (words : List (List ℕ × ℕ)) (holding : Holding fabric state pins inputs registers words) where
   pin-there : (place : ℕ) → place < length (inputs_of fabric) → value_in inputs (input_name fabric place) ≡ Some (get_or pins place false)
   pin-there place there =
-      value_in-at port_name false (inputs_of fabric) inputs place (inputs-apart fabric.pins writable.ports) holding.input.named there
+      value_in-at input_port_name false (inputs_of fabric) inputs place (inputs-apart fabric.pins writable.ports) holding.input.named there
       ∙ ap (λ values. Some (get_or values place false)) holding.input.valued
 
   register-there : (place : ℕ) (register : Register) → Contains (numbered fabric.registers) (place, register) → value_in registers (register_name register) ≡ Some (get_or state.bits place false)
@@ -222,14 +222,14 @@ module _ (fabric : Fabric) (within : IsWithin fabric) (writable : IsWritable fab
 
   -- no input has the name of a register
   inputs-no_register : (register : Register) → All (λ name. bytes_eq name (register_name register) ≡ false) (names_of inputs)
-  inputs-no_register register = rw holding.input.named (names-absent port_name (inputs_of fabric) (register_name register) (λ pin. port-no_register pin register))
+  inputs-no_register register = rw holding.input.named (names-absent input_port_name (inputs_of fabric) (register_name register) (λ port. input-no_register port register))
 
   -- no input or register has the name of a wire
   known-no_wire : (class : ℕ) → All (λ name. bytes_eq name (wire_name class) ≡ false) (names_of (inputs ++ registers))
   known-no_wire class =
       rw (map-append (λ (entry : List ℕ × Bool). entry.0) inputs registers, holding.input.named, holding.register.named)
-      (All-append (λ name. bytes_eq name (wire_name class) ≡ false) (map port_name (inputs_of fabric)) (map register_name fabric.registers)
-      (names-absent port_name (inputs_of fabric) (wire_name class) (λ pin. port-no_wire pin class))
+      (All-append (λ name. bytes_eq name (wire_name class) ≡ false) (map input_port_name (inputs_of fabric)) (map register_name fabric.registers)
+      (names-absent input_port_name (inputs_of fabric) (wire_name class) (λ port. input-no_wire port class))
       (names-absent register_name fabric.registers (wire_name class) (λ register. register-no_wire register class)))
 
   -- with wires that have the values of some classes

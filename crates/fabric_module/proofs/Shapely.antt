@@ -1,6 +1,6 @@
 -- What a database and an image configure has names that are names, and tables and start words of 16 bits.
 use Rattle.std.proofs.Common.{◌≡◌, ℕ, zero, suc, ◌-◌, ◌^◌, ◌<◌, Bool, true, false, List, [], ◌∷◌, ◌++◌, length, map, get_or, refl, subst, arith}
-use Rattle.std.specs.Prelude.{All, Option, Some, None, not, filter, flat_map, if◌then◌else◌}
+use Rattle.std.specs.Prelude.{All, Option, Some, None, not, ◌&&◌, filter, flat_map, if◌then◌else◌}
 use Rattle.std.proofs.lemmas.List.{length-map}
 use Rattle.std.proofs.lemmas.List.Elements.{All-nil, All-head, All-tail, All-append, All-map, All-weaker, All-filter}
 use Rattle.index_search.proofs.Gathered.{All-gathered_below}
@@ -16,11 +16,17 @@ use Rattle.vlog_module.specs.Names.{IsName}
 use Rattle.vlog_module.specs.WellFormed.{IsRight}
 use Rattle.fabric_model.specs.declared.cell.LogicCell.{LogicCell}
 use Rattle.fabric_model.specs.declared.lut_inputs.LutInputs.{LutInputs}
+use Rattle.fabric_model.specs.declared.options.FabricOptions.{FabricOptions}
 use Rattle.fabric_model.specs.declared.register.LutTable.{LutTable}
 use Rattle.fabric_model.specs.declared.register.Register.{Register}
 use Rattle.fabric_model.specs.declared.signal.Signal.{Signal}
-use Rattle.fabric_model.specs.Registers.{table_of, register_of, registers_of, pin_register, pin_registers_of}
-use Rattle.fabric_model.specs.declared.driver.ClockUser.TheVariants.{Input, Output}
+use Rattle.fabric_model.specs.declared.register.PinRegister.{PinRegister}
+use Rattle.fabric_model.specs.Registers.{table_of, register_of, registers_of, flips_among, registers_in, pin_register, pin_registers_of}
+use Rattle.fabric_model.specs.declared.pin.PadData.{PadData}
+use Rattle.fabric_model.specs.declared.pin.PadData.TheVariants as sends
+use Rattle.fabric_model.specs.PinTypes.{has_table, takes_pad}
+use Rattle.fabric_model.specs.InputPorts.{input_place}
+use Rattle.fabric_model.specs.declared.input_port.InputPort.TheVariants.{Pad as PadPort}
 use Rattle.fabric_model.specs.declared.ram.RamCell.{RamCell}
 use Rattle.fabric_model.specs.declared.pin.Pin.{Pin}
 use Rattle.fabric_model.specs.declared.pin.GlobalFrom.{GlobalFrom}
@@ -28,19 +34,18 @@ use Rattle.fabric_model.specs.declared.pin.GlobalFrom.TheVariants.{Pad, Fabout}
 use Rattle.fabric_model.specs.declared.driver.Driver.{Driver}
 use Rattle.fabric_model.specs.Cells.{cell_bit, entry_bits, cell_bits, cell_with, used_cell, cells_at, cells_of}
 use Rattle.fabric_model.specs.Rams.{first_data_bit, is_ram_used, ram_at, rams_of, start_word, start_words}
-use Rattle.fabric_model.specs.Pins.{pins_of, is_registered}
-use Rattle.fabric_model.specs.Fabric.{Fabric, numbered, inputs_of, fabric_with}
-use Rattle.fabric_model.specs.Drivers.{Rule, Drive, drives_if, pin_drives, output_signal, back_drives, lut_drives, drives_by, flip_driver, flip_drives, lout_drives, carry_drives, set_drives, read_data_rule, ram_drive, ram_drives, global_rule, global_drives, buffer_drives, pin_register_driver, pin_register_drives, drives_of, is_driver_of, drivers_of}
+use Rattle.fabric_model.specs.Pins.{drives, has_outside, pins_of}
+use Rattle.fabric_model.specs.Fabric.{Fabric, numbered, flip_count, fabric_with}
+use Rattle.fabric_model.specs.Drivers.{Rule, Drive, drives_if, pad_of, pin_drives, is_read_back, back_drives, lut_drives, drives_by, flip_driver, flip_drives, lout_drives, carry_drives, set_drives, read_data_rule, ram_drive, ram_drives, global_rule, global_drives, buffer_drives, input_driver, input_drives, second_driver, second_drives, data_by_table, data_table, data_drives, pad_table, pad_drives, drives_of, is_driver_of, drivers_of}
 use Rattle.fabric_model.specs.Drivers.Rule.{pin_bit, constant, input, table_entry, majority_of, register_bit, read_bit, copied}
-use Rattle.fabric_model.proofs.Within.{All-flat_map, All-item_if, All-if, All-unless, All-single, All-over_tiles}
+use Rattle.fabric_model.proofs.Within.{All-flat_map, All-item_if, All-if, All-single, All-over_tiles}
 use Rattle.fabric_model.proofs.Apart.{All-every}
-use Rattle.fabric_module.specs.Names.{user_number, register_name, read_name, memory_name}
+use Rattle.fabric_module.specs.Names.{register_number, register_name, read_name, memory_name}
 use Rattle.fabric_module.specs.Rights.{atom_or_0, signal_atom, setting_wire, register_right, right_alone, right_of, right_by, class_right}
 use Rattle.fabric_module.specs.Written.{pin_ports}
-use Rattle.fabric_module.proofs.Apart.{IsSmall}
 use Rattle.fabric_module.proofs.Ports.{port_label}
-use Rattle.fabric_module.proofs.Configured.{PinSmall, CellSmall, RamSmall, each-port, pins-small, cell-at, ram-placed}
-use Rattle.fabric_module.proofs.Named.{port-named, enable-named, register-named, read-named, memory-named}
+use Rattle.fabric_module.proofs.Configured.{PinSmall, CellSmall, RamSmall, each-name, pins-small, cell-at, ram-placed}
+use Rattle.fabric_module.proofs.Named.{pad-named, enable-named, outside-named, register-named, read-named, memory-named}
 use Rattle.fabric_module.proofs.Declared.{AreNamed}
 use Rattle.fabric_module.proofs.Whole.{IsShapely}
 
@@ -123,20 +128,44 @@ module _ (fabric : Fabric) (tables : All (λ lc. lc.lut < 65536) fabric.lcs) whe
   then-right : (first second : List Drive) → All IsDriveRight first → All IsDriveRight second → All IsDriveRight (first ++ second)
   then-right first second = All-append IsDriveRight first second
 
+  pin_drives-right : (pin : Pin) → All IsDriveRight (pin_drives fabric.pins pin)
+  pin_drives-right pin =
+      let place = input_place fabric.pins (PadPort pin.x pin.y pin.n) in
+      All-if IsDriveRight (not (drives pin) && takes_pad pin.takes) _ (if-right _ (pin_bit place) pin.din_0 (pin-right place))
+
+  either-small : (passes : Bool) (one other : ℕ) → one < 65536 → other < 65536 → (if passes then one else other) < 65536
+  either-small true one other of_one of_other = of_one
+  either-small false one other of_one of_other = of_other
+
+  by_table-small : (pin : Pin) (sent : PadData) → (data_by_table (flip_count fabric) fabric.pins pin sent).word < 65536
+  by_table-small pin sends.Plain = omega arith
+  by_table-small pin sends.Registered = omega arith
+  by_table-small pin sends.Inverted = omega arith
+  by_table-small pin sends.Double = either-small pin.neg 44204 51914 (omega arith) (omega arith)
+
+  data_drives-right : (pin : Pin) → All IsDriveRight (data_drives fabric pin)
+  data_drives-right pin =
+      All-if IsDriveRight (drives pin && has_table pin.sends) _ (if-right _ (table_entry (data_table fabric pin)) pin.data_net (table-right (data_table fabric pin) (by_table-small pin pin.sends)))
+
+  pad_drives-right : (pin : Pin) → All IsDriveRight (pad_drives fabric pin)
+  pad_drives-right pin = All-if IsDriveRight (has_outside pin) _ (if-right _ (table_entry (pad_table fabric pin)) pin.pad_net (table-right (pad_table fabric pin) (omega arith)))
+
   all-right : All IsDriveRight (drives_of fabric)
   unfolding drives_of
   all-right =
-      then-right _ _ (any-right pin_drives (λ place. All-unless IsDriveRight (is_registered place.1) _ (if-right _ (pin_bit place.0) place.1.din (pin-right place.0))) (numbered (inputs_of fabric)))
-      (then-right _ _ (any-right (back_drives fabric) (λ pin. if-right _ (input (output_signal fabric pin)) pin.din (input-right (output_signal fabric pin))) (filter (λ pin. pin.back) fabric.pins))
+      then-right _ _ (any-right (pin_drives fabric.pins) pin_drives-right fabric.pins)
+      (then-right _ _ (any-right (back_drives fabric) (λ pin. All-if IsDriveRight (is_read_back pin) _ (if-right _ (input (pad_of fabric pin)) pin.din_0 (input-right (pad_of fabric pin)))) fabric.pins)
       (then-right _ _ (cells-right (lut_drives fabric.lut_inputs) (λ lc small. if-right _ (table_entry (table_of fabric.lut_inputs lc)) lc.out (table-right (table_of fabric.lut_inputs lc) small)) (filter (λ lc. not lc.flip) fabric.lcs) (All-filter (λ lc. not lc.flip) (λ lc. lc.lut < 65536) fabric.lcs tables))
-      (then-right _ _ (any-right flip_drives (λ place. by-drives place (flip_driver place.1 place.1.user)) (numbered fabric.registers))
+      (then-right _ _ (any-right flip_drives (λ place. by-drives place (flip_driver place.1 place.1.kind)) (numbered fabric.registers))
       (then-right _ _ (cells-right (lout_drives fabric.lut_inputs) (λ lc small. if-right _ (table_entry (table_of fabric.lut_inputs lc)) lc.lout (table-right (table_of fabric.lut_inputs lc) small)) fabric.lcs tables)
       (then-right _ _ (any-right carry_drives (λ lc. if-right _ (majority_of (get_or lc.ins 1 None) (get_or lc.ins 2 None) lc.cin) lc.cout (majority-right (get_or lc.ins 1 None) (get_or lc.ins 2 None) lc.cin)) (filter (λ lc. lc.carry) fabric.lcs))
       (then-right _ _ (any-right set_drives (λ set. if-right _ (constant true) (Some set.net) (constant-right true)) fabric.sets)
       (then-right _ _ (any-right ram_drives (λ place. any-right (ram_drive place) (λ port. if-right _ (read_data_rule place.0 place.1.read port.0) port.1 (data-right place.0 place.1.read port.0)) (numbered place.1.rdata)) (numbered fabric.rams))
-      (then-right _ _ (any-right (global_drives (inputs_of fabric)) (λ global. if-right _ (global_rule (inputs_of fabric) global.from) (Some global.net) (global-right (inputs_of fabric) global.from)) fabric.globals)
+      (then-right _ _ (any-right (global_drives fabric.pins) (λ global. if-right _ (global_rule fabric.pins global.from) (Some global.net) (global-right fabric.pins global.from)) fabric.globals)
       (then-right _ _ (any-right buffer_drives (λ buffer. if-right _ (copied buffer.src) (Some buffer.dst) (copied-right buffer.src)) fabric.buffers)
-      (any-right pin_register_drives (λ place. by-drives place (pin_register_driver place.1 place.1.user)) (numbered fabric.registers)))))))))))
+      (then-right _ _ (any-right input_drives (λ place. by-drives place (input_driver place.1 place.1.kind)) (numbered fabric.registers))
+      (then-right _ _ (any-right second_drives (λ place. by-drives place (second_driver place.1 place.1.kind)) (numbered fabric.registers))
+      (then-right _ _ (any-right (data_drives fabric) data_drives-right fabric.pins) (any-right (pad_drives fabric) pad_drives-right fabric.pins)))))))))))))
 
   by-right : (drives : List Drive) → All IsDriveRight drives → IsRight (right_by fabric drives)
   unfolding IsDriveRight
@@ -178,13 +207,14 @@ module _ (db : Database) (image : Configuration) where
       All-over_tiles RamSmall image.layout.device RamB (λ x y. if is_ram_used db image x y then ram_at db image x y ∷ [] else [])
       (λ x y left low. All-if RamSmall (is_ram_used db image x y) (ram_at db image x y ∷ []) (All-single RamSmall (ram_at db image x y) (ram-placed db image x y left low).0))
 
-  ports-named : All (λ port. IsName (port_label port)) (flat_map pin_ports (pins_of db image))
+  ports-named : (all : Bool) → All (λ port. IsName (port_label port)) (flat_map pin_ports (pins_of all db image))
   unfolding PinSmall
-  ports-named =
-      All-flat_map (λ port. IsName (port_label port)) pin_ports (pins_of db image)
+  ports-named all =
+      All-flat_map (λ port. IsName (port_label port)) pin_ports (pins_of all db image)
       (All-weaker PinSmall (λ pin. All (λ port. IsName (port_label port)) (pin_ports pin))
-      (λ pin small. each-port (λ port. IsName (port_label port)) pin (port-named pin small.first small.second small.third) (enable-named pin small.first small.second small.third))
-      (pins_of db image) (pins-small db image))
+      (λ pin small. each-name IsName pin (pad-named pin.x pin.y pin.n small.first small.second small.third) (enable-named pin small.first small.second small.third)
+      (outside-named pin.x pin.y pin.n small.first small.second small.third))
+      (pins_of all db image) (pins-small db image all))
 
   register-name : (reads : LutInputs) (lc : LogicCell) → CellSmall lc → IsName (register_name (register_of reads lc))
   unfolding CellSmall register_of
@@ -230,33 +260,32 @@ module _ (db : Database) (image : Configuration) where
       (All-weaker CellSmall (λ lc. IsName (register_name (register_of reads lc))) (register-name reads) (cells_of db image) cells-small))
 
   -- registers of pins
-  pin_register-small : (inputs : List Pin) (pin : Pin) → (pin_register db image inputs pin).table.word < 65536
-  unfolding pin_register
-  pin_register-small inputs pin = omega arith
+  module _ (flips : ℕ) (pins : List Pin) where
+    pin_register-small : (pin : Pin) (register : PinRegister) → (pin_register flips pins pin register).table.word < 65536
+    unfolding pin_register
+    pin_register-small pin register = omega arith
 
-  user-small : (output : Bool) (n : ℕ) → IsSmall n → IsSmall (user_number (if output then Output n else Input n))
-  user-small true n small = small
-  user-small false n small = small
+    pin_register-name : (pin : Pin) (register : PinRegister) → PinSmall pin → IsName (register_name (pin_register flips pins pin register))
+    unfolding PinSmall pin_register
+    pin_register-name pin register small = register-named (pin_register flips pins pin register) small.first small.second small.third
 
-  pin_register-name : (inputs : List Pin) (pin : Pin) → PinSmall pin → IsName (register_name (pin_register db image inputs pin))
-  unfolding PinSmall pin_register
-  pin_register-name inputs pin small =
-      register-named (pin_register db image inputs pin) small.first small.second (user-small pin.output pin.n small.third)
+    pin_registers-small : All (λ register. register.table.word < 65536) (pin_registers_of flips pins)
+    unfolding pin_registers_of
+    pin_registers-small =
+        let IsSmallTable = λ (register : Register). register.table.word < 65536 in
+        All-flat_map IsSmallTable (λ pin. map (pin_register flips pins pin) (registers_in pin)) pins
+        (All-every (λ pin. All IsSmallTable (map (pin_register flips pins pin) (registers_in pin)))
+        (λ pin. All-map IsSmallTable (pin_register flips pins pin) (registers_in pin)
+        (All-every (λ register. IsSmallTable (pin_register flips pins pin register)) (pin_register-small pin) (registers_in pin))) pins)
 
-  pin_registers-small : All (λ register. register.table.word < 65536) (pin_registers_of db image (pins_of db image))
-  unfolding pin_registers_of
-  pin_registers-small =
-      let inputs = filter (λ pin. not pin.output) (pins_of db image) in
-      All-map (λ register. register.table.word < 65536) (pin_register db image inputs) (filter is_registered (pins_of db image))
-      (All-every (λ pin. (pin_register db image inputs pin).table.word < 65536) (pin_register-small inputs) (filter is_registered (pins_of db image)))
-
-  pin_registers-named : All (λ register. IsName (register_name register)) (pin_registers_of db image (pins_of db image))
-  unfolding pin_registers_of
-  pin_registers-named =
-      let inputs = filter (λ pin. not pin.output) (pins_of db image) in
-      All-map (λ register. IsName (register_name register)) (pin_register db image inputs) (filter is_registered (pins_of db image))
-      (All-filter is_registered (λ pin. IsName (register_name (pin_register db image inputs pin))) (pins_of db image)
-      (All-weaker PinSmall (λ pin. IsName (register_name (pin_register db image inputs pin))) (pin_register-name inputs) (pins_of db image) (pins-small db image)))
+    pin_registers-named : All PinSmall pins → All (λ register. IsName (register_name register)) (pin_registers_of flips pins)
+    unfolding pin_registers_of
+    pin_registers-named small =
+        let IsNamed = λ (register : Register). IsName (register_name register) in
+        All-flat_map IsNamed (λ pin. map (pin_register flips pins pin) (registers_in pin)) pins
+        (All-weaker PinSmall (λ pin. All IsNamed (map (pin_register flips pins pin) (registers_in pin)))
+        (λ pin of_pin. All-map IsNamed (pin_register flips pins pin) (registers_in pin)
+        (All-every (λ register. IsNamed (pin_register flips pins pin register)) (λ register. pin_register-name pin register of_pin) (registers_in pin))) pins small)
 
   -- ---- start words
 
@@ -266,35 +295,39 @@ module _ (db : Database) (image : Configuration) where
       All-gathered_below (λ word. length word ≡ 16) 256 (λ k. start_word image x y k ∷ [])
       (λ k few. All-single (λ word. length word ≡ 16) (start_word image x y k) (length-row_from 16 _))
 
-  starts-sixteen : (reads : LutInputs) → All (λ words. All (λ word. length word ≡ 16) words) (fabric_with reads db image).start
+  starts-sixteen : (options : FabricOptions) → All (λ words. All (λ word. length word ≡ 16) words) (fabric_with options db image).start
   unfolding fabric_with
-  starts-sixteen reads =
+  starts-sixteen options =
       All-over_tiles (λ words. All (λ word. length word ≡ 16) words) image.layout.device RamB (λ x y. if is_ram_used db image x y then start_words image x y ∷ [] else [])
       (λ x y left low. All-if (λ words. All (λ word. length word ≡ 16) words) (is_ram_used db image x y) (start_words image x y ∷ [])
       (All-single (λ words. All (λ word. length word ≡ 16) words) (start_words image x y) (words-sixteen x y)))
 
-  fabric-named : (reads : LutInputs) → AreNamed (fabric_with reads db image)
+  fabric-named : (options : FabricOptions) → AreNamed (fabric_with options db image)
   unfolding fabric_with
-  fabric-named reads = record {
-    ports = ports-named;
-    registers = All-append (λ register. IsName (register_name register)) (registers_of reads (cells_of db image)) (pin_registers_of db image (pins_of db image)) (flips-named reads) pin_registers-named;
+  fabric-named options = record {
+    ports = ports-named options.all_pins;
+    registers = All-append (λ register. IsName (register_name register)) (registers_of options.lut_inputs (cells_of db image))
+        (pin_registers_of (flips_among (cells_of db image)) (pins_of options.all_pins db image)) (flips-named options.lut_inputs)
+        (pin_registers-named (flips_among (cells_of db image)) (pins_of options.all_pins db image) (pins-small db image options.all_pins));
     reads = All-weaker RamSmall (λ ram. IsName (read_name ram)) read-name (rams_of db image) rams-small;
     memories = All-weaker RamSmall (λ ram. IsName (memory_name ram)) memory-name (rams_of db image) rams-small;
   }
 
-  fabric-tables : (reads : LutInputs) → All (λ lc. lc.lut < 65536) (fabric_with reads db image).lcs
+  fabric-tables : (options : FabricOptions) → All (λ lc. lc.lut < 65536) (fabric_with options db image).lcs
   unfolding fabric_with
-  fabric-tables reads = tables-small
+  fabric-tables options = tables-small
 
-  fabric-registers : (reads : LutInputs) → All (λ register. register.table.word < 65536) (fabric_with reads db image).registers
+  fabric-registers : (options : FabricOptions) → All (λ register. register.table.word < 65536) (fabric_with options db image).registers
   unfolding fabric_with
-  fabric-registers reads =
-      All-append (λ register. register.table.word < 65536) (registers_of reads (cells_of db image)) (pin_registers_of db image (pins_of db image)) (flips-small reads) pin_registers-small
+  fabric-registers options =
+      All-append (λ register. register.table.word < 65536) (registers_of options.lut_inputs (cells_of db image))
+      (pin_registers_of (flips_among (cells_of db image)) (pins_of options.all_pins db image)) (flips-small options.lut_inputs)
+      (pin_registers-small (flips_among (cells_of db image)) (pins_of options.all_pins db image))
 
-  pub fabric-shapely : (reads : LutInputs) → IsShapely (fabric_with reads db image)
-  fabric-shapely reads = record {
-    named = fabric-named reads;
-    tables = fabric-registers reads;
-    rights = each-right (fabric_with reads db image) (fabric-tables reads);
-    words = λ place k. words-at (fabric_with reads db image).start place k (starts-sixteen reads);
+  pub fabric-shapely : (options : FabricOptions) → IsShapely (fabric_with options db image)
+  fabric-shapely options = record {
+    named = fabric-named options;
+    tables = fabric-registers options;
+    rights = each-right (fabric_with options db image) (fabric-tables options);
+    words = λ place k. words-at (fabric_with options db image).start place k (starts-sixteen options);
   }

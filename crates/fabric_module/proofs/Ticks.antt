@@ -1,6 +1,6 @@
 -- An event is an edge for a clocked item of the module exactly if it is an edge of the fabric's clock.
 use Rattle.std.proofs.Common.{◌≡◌, ◌≢◌, ℕ, zero, suc, ◌+◌, ◌<◌, Bool, true, false, List, [], ◌∷◌, length, map, get_or, set, refl, sym, ap, ◌∙◌, subst, arith, inl, inr, get_or-set_same, get_or-set_other, eq-eqb}
-use Rattle.std.specs.Prelude.{Option, Some, None, filter, flat_map, bytes_eq, not, ◌&&◌, ◌==◌, if◌then◌else◌}
+use Rattle.std.specs.Prelude.{Option, Some, None, flat_map, bytes_eq, not, ◌&&◌, ◌==◌, if◌then◌else◌}
 use Rattle.std.proofs.lemmas.Bool.{cases_Bool, eqb-true}
 use Rattle.shared_lemmas.proofs.Bytes.{bytes_eq-same}
 use Rattle.plane_map.specs.declared.device.DeviceName.{DeviceName}
@@ -11,6 +11,7 @@ use Rattle.vlog_semantics.specs.Named.{names_of}
 use Rattle.vlog_semantics.specs.Numbered.{numbered as counted}
 use Rattle.vlog_semantics.specs.Run.{input_names, pin_of, is_pin, is_edge, is_same_bit}
 use Rattle.fabric_model.specs.declared.pin.Pin.{Pin}
+use Rattle.fabric_model.specs.InputPorts.{inputs_among}
 use Rattle.fabric_model.specs.Fabric.{Fabric, inputs_of}
 use Rattle.fabric_model.specs.Drivers.{Rule, is_driven}
 use Rattle.fabric_model.specs.Drivers.Rule.{pin_bit, constant, input, table_entry, majority_of, register_bit, read_bit, copied}
@@ -27,7 +28,7 @@ use Rattle.fabric_model.proofs.ClockLuts.{pass-no_pin}
 use Rattle.fabric_model.proofs.Chains.{turn-still, turn-first, clock_end-leads}
 use Rattle.fabric_model.proofs.Taken.{taken-order}
 use Rattle.fabric_model.proofs.Runs.{IsPlaced, IsClockEnd, IsClocked, end_bit, clock-bit, clock_bit-is}
-use Rattle.fabric_module.specs.Names.{port_name}
+use Rattle.fabric_module.specs.Names.{input_port_name}
 use Rattle.fabric_module.specs.Rights.{input_name}
 use Rattle.fabric_module.specs.Written.{end_name, clock_name, is_falling, pin_ports}
 use Rattle.fabric_module.specs.Matching.{module_event}
@@ -93,15 +94,15 @@ pin-from name (x ∷ xs) from (suc place) apart within =
     rw (All-pick name (λ n. bytes_eq (name x) n ≡ false) xs place apart.0 (omega arith))
     (pin-from name xs (from + 1) place apart.1 (omega arith) ∙ ap (λ n. Some n) same)
 
-input_names-are : (pins : List Pin) → input_names (flat_map pin_ports pins) ≡ map port_name (filter (λ pin. not pin.output) pins)
-input_names-are pins = ap names_of (inputs-start pins) ∙ map-map (λ pin. (port_name pin, false)) (λ (entry : List ℕ × Bool). entry.0) (filter (λ pin. not pin.output) pins)
+input_names-are : (pins : List Pin) → input_names (flat_map pin_ports pins) ≡ map input_port_name (inputs_among pins)
+input_names-are pins = ap names_of (inputs-start pins) ∙ map-map (λ port. (input_port_name port, false)) (λ (entry : List ℕ × Bool). entry.0) (inputs_among pins)
 
--- the place of an input pin's port
+-- the place of an input port
 pub pin-place : (fabric : Fabric) → IsWritable fabric → (place : ℕ) → place < length (inputs_of fabric) → pin_of (ports_of fabric) (input_name fabric place) ≡ Some place
 pin-place fabric writable place there =
     let zero_more : 0 + place ≡ place = omega arith in
     ap (λ names. value_in (counted 0 names) (input_name fabric place)) (input_names-are fabric.pins)
-    ∙ (pin-from port_name (inputs_of fabric) 0 place (inputs-apart fabric.pins writable.ports) there
+    ∙ (pin-from input_port_name (inputs_of fabric) 0 place (inputs-apart fabric.pins writable.ports) there
     ∙ ap (λ n. Some n) zero_more)
 
 -- ---- chains end at pins that are there

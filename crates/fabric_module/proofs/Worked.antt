@@ -1,5 +1,5 @@
 -- The written modules of small fabrics, worked out by hand.
-use Rattle.std.proofs.Common.{◌≡◌, [], ◌∷◌, ◌++◌, refl, true, false}
+use Rattle.std.proofs.Common.{◌≡◌, List, [], ◌∷◌, ◌++◌, refl, true, false}
 use Rattle.std.specs.Prelude.{codes, Some, None, replicate}
 use Rattle.std.specs.Fmt.{digits}
 use Rattle.index_search.specs.Places.{any_below, least_below, gathered_below}
@@ -11,32 +11,49 @@ use Rattle.fabric_model.specs.declared.cell.LogicCell.{LogicCell}
 use Rattle.fabric_model.specs.declared.lut_inputs.LutInputs.TheVariants as read
 use Rattle.fabric_model.specs.declared.ram.RamCell.{RamCell}
 use Rattle.fabric_model.specs.declared.pin.Pin.{Pin}
-use Rattle.fabric_model.specs.declared.pin.PinKind.TheVariants.{Plain, Registered, TriState}
-use Rattle.fabric_model.specs.declared.driver.ClockUser.TheVariants.{Input as InputUser, Output as OutputUser}
-use Rattle.fabric_model.specs.declared.signal.Signal.{Signal}
-use Rattle.fabric_model.specs.declared.signal.Signal.TheVariants as signal
-use Rattle.fabric_model.specs.Signals.{net_or_0, net_or_1}
-use Rattle.fabric_model.specs.declared.register.LutTable.{LutTable}
-use Rattle.fabric_model.specs.declared.register.Register.{Register}
+use Rattle.fabric_model.specs.declared.pin.PadDrive.TheVariants as drive
+use Rattle.fabric_model.specs.declared.pin.PadData.TheVariants as sends
+use Rattle.fabric_model.specs.declared.pin.PadInput.TheVariants as takes
 use Rattle.fabric_model.specs.Outputs.{outputs_of}
 use Rattle.fabric_model.specs.Luts.{uses_input}
-use Rattle.fabric_model.specs.Registers.{register_of}
+use Rattle.fabric_model.specs.Registers.{register_of, pin_register, pin_registers_of}
 use Rattle.fabric_model.specs.Fabric.{Fabric, numbered_from}
 use Rattle.fabric_model.specs.Joins.{is_joined, class_of}
 use Rattle.fabric_model.specs.Drivers.{drives_of, drivers_of, is_driven}
 use Rattle.fabric_model.specs.ClockLuts.{pass_of, is_at_open}
 use Rattle.fabric_model.specs.Clocks.{turn_at, end_within, clock_end}
-use Rattle.fabric_module.specs.Names.{two_numbers, three_numbers, port_name, enable_name, register_name, read_name, memory_name, wire_name}
+use Rattle.fabric_module.specs.Names.{two_numbers, three_numbers, pad_name, port_name, enable_name, outside_name, register_name, read_name, memory_name, wire_name}
 use Rattle.fabric_module.specs.Rights.{input_atom, right_of, class_right}
 use Rattle.fabric_module.specs.Written.{clock_name, is_falling, register_items, write_items, read_items, items_of, module_of}
 
 -- ---- an inverter between two pins
 
 abbrev input_pin : Pin
-input_pin = record { x = 0; y = 1; n = 0; kind = Plain; output = false; back = false; din = Some 0; dout = None; enable = None }
+input_pin = record {
+  x = 0;
+  y = 1;
+  n = 0;
+  drive = drive.Never;
+  sends = sends.Double;
+  takes = takes.Plain;
+  reads_0 = true;
+  reads_1 = false;
+  is_global = false;
+  neg = false;
+  inclk = None;
+  outclk = None;
+  cen = None;
+  din_0 = Some 0;
+  din_1 = None;
+  dout_0 = None;
+  dout_1 = None;
+  enable = None;
+  data_net = None;
+  pad_net = None;
+}
 
 abbrev output_pin : Pin
-output_pin = record { x = 0; y = 2; n = 0; kind = Plain; output = true; back = false; din = None; dout = Some 3; enable = None }
+output_pin = record input_pin { y = 2; drive = drive.Always; sends = sends.Plain; reads_0 = false; din_0 = None; dout_0 = Some 3 }
 
 abbrev inverter : LogicCell
 inverter = record {
@@ -85,7 +102,7 @@ inverting_module : module_of inverting (0 ∷ 1 ∷ 2 ∷ 3 ∷ []) (codes "top"
       ∷ Assign (codes "io_0_2_0") (Whole (codes "n_3"))
       ∷ [];
 }
-unfolding outputs_of digits any_below least_below gathered_below word_of register_of numbered_from is_joined class_of drives_of drivers_of is_driven turn_at pass_of is_at_open end_within clock_end two_numbers three_numbers port_name register_name read_name memory_name wire_name input_atom right_of class_right clock_name is_falling items_of module_of
+unfolding outputs_of digits any_below least_below gathered_below word_of register_of numbered_from is_joined class_of drives_of drivers_of is_driven turn_at pass_of is_at_open end_within clock_end two_numbers three_numbers pad_name register_name read_name memory_name wire_name input_atom right_of class_right clock_name is_falling items_of module_of
 inverting_module = refl
 
 -- ---- the same LUT with its own value at in_2, which it doesn't use
@@ -95,16 +112,16 @@ feeding = record inverter { ins = Some 1 ∷ None ∷ Some 2 ∷ None ∷ [] }
 
 all_written : class_right (record inverting { lcs = feeding ∷ [] }) 2
     ≡ RightLut (record { word = 21845; ins = Whole (codes "n_1") ∷ Bit false ∷ Whole (codes "n_2") ∷ Bit false ∷ [] })
-unfolding outputs_of digits any_below least_below gathered_below word_of register_of numbered_from is_joined class_of drives_of drivers_of is_driven turn_at pass_of is_at_open end_within clock_end two_numbers three_numbers port_name register_name read_name memory_name wire_name input_atom right_of class_right clock_name is_falling items_of module_of
+unfolding outputs_of digits any_below least_below gathered_below word_of register_of numbered_from is_joined class_of drives_of drivers_of is_driven turn_at pass_of is_at_open end_within clock_end two_numbers three_numbers pad_name register_name read_name memory_name wire_name input_atom right_of class_right clock_name is_falling items_of module_of
 all_written = refl
 
 used_written : class_right (record inverting { lut_inputs = read.Used; lcs = feeding ∷ [] }) 2
     ≡ RightLut (record { word = 21845; ins = Whole (codes "n_1") ∷ Bit false ∷ Bit false ∷ Bit false ∷ [] })
-unfolding uses_input word_bits outputs_of digits any_below least_below gathered_below word_of register_of numbered_from is_joined class_of drives_of drivers_of is_driven turn_at pass_of is_at_open end_within clock_end two_numbers three_numbers port_name register_name read_name memory_name wire_name input_atom right_of class_right clock_name is_falling items_of module_of
+unfolding uses_input word_bits outputs_of digits any_below least_below gathered_below word_of register_of numbered_from is_joined class_of drives_of drivers_of is_driven turn_at pass_of is_at_open end_within clock_end two_numbers three_numbers pad_name register_name read_name memory_name wire_name input_atom right_of class_right clock_name is_falling items_of module_of
 used_written = refl
 
 used_module : module_of (record inverting { lut_inputs = read.Used; lcs = feeding ∷ [] }) (0 ∷ 1 ∷ 2 ∷ 3 ∷ []) (codes "top") ≡ module_of inverting (0 ∷ 1 ∷ 2 ∷ 3 ∷ []) (codes "top")
-unfolding uses_input word_bits outputs_of digits any_below least_below gathered_below word_of register_of numbered_from is_joined class_of drives_of drivers_of is_driven turn_at pass_of is_at_open end_within clock_end two_numbers three_numbers port_name register_name read_name memory_name wire_name input_atom right_of class_right clock_name is_falling items_of module_of
+unfolding uses_input word_bits outputs_of digits any_below least_below gathered_below word_of register_of numbered_from is_joined class_of drives_of drivers_of is_driven turn_at pass_of is_at_open end_within clock_end two_numbers three_numbers pad_name register_name read_name memory_name wire_name input_atom right_of class_right clock_name is_falling items_of module_of
 used_module = refl
 
 -- ---- a toggle at falling edges
@@ -118,19 +135,19 @@ toggling = record inverting { lcs = toggle ∷ []; registers = register_of read.
 toggle_items : register_items toggling (register_of read.All toggle) ≡
     FlipFlop true (codes "io_0_1_0") (Bit true) (Bit false) false (codes "ff_1_1_0")
     (record { word = 21845; ins = Whole (codes "n_2") ∷ Bit false ∷ Bit false ∷ Bit false ∷ [] }) ∷ []
-unfolding outputs_of digits any_below least_below gathered_below word_of register_of numbered_from is_joined class_of drives_of drivers_of is_driven turn_at pass_of is_at_open end_within clock_end two_numbers three_numbers port_name register_name read_name memory_name wire_name input_atom right_of class_right clock_name is_falling items_of module_of
+unfolding outputs_of digits any_below least_below gathered_below word_of register_of numbered_from is_joined class_of drives_of drivers_of is_driven turn_at pass_of is_at_open end_within clock_end two_numbers three_numbers pad_name register_name read_name memory_name wire_name input_atom right_of class_right clock_name is_falling items_of module_of
 toggle_items = refl
 
 -- what its LUT doesn't use is 0 too
 used_items : register_items toggling (register_of read.Used (record toggle { ins = Some 2 ∷ Some 0 ∷ Some 1 ∷ Some 3 ∷ [] })) ≡
     FlipFlop true (codes "io_0_1_0") (Bit true) (Bit false) false (codes "ff_1_1_0")
     (record { word = 21845; ins = Whole (codes "n_2") ∷ Bit false ∷ Bit false ∷ Bit false ∷ [] }) ∷ []
-unfolding uses_input word_bits outputs_of digits any_below least_below gathered_below word_of register_of numbered_from is_joined class_of drives_of drivers_of is_driven turn_at pass_of is_at_open end_within clock_end two_numbers three_numbers port_name register_name read_name memory_name wire_name input_atom right_of class_right clock_name is_falling items_of module_of
+unfolding uses_input word_bits outputs_of digits any_below least_below gathered_below word_of register_of numbered_from is_joined class_of drives_of drivers_of is_driven turn_at pass_of is_at_open end_within clock_end two_numbers three_numbers pad_name register_name read_name memory_name wire_name input_atom right_of class_right clock_name is_falling items_of module_of
 used_items = refl
 
 -- a clock without a driver is written nowhere
 still_items : register_items toggling (register_of read.All (record toggle { clk = Some 9 })) ≡ []
-unfolding outputs_of digits any_below least_below gathered_below word_of register_of numbered_from is_joined class_of drives_of drivers_of is_driven turn_at pass_of is_at_open end_within clock_end two_numbers three_numbers port_name register_name read_name memory_name wire_name input_atom right_of class_right clock_name is_falling items_of module_of
+unfolding outputs_of digits any_below least_below gathered_below word_of register_of numbered_from is_joined class_of drives_of drivers_of is_driven turn_at pass_of is_at_open end_within clock_end two_numbers three_numbers pad_name register_name read_name memory_name wire_name input_atom right_of class_right clock_name is_falling items_of module_of
 still_items = refl
 
 -- ---- a toggle whose reset acts at once
@@ -144,23 +161,23 @@ resetting = record inverting { lcs = setting ∷ []; registers = register_of rea
 setting_items : register_items resetting (register_of read.All setting) ≡
     AsyncFlipFlop true (codes "io_0_1_0") (codes "n_0") true (codes "ff_1_1_0") (Bit true)
     (record { word = 21845; ins = Whole (codes "n_2") ∷ Bit false ∷ Bit false ∷ Bit false ∷ [] }) ∷ []
-unfolding outputs_of digits any_below least_below gathered_below word_of register_of numbered_from is_joined class_of drives_of drivers_of is_driven turn_at pass_of is_at_open end_within clock_end two_numbers three_numbers port_name register_name read_name memory_name wire_name input_atom right_of class_right clock_name is_falling items_of module_of
+unfolding outputs_of digits any_below least_below gathered_below word_of register_of numbered_from is_joined class_of drives_of drivers_of is_driven turn_at pass_of is_at_open end_within clock_end two_numbers three_numbers pad_name register_name read_name memory_name wire_name input_atom right_of class_right clock_name is_falling items_of module_of
 setting_items = refl
 
 setting_wires : class_right resetting 2 ≡ Choose (codes "n_0") true (codes "ff_1_1_0")
-unfolding outputs_of digits any_below least_below gathered_below word_of register_of numbered_from is_joined class_of drives_of drivers_of is_driven turn_at pass_of is_at_open end_within clock_end two_numbers three_numbers port_name register_name read_name memory_name wire_name input_atom right_of class_right clock_name is_falling items_of module_of
+unfolding outputs_of digits any_below least_below gathered_below word_of register_of numbered_from is_joined class_of drives_of drivers_of is_driven turn_at pass_of is_at_open end_within clock_end two_numbers three_numbers pad_name register_name read_name memory_name wire_name input_atom right_of class_right clock_name is_falling items_of module_of
 setting_wires = refl
 
 -- without a clock it is set alone
 clockless_items : register_items resetting (register_of read.All (record setting { clk = None })) ≡ AsyncReset (codes "n_0") true (codes "ff_1_1_0") ∷ []
-unfolding outputs_of digits any_below least_below gathered_below word_of register_of numbered_from is_joined class_of drives_of drivers_of is_driven turn_at pass_of is_at_open end_within clock_end two_numbers three_numbers port_name register_name read_name memory_name wire_name input_atom right_of class_right clock_name is_falling items_of module_of
+unfolding outputs_of digits any_below least_below gathered_below word_of register_of numbered_from is_joined class_of drives_of drivers_of is_driven turn_at pass_of is_at_open end_within clock_end two_numbers three_numbers pad_name register_name read_name memory_name wire_name input_atom right_of class_right clock_name is_falling items_of module_of
 clockless_items = refl
 
 -- a reset without a driver never acts
 undriven_items : register_items resetting (register_of read.All (record setting { sr = Some 9 })) ≡
     FlipFlop true (codes "io_0_1_0") (Bit true) (Bit false) true (codes "ff_1_1_0")
     (record { word = 21845; ins = Whole (codes "n_2") ∷ Bit false ∷ Bit false ∷ Bit false ∷ [] }) ∷ []
-unfolding outputs_of digits any_below least_below gathered_below word_of register_of numbered_from is_joined class_of drives_of drivers_of is_driven turn_at pass_of is_at_open end_within clock_end two_numbers three_numbers port_name register_name read_name memory_name wire_name input_atom right_of class_right clock_name is_falling items_of module_of
+unfolding outputs_of digits any_below least_below gathered_below word_of register_of numbered_from is_joined class_of drives_of drivers_of is_driven turn_at pass_of is_at_open end_within clock_end two_numbers three_numbers pad_name register_name read_name memory_name wire_name input_atom right_of class_right clock_name is_falling items_of module_of
 undriven_items = refl
 
 -- ---- a RAM
@@ -189,12 +206,12 @@ ram = record {
 write : write_items inverting ram ≡
     Write true (codes "io_0_1_0") (Bit true) (Whole (codes "n_2")) (codes "mem_3_1") (replicate 8 (Bit false)) (replicate 16 (Bit false))
     (Whole (codes "n_2") ∷ replicate 15 (Bit false)) ∷ []
-unfolding outputs_of digits any_below least_below gathered_below word_of register_of numbered_from is_joined class_of drives_of drivers_of is_driven turn_at pass_of is_at_open end_within clock_end two_numbers three_numbers port_name register_name read_name memory_name wire_name input_atom right_of class_right clock_name is_falling items_of module_of
+unfolding outputs_of digits any_below least_below gathered_below word_of register_of numbered_from is_joined class_of drives_of drivers_of is_driven turn_at pass_of is_at_open end_within clock_end two_numbers three_numbers pad_name register_name read_name memory_name wire_name input_atom right_of class_right clock_name is_falling items_of module_of
 write = refl
 
 wide_read : read_items inverting ram ≡
     Read false (codes "io_0_1_0") (Bit true) (Whole (codes "n_2")) (codes "rd_3_1") (codes "mem_3_1") (Whole (codes "n_2") ∷ replicate 7 (Bit false)) ∷ []
-unfolding outputs_of digits any_below least_below gathered_below word_of register_of numbered_from is_joined class_of drives_of drivers_of is_driven turn_at pass_of is_at_open end_within clock_end two_numbers three_numbers port_name register_name read_name memory_name wire_name input_atom right_of class_right clock_name is_falling items_of module_of
+unfolding outputs_of digits any_below least_below gathered_below word_of register_of numbered_from is_joined class_of drives_of drivers_of is_driven turn_at pass_of is_at_open end_within clock_end two_numbers three_numbers pad_name register_name read_name memory_name wire_name input_atom right_of class_right clock_name is_falling items_of module_of
 wide_read = refl
 
 -- ---- a RAM that is read in mode 2 and written in mode 1
@@ -211,43 +228,31 @@ narrow = record ram {
 narrow_write : write_items inverting narrow ≡
     WriteNarrow true (codes "io_0_1_0") (Bit true) (Whole (codes "n_2")) (codes "mem_3_1") (replicate 8 (Bit false)) 21845
     (Whole (codes "n_2") ∷ Bit false ∷ Bit false ∷ []) (Whole (codes "n_2") ∷ Whole (codes "n_2") ∷ replicate 14 (Bit false)) ∷ []
-unfolding outputs_of digits any_below least_below gathered_below word_of register_of numbered_from is_joined class_of drives_of drivers_of is_driven turn_at pass_of is_at_open end_within clock_end two_numbers three_numbers port_name register_name read_name memory_name wire_name input_atom right_of class_right clock_name is_falling items_of module_of
+unfolding outputs_of digits any_below least_below gathered_below word_of register_of numbered_from is_joined class_of drives_of drivers_of is_driven turn_at pass_of is_at_open end_within clock_end two_numbers three_numbers pad_name register_name read_name memory_name wire_name input_atom right_of class_right clock_name is_falling items_of module_of
 narrow_write = refl
 
 narrow_read : read_items inverting narrow ≡
     ReadNarrow false (codes "io_0_1_0") (Bit true) (Whole (codes "n_2")) (codes "rd_3_1") (codes "mem_3_1") (Whole (codes "n_2") ∷ replicate 7 (Bit false))
     (Whole (codes "n_2") ∷ Bit false ∷ Bit false ∷ []) 4369 ∷ []
-unfolding outputs_of digits any_below least_below gathered_below word_of register_of numbered_from is_joined class_of drives_of drivers_of is_driven turn_at pass_of is_at_open end_within clock_end two_numbers three_numbers port_name register_name read_name memory_name wire_name input_atom right_of class_right clock_name is_falling items_of module_of
+unfolding outputs_of digits any_below least_below gathered_below word_of register_of numbered_from is_joined class_of drives_of drivers_of is_driven turn_at pass_of is_at_open end_within clock_end two_numbers three_numbers pad_name register_name read_name memory_name wire_name input_atom right_of class_right clock_name is_falling items_of module_of
 narrow_read = refl
 
 -- ---- a registered output pin, a registered input pin and an output that can be switched off
 
-abbrev pin_table : Signal → LutTable
-pin_table source = record { word = 43690; ins = source ∷ net_or_0 None ∷ net_or_0 None ∷ net_or_0 None ∷ [] }
+abbrev registered_output : Pin
+registered_output = record output_pin { sends = sends.Registered; outclk = Some 1 }
 
-abbrev output_register : Register
-output_register = record {
-  x = 0;
-  y = 2;
-  user = OutputUser 0;
-  out = None;
-  clk = Some 1;
-  neg = false;
-  enable = net_or_1 None;
-  sr = None;
-  «set» = false;
-  is_async = false;
-  table = pin_table (net_or_0 (Some 3));
-}
+abbrev registered_input : Pin
+registered_input = record input_pin { y = 3; takes = takes.Registered; neg = true; inclk = Some 1; din_0 = Some 4 }
+
+abbrev switched_output : Pin
+switched_output = record output_pin { y = 4; drive = drive.ByNet; takes = takes.Registered; enable = Some 2 }
+
+abbrev four_pins : List Pin
+four_pins = input_pin ∷ registered_output ∷ registered_input ∷ switched_output ∷ []
 
 abbrev registering : Fabric
-registering = record inverting {
-  nets = 5;
-  pins =
-      input_pin ∷ record output_pin { kind = Registered } ∷ record input_pin { y = 3; kind = Registered; din = Some 4 }
-      ∷ record output_pin { y = 4; kind = TriState; enable = Some 2 } ∷ [];
-  registers = output_register ∷ record output_register { y = 3; user = InputUser 0; out = Some 4; neg = true; table = pin_table (signal.Input 1) } ∷ [];
-}
+registering = record inverting { nets = 5; pins = four_pins; registers = pin_registers_of 0 four_pins }
 
 registering_module : module_of registering (0 ∷ 1 ∷ 2 ∷ 3 ∷ 4 ∷ []) (codes "top") ≡ record {
   name = codes "top";
@@ -269,13 +274,54 @@ registering_module : module_of registering (0 ∷ 1 ∷ 2 ∷ 3 ∷ 4 ∷ []) (c
       ∷ FlipFlop true (codes "io_0_1_0") (Bit true) (Bit false) false (codes "pi_0_3_0") (record { word = 43690; ins = Whole (codes "io_0_3_0") ∷ Bit false ∷ Bit false ∷ Bit false ∷ [] })
       ∷ [];
 }
-unfolding outputs_of digits any_below least_below gathered_below word_of register_of numbered_from is_joined class_of drives_of drivers_of is_driven turn_at pass_of is_at_open end_within clock_end two_numbers three_numbers port_name enable_name register_name read_name memory_name wire_name input_atom right_of class_right clock_name is_falling items_of module_of
+unfolding outputs_of digits any_below least_below gathered_below word_of register_of pin_register pin_registers_of numbered_from is_joined class_of drives_of drivers_of is_driven turn_at pass_of is_at_open end_within clock_end two_numbers three_numbers pad_name enable_name register_name read_name memory_name wire_name input_atom right_of class_right clock_name is_falling items_of module_of
 registering_module = refl
+
+-- ---- a pin with double data, and a bidirectional pin whose pad is read
+
+abbrev double_output : Pin
+double_output = record output_pin { sends = sends.Double; outclk = Some 1; dout_1 = Some 2; data_net = Some 4 }
+
+abbrev bidirectional : Pin
+bidirectional = record output_pin { y = 4; drive = drive.ByNet; reads_0 = true; din_0 = Some 5; enable = Some 2; pad_net = Some 6 }
+
+abbrev bus_pins : List Pin
+bus_pins = input_pin ∷ double_output ∷ bidirectional ∷ []
+
+abbrev bus : Fabric
+bus = record inverting { nets = 7; pins = bus_pins; registers = pin_registers_of 0 bus_pins }
+
+bus_module : module_of bus (0 ∷ 1 ∷ 2 ∷ 3 ∷ 4 ∷ 6 ∷ 5 ∷ []) (codes "top") ≡ record {
+  name = codes "top";
+  ports =
+      record { name = codes "io_0_1_0"; output = false } ∷ record { name = codes "io_0_2_0"; output = true } ∷ record { name = codes "io_0_4_0"; output = true }
+      ∷ record { name = codes "io_0_4_0_en"; output = true } ∷ record { name = codes "io_0_4_0_in"; output = false } ∷ [];
+  items =
+      RegisterItem (codes "po_0_2_0") false
+      ∷ RegisterItem (codes "pq_0_2_0") false
+      ∷ RegisterItem (codes "co_0_2_0") false
+      ∷ Wire (codes "n_0") (RightWhole (codes "io_0_1_0"))
+      ∷ Wire (codes "n_1") (RightWhole (codes "n_0"))
+      ∷ Wire (codes "n_2") (RightLut (record { word = 21845; ins = Whole (codes "n_1") ∷ Bit false ∷ Bit false ∷ Bit false ∷ [] }))
+      ∷ Wire (codes "n_3") (RightWhole (codes "n_2"))
+      ∷ Wire (codes "n_4") (RightLut (record { word = 51914; ins = Whole (codes "pq_0_2_0") ∷ Whole (codes "po_0_2_0") ∷ Whole (codes "n_1") ∷ Bit false ∷ [] }))
+      ∷ Wire (codes "n_6") (RightLut (record { word = 51914; ins = Whole (codes "io_0_4_0_in") ∷ Whole (codes "n_3") ∷ Whole (codes "n_2") ∷ Bit false ∷ [] }))
+      ∷ Wire (codes "n_5") (RightWhole (codes "n_6"))
+      ∷ Assign (codes "io_0_2_0") (Whole (codes "n_4"))
+      ∷ Assign (codes "io_0_4_0") (Whole (codes "n_3"))
+      ∷ Assign (codes "io_0_4_0_en") (Whole (codes "n_2"))
+      ∷ FlipFlop false (codes "io_0_1_0") (Bit true) (Bit false) false (codes "po_0_2_0") (record { word = 43690; ins = Whole (codes "n_3") ∷ Bit false ∷ Bit false ∷ Bit false ∷ [] })
+      ∷ FlipFlop true (codes "io_0_1_0") (Whole (codes "co_0_2_0")) (Bit false) false (codes "pq_0_2_0") (record { word = 43690; ins = Whole (codes "n_2") ∷ Bit false ∷ Bit false ∷ Bit false ∷ [] })
+      ∷ FlipFlop false (codes "io_0_1_0") (Bit true) (Bit false) false (codes "co_0_2_0") (record { word = 43690; ins = Bit true ∷ Bit false ∷ Bit false ∷ Bit false ∷ [] })
+      ∷ [];
+}
+unfolding outputs_of digits any_below least_below gathered_below word_of register_of pin_register pin_registers_of numbered_from is_joined class_of drives_of drivers_of is_driven turn_at pass_of is_at_open end_within clock_end two_numbers three_numbers pad_name enable_name outside_name register_name read_name memory_name wire_name input_atom right_of class_right clock_name is_falling items_of module_of
+bus_module = refl
 
 -- ---- names with numbers of several digits
 
 long_port : port_name (record input_pin { x = 33; y = 255; n = 10 }) ≡ codes "io_33_255_10"
-unfolding digits three_numbers port_name
+unfolding digits three_numbers pad_name
 long_port = refl
 
 long_register : register_name (register_of read.All (record toggle { x = 7; y = 16 })) ≡ codes "ff_7_16_0"

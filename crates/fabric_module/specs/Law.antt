@@ -7,8 +7,8 @@ use Rattle.chipdb_reader.specs.Fit.{IsFit}
 use Rattle.vlog_module.specs.Names.{IsName}
 use Rattle.vlog_module.specs.WellFormed.{IsModule}
 use Rattle.vlog_semantics.specs.Run.{module_run}
-use Rattle.fabric_model.specs.declared.lut_inputs.LutInputs.{LutInputs}
-use Rattle.fabric_model.specs.Fabric.{fabric_with, fabric_of}
+use Rattle.fabric_model.specs.declared.options.FabricOptions.{FabricOptions}
+use Rattle.fabric_model.specs.Fabric.{fabric_with, reading_all}
 use Rattle.fabric_model.specs.Steps.{Event, Entry, IsRun}
 use Rattle.fabric_model.specs.Unique.{ExactlyOne}
 use Rattle.graph_order.specs.Wiring.{IsWriteOrder}
@@ -17,17 +17,17 @@ use Rattle.fabric_model.specs.Faults.{design_fault}
 use Rattle.fabric_module.specs.Written.{module_of}
 use Rattle.fabric_module.specs.Matching.{Matches, module_event}
 
--- The fabric of a database and an image has exactly one run for each list of events. The module that is written for LUTs that read these
--- inputs runs as the fabric does: at the start and after each event the two hold the same values.
-pub record RunsAlike (inputs : LutInputs) (db : Database) (image : Configuration) (order name : List ℕ) : Type 0 where
-  pub one_run : (events : List Event) → ExactlyOne (IsRun (fabric_of db image) events)
-  pub alike : (events : List Event) (entries : List Entry) → IsRun (fabric_of db image) events entries
-      → AllZip (Matches (fabric_of db image)) entries (module_run (module_of (fabric_with inputs db image) order name) (map module_event events))
+-- The fabric of a database and an image whose LUTs read all inputs has exactly one run for each list of events. The module that is written
+-- with these options runs as the fabric does: at the start and after each event the two hold the same values.
+pub record RunsAlike (options : FabricOptions) (db : Database) (image : Configuration) (order name : List ℕ) : Type 0 where
+  pub one_run : (events : List Event) → ExactlyOne (IsRun (fabric_with (reading_all options) db image) events)
+  pub alike : (events : List Event) (entries : List Entry) → IsRun (fabric_with (reading_all options) db image) events entries
+      → AllZip (Matches (fabric_with (reading_all options) db image)) entries (module_run (module_of (fabric_with options db image) order name) (map module_event events))
 
 -- If a database and an image aren't refused, the module that is written for them in the write order, under any name, is well-formed, and it
--- runs as their fabric, whichever inputs LUTs read. A database that was read from a text is fit, and has fewer nets than the bound.
-abbrev pub ModuleIsFabric : LutInputs → Database → Configuration → Type 0
-ModuleIsFabric inputs db image =
-    IsFit db → db.chip.nets ≤ 2 ^ 64 → design_fault inputs db image ≡ None
-    → (order name : List ℕ) → IsWriteOrder (wiring_of (fabric_with inputs db image)) order → IsName name
-    → IsModule (module_of (fabric_with inputs db image) order name) × RunsAlike inputs db image order name
+-- runs as their fabric, with each choice of options. A database that was read from a text is fit, and has fewer nets than the bound.
+abbrev pub ModuleIsFabric : FabricOptions → Database → Configuration → Type 0
+ModuleIsFabric options db image =
+    IsFit db → (fabric_with options db image).nets ≤ 2 ^ 64 → design_fault options db image ≡ None
+    → (order name : List ℕ) → IsWriteOrder (wiring_of (fabric_with options db image)) order → IsName name
+    → IsModule (module_of (fabric_with options db image) order name) × RunsAlike options db image order name

@@ -5,13 +5,13 @@ use Rattle.vlog_module.specs.Maps.{value_in}
 use Rattle.vlog_semantics.specs.Named.{names_of, values_of}
 use Rattle.vlog_semantics.specs.declared.event.Event.{Event as ModuleEvent}
 use Rattle.vlog_semantics.specs.Entries.{Entry as ModuleEntry}
-use Rattle.fabric_model.specs.declared.pin.Pin.{Pin}
+use Rattle.fabric_model.specs.declared.input_port.InputPort.{InputPort}
 use Rattle.fabric_model.specs.Fabric.{Fabric, inputs_of}
 use Rattle.fabric_model.specs.Outputs.{Output, outputs_of}
 use Rattle.fabric_model.specs.Drivers.{is_driven}
 use Rattle.fabric_model.specs.Values.{bit_in}
 use Rattle.fabric_model.specs.Steps.{Event, Entry}
-use Rattle.fabric_module.specs.Names.{port_name, output_name, register_name, read_name, memory_name, wire_name}
+use Rattle.fabric_module.specs.Names.{input_port_name, output_name, register_name, read_name, memory_name, wire_name}
 
 -- exactly these names have values, in this order, and the values are these
 pub record HasValues {A : Type 0} (entries : List (List ℕ × A)) (names : List (List ℕ)) (values : List A) : Type 0 where
@@ -24,10 +24,10 @@ pub record HasWires (fabric : Fabric) (v : List Bool) (wires : List (List ℕ ×
   pub only : (wire : List ℕ × Bool) → Contains wires wire
       → (class : ℕ) × (is_driven fabric class ≡ true) × (wire.0 ≡ wire_name class) × (wire.1 ≡ bit_in v class)
 
--- An entry of a fabric and an entry of a module match, if the ports of input pins and of outputs have these names: the module's inputs have
--- the values of the pins, and its outputs the values of the outputs, in the order of the ports; its registers and memories have the values
+-- An entry of a fabric and an entry of a module match, if input ports and outputs have these names: the module's inputs have
+-- the values of the input ports, and its outputs the values of the outputs, in the order of the ports; its registers and memories have the values
 -- of the state, and its wires the values of the nets.
-pub record MatchesAs (input_name : Pin → List ℕ) (name_of : Output → List ℕ) (fabric : Fabric) (entry : Entry) (other : ModuleEntry) : Type 0 where
+pub record MatchesAs (input_name : InputPort → List ℕ) (name_of : Output → List ℕ) (fabric : Fabric) (entry : Entry) (other : ModuleEntry) : Type 0 where
   pub inputs : HasValues other.inputs (map input_name (inputs_of fabric)) entry.pins
   pub outputs : HasValues other.outputs (map name_of (outputs_of fabric)) entry.outputs
   pub registers : HasValues other.registers (map register_name fabric.registers) entry.state.bits
@@ -37,7 +37,7 @@ pub record MatchesAs (input_name : Pin → List ℕ) (name_of : Output → List 
 
 -- the same with the port names of the module that is written for the fabric
 abbrev pub Matches : Fabric → Entry → ModuleEntry → Type 0
-Matches fabric entry other = MatchesAs port_name output_name fabric entry other
+Matches fabric entry other = MatchesAs input_port_name output_name fabric entry other
 
 -- an event of a fabric as an event of its module
 abbrev pub module_event : Event → ModuleEvent

@@ -1,7 +1,11 @@
 -- The names in a module that is written for a fabric.
 use Rattle.std.specs.Prelude.{ℕ, List, ◌++◌, codes, decimal, if◌then◌else◌}
-use Rattle.fabric_model.specs.declared.driver.ClockUser.{ClockUser}
-use Rattle.fabric_model.specs.declared.driver.ClockUser.TheVariants.{Cell, Input, Output, Read, Write}
+use Rattle.fabric_model.specs.declared.input_port.InputPort.{InputPort}
+use Rattle.fabric_model.specs.declared.input_port.InputPort.TheVariants.{Pad, Outside}
+use Rattle.fabric_model.specs.declared.register.PinRegister.{PinRegister}
+use Rattle.fabric_model.specs.declared.register.PinRegister.TheVariants as kind
+use Rattle.fabric_model.specs.declared.register.RegisterKind.{RegisterKind}
+use Rattle.fabric_model.specs.declared.register.RegisterKind.TheVariants.{FlipFlop, OfPin}
 use Rattle.fabric_model.specs.declared.register.Register.{Register}
 use Rattle.fabric_model.specs.declared.ram.RamCell.{RamCell}
 use Rattle.fabric_model.specs.declared.pin.Pin.{Pin}
@@ -15,11 +19,15 @@ two_numbers x y = decimal x ++ (codes "_" ++ decimal y)
 unfoldable pub three_numbers : ℕ → ℕ → ℕ → List ℕ
 three_numbers x y n = decimal x ++ (codes "_" ++ (decimal y ++ (codes "_" ++ decimal n)))
 
--- the port of a pin: `io_X_Y_N`
-unfoldable pub port_name : Pin → List ℕ
-port_name pin = codes "io_" ++ three_numbers pin.x pin.y pin.n
+-- the port of pin n of the tile at (x, y): `io_X_Y_N`
+unfoldable pub pad_name : ℕ → ℕ → ℕ → List ℕ
+pad_name x y n = codes "io_" ++ three_numbers x y n
 
--- the port that is the output enable of a tri-state pin: `io_X_Y_N_en`
+-- the port at which a pin puts out what it drives its pad with
+abbrev pub port_name : Pin → List ℕ
+port_name pin = pad_name pin.x pin.y pin.n
+
+-- the port that is the output enable of a pin that drives its pad at times: `io_X_Y_N_en`
 unfoldable pub enable_name : Pin → List ℕ
 enable_name pin = port_name pin ++ codes "_en"
 
@@ -27,25 +35,39 @@ enable_name pin = port_name pin ++ codes "_en"
 abbrev pub output_name : OutputPort → List ℕ
 output_name output = if output.enable then enable_name output.pin else port_name output.pin
 
--- the beginning of a register's name, by what it is; the ports of RAMs aren't registers of one bit
-abbrev pub user_prefix : ClockUser → List ℕ
-user_prefix (Cell i) = codes "ff_"
-user_prefix (Input n) = codes "pi_"
-user_prefix (Output n) = codes "po_"
-user_prefix Read = codes "ff_"
-user_prefix Write = codes "ff_"
+-- the port at which such a pin gets what the outside puts on its pad: `io_X_Y_N_in`
+unfoldable pub outside_name : ℕ → ℕ → ℕ → List ℕ
+outside_name x y n = pad_name x y n ++ codes "_in"
+
+-- an input port
+abbrev pub input_port_name : InputPort → List ℕ
+input_port_name (Pad x y n) = pad_name x y n
+input_port_name (Outside x y n) = outside_name x y n
+
+-- the beginning of the name of a register of a pin
+abbrev pub pin_prefix : PinRegister → List ℕ
+pin_prefix kind.Input = codes "pi_"
+pin_prefix kind.SecondInput = codes "pj_"
+pin_prefix kind.InputClockEnable = codes "ci_"
+pin_prefix kind.Output = codes "po_"
+pin_prefix kind.SecondOutput = codes "pq_"
+pin_prefix kind.OutputClockEnable = codes "co_"
+pin_prefix kind.OutputEnable = codes "pe_"
+
+-- the beginning of a register's name
+abbrev pub register_prefix : RegisterKind → List ℕ
+register_prefix (FlipFlop i) = codes "ff_"
+register_prefix (OfPin n register) = pin_prefix register
 
 -- the number of a register in its tile
-abbrev pub user_number : ClockUser → ℕ
-user_number (Cell i) = i
-user_number (Input n) = n
-user_number (Output n) = n
-user_number Read = 0
-user_number Write = 0
+abbrev pub register_number : RegisterKind → ℕ
+register_number (FlipFlop i) = i
+register_number (OfPin n register) = n
 
--- a register: `ff_X_Y_I` for the flip-flop of a cell, `pi_X_Y_N` for the register of an input pin, `po_X_Y_N` for that of an output pin
+-- a register: `ff_X_Y_I` for the flip-flop of a cell; for a register of a pin `pi_X_Y_N`, `pj_X_Y_N`, `ci_X_Y_N`, `po_X_Y_N`, `pq_X_Y_N`,
+-- `co_X_Y_N` or `pe_X_Y_N`, by what it is
 unfoldable pub register_name : Register → List ℕ
-register_name register = user_prefix register.user ++ three_numbers register.x register.y (user_number register.user)
+register_name register = register_prefix register.kind ++ three_numbers register.x register.y (register_number register.kind)
 
 -- the read register of a RAM: `rd_X_Y`
 unfoldable pub read_name : RamCell → List ℕ

@@ -18,7 +18,7 @@ use Rattle.fabric_model.specs.Fabric.{Fabric, inputs_of}
 use Rattle.fabric_model.specs.Drivers.{Rule, Drive, drivers_of}
 use Rattle.fabric_model.specs.Drivers.Rule.{pin_bit, constant, input, table_entry, majority_of, register_bit, read_bit, copied}
 use Rattle.fabric_model.specs.Values.{is_connected}
-use Rattle.fabric_module.specs.Names.{port_name, register_name, read_name, wire_name}
+use Rattle.fabric_module.specs.Names.{input_port_name, register_name, read_name, wire_name}
 
 -- ---- atoms
 
@@ -41,9 +41,9 @@ port_atoms fabric ports = map (atom_or_0 fabric) ports
 
 -- ---- names by indexes
 
--- the port of the input pin with an index
+-- the input port with an index
 abbrev pub input_name : Fabric → ℕ → List ℕ
-input_name fabric place = get_or (map port_name (inputs_of fabric)) place []
+input_name fabric place = get_or (map input_port_name (inputs_of fabric)) place []
 
 -- the read register of the used RAM with an index
 abbrev pub read_at : Fabric → ℕ → List ℕ
@@ -55,7 +55,7 @@ register_at fabric place = get_or (map register_name fabric.registers) place []
 
 -- ---- what inputs read
 
--- a net, the port of an input pin, or a register
+-- a net, an input port, or a register
 abbrev pub signal_atom : Fabric → Signal → Atom
 signal_atom fabric (signal.Net net otherwise) = input_atom fabric otherwise net
 signal_atom fabric (signal.Input place) = Whole (input_name fabric place)

@@ -8,19 +8,21 @@ use Rattle.vlog_module.specs.declared.modules.Port.{Port}
 use Rattle.fabric_model.specs.declared.register.Register.{Register}
 use Rattle.fabric_model.specs.declared.ram.RamCell.{RamCell}
 use Rattle.fabric_model.specs.declared.pin.Pin.{Pin}
-use Rattle.fabric_model.specs.Tiles.{each_below}
-use Rattle.fabric_model.specs.Pins.{is_tri_state}
+use Rattle.fabric_model.specs.declared.input_port.InputPort.{InputPort}
+use Rattle.fabric_model.specs.Tiles.{each_below, item_if}
+use Rattle.fabric_model.specs.Pins.{drives, is_switched}
+use Rattle.fabric_model.specs.InputPorts.{pin_inputs}
 use Rattle.fabric_model.specs.Fabric.{Fabric, numbered}
 use Rattle.fabric_model.specs.Outputs.{Output, outputs_of}
 use Rattle.fabric_model.specs.ClockLuts.{turned_bit}
 use Rattle.fabric_model.specs.Clocks.{ClockEnd, is_turned, clock_end}
 use Rattle.fabric_model.specs.Clocks.ClockEnd.{at_pin, still, logic}
-use Rattle.fabric_module.specs.Names.{port_name, enable_name, output_name, register_name, read_name, memory_name, wire_name}
+use Rattle.fabric_module.specs.Names.{port_name, enable_name, input_port_name, output_name, register_name, read_name, memory_name, wire_name}
 use Rattle.fabric_module.specs.Rights.{atom_or_0, atom_or_1, port_atoms, lut_of, input_name, setting_wire, pattern_of, shift_atoms, data_atoms, signal_atom, class_right}
 
 -- ---- clocks
 
--- the port of the pin at which a clock chain ends, if it ends at one
+-- the input port at which a clock chain ends, if it ends at one
 abbrev pub end_name : Fabric → ClockEnd → Option (List ℕ)
 end_name fabric (at_pin place turned) = Some (input_name fabric place)
 end_name fabric (still bit) = None
@@ -44,16 +46,17 @@ clocked (Some clock) item = item clock ∷ []
 
 -- ---- items
 
-abbrev pub port_of : Pin → Port
-port_of pin = record { name = port_name pin; output = pin.output }
+-- an output port of a pin
+abbrev pub output_port : List ℕ → Port
+output_port name = record { name = name; output = true }
 
--- the output enable of a tri-state pin as a port
-abbrev pub enable_ports : Pin → List Port
-enable_ports pin = if is_tri_state pin then record { name = enable_name pin; output = true } ∷ [] else []
+abbrev pub input_port : InputPort → Port
+input_port port = record { name = input_port_name port; output = false }
 
--- the ports of a pin
+-- the ports of a pin in their order: its output and its output enable, if it has them, and its input port
 abbrev pub pin_ports : Pin → List Port
-pin_ports pin = port_of pin ∷ enable_ports pin
+pin_ports pin =
+    item_if (drives pin) (output_port (port_name pin)) ++ (item_if (is_switched pin) (output_port (enable_name pin)) ++ map input_port (pin_inputs pin))
 
 -- a register, which starts at 0
 abbrev pub register_item : Register → Item

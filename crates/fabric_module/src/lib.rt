@@ -8,4 +8,6 @@ mod law;
 mod names;
 
 pub use law::module_is_fabric;
-pub use names::{enable_name, memory_name, port_name, read_name, register_name, wire_name};
+pub use names::{
+    enable_name, input_port_name, memory_name, port_name, read_name, register_name, wire_name,
+};

@@ -1,29 +1,35 @@
 // The names of a module that is written for a design.
 ghost use Rattle.std.specs.Prelude.{◌≡◌, ◌≤◌, ◌+◌, ◌++◌, length, IfOk};
-ghost use Rattle.fabric_module.specs.Names.{two_numbers, three_numbers, port_name, enable_name, user_prefix, user_number, register_name, read_name, memory_name, wire_name};
+ghost use Rattle.fabric_module.specs.Names.{two_numbers, three_numbers, pad_name, port_name, enable_name, outside_name, input_port_name, pin_prefix, register_prefix, register_number, register_name, read_name, memory_name, wire_name};
 
-use fabric_model::{ClockUser, Pin, RamCell, Register, ShortText};
+use fabric_model::{InputPort, Pin, PinRegister, RamCell, Register, RegisterKind, ShortText};
 use std::alloc::{AllocError, Global};
 use vlog_module::Name;
 
-/// The name of a pin's port: `io_X_Y_N`.
-///
-/// # Errors
-/// `AllocError` if memory is out, and for no other cause.
-#[tactic(auto, unfolding(crate::specs::Names::port_name))]
-pub fn port_name(alloc: Global, pin: &Pin) -> Result<Name, AllocError>
-    ensures { IfOk result (λ name. name ≡ port_name pin.now) }
+/// The name of the port of pin `n` of the tile at (x, y): `io_X_Y_N`.
+#[tactic(auto, unfolding(crate::specs::Names::pad_name))]
+fn pad_name(alloc: Global, x: u8, y: u8, n: u8) -> Result<Name, AllocError>
+    ensures { IfOk result (λ name. name ≡ pad_name x y n) }
 {
-    let (x, y, n) = (pin.x, pin.y, pin.n);
     let text = three_numbers(b"io_", x, y, n);
     Name::new(alloc, text.bytes())
 }
 
-/// The name of the port that is the output enable of a tri-state pin: `io_X_Y_N_en`.
+/// The name of the port of a pin that is an output: `io_X_Y_N`.
 ///
 /// # Errors
 /// `AllocError` if memory is out, and for no other cause.
-#[tactic(auto, unfolding(crate::specs::Names::enable_name, crate::specs::Names::port_name))]
+pub fn port_name(alloc: Global, pin: &Pin) -> Result<Name, AllocError>
+    ensures { IfOk result (λ name. name ≡ port_name pin.now) }
+{
+    pad_name(alloc, pin.x, pin.y, pin.n)
+}
+
+/// The name of the port that is the output enable of a pin: `io_X_Y_N_en`.
+///
+/// # Errors
+/// `AllocError` if memory is out, and for no other cause.
+#[tactic(auto, unfolding(crate::specs::Names::enable_name, crate::specs::Names::pad_name))]
 pub fn enable_name(alloc: Global, pin: &Pin) -> Result<Name, AllocError>
     ensures { IfOk result (λ name. name ≡ enable_name pin.now) }
 {
@@ -33,7 +39,31 @@ pub fn enable_name(alloc: Global, pin: &Pin) -> Result<Name, AllocError>
     Name::new(alloc, text.bytes())
 }
 
-/// The name of a register: `ff_X_Y_I` for a cell, `pi_X_Y_N` for an input pin, `po_X_Y_N` for an output pin.
+/// The name of the port at which a pin gets what the outside puts on its pad: `io_X_Y_N_in`.
+#[tactic(auto, unfolding(crate::specs::Names::outside_name, crate::specs::Names::pad_name))]
+fn outside_name(alloc: Global, x: u8, y: u8, n: u8) -> Result<Name, AllocError>
+    ensures { IfOk result (λ name. name ≡ outside_name x y n) }
+{
+    let mut text = three_numbers(b"io_", x, y, n);
+    text.push(b"_in");
+    Name::new(alloc, text.bytes())
+}
+
+/// The name of an input port: `io_X_Y_N`, or `io_X_Y_N_in` for what the outside puts on the pad of a pin that drives it at times.
+///
+/// # Errors
+/// `AllocError` if memory is out, and for no other cause.
+pub fn input_port_name(alloc: Global, port: &InputPort) -> Result<Name, AllocError>
+    ensures { IfOk result (λ name. name ≡ input_port_name port.now) }
+{
+    match *port {
+        InputPort::Pad { x, y, n } => pad_name(alloc, x, y, n),
+        InputPort::Outside { x, y, n } => outside_name(alloc, x, y, n),
+    }
+}
+
+/// The name of a register: `ff_X_Y_I` for a cell; for a pin `pi_X_Y_N`, `pj_X_Y_N`, `ci_X_Y_N`, `po_X_Y_N`, `pq_X_Y_N`, `co_X_Y_N` or
+/// `pe_X_Y_N`, by what it is.
 ///
 /// # Errors
 /// `AllocError` if memory is out, and for no other cause.
@@ -41,30 +71,43 @@ pub fn enable_name(alloc: Global, pin: &Pin) -> Result<Name, AllocError>
 pub fn register_name(alloc: Global, register: &Register) -> Result<Name, AllocError>
     ensures { IfOk result (λ name. name ≡ register_name register.now) }
 {
-    let (x, y, n) = (register.x, register.y, user_number(register.user));
-    let text = three_numbers(user_prefix(register.user), x, y, n);
+    let (x, y, n) = (register.x, register.y, register_number(register.kind));
+    let text = three_numbers(register_prefix(register.kind), x, y, n);
     Name::new(alloc, text.bytes())
 }
 
-/// The beginning of a register's name. The ports of RAMs aren't registers of one bit.
-fn user_prefix(user: ClockUser) -> &'static [u8]
-    ensures { result.now ≡ user_prefix user }
+/// The beginning of a register's name.
+fn register_prefix(kind: RegisterKind) -> &'static [u8]
+    ensures { result.now ≡ register_prefix kind }
 {
-    match user {
-        ClockUser::Cell { .. } | ClockUser::Read | ClockUser::Write => b"ff_",
-        ClockUser::Input { .. } => b"pi_",
-        ClockUser::Output { .. } => b"po_",
+    match kind {
+        RegisterKind::FlipFlop { .. } => b"ff_",
+        RegisterKind::OfPin { register, .. } => pin_prefix(register),
     }
 }
 
-/// The number of a register's user in its tile.
-fn user_number(user: ClockUser) -> u8
-    ensures { result ≡ user_number user }
+/// The beginning of the name of a register of a pin.
+fn pin_prefix(register: PinRegister) -> &'static [u8]
+    ensures { result.now ≡ pin_prefix register }
 {
-    match user {
-        ClockUser::Cell { i } => i,
-        ClockUser::Input { n } | ClockUser::Output { n } => n,
-        ClockUser::Read | ClockUser::Write => 0,
+    match register {
+        PinRegister::Input => b"pi_",
+        PinRegister::SecondInput => b"pj_",
+        PinRegister::InputClockEnable => b"ci_",
+        PinRegister::Output => b"po_",
+        PinRegister::SecondOutput => b"pq_",
+        PinRegister::OutputClockEnable => b"co_",
+        PinRegister::OutputEnable => b"pe_",
+    }
+}
+
+/// The number of a register in its tile.
+fn register_number(kind: RegisterKind) -> u8
+    ensures { result ≡ register_number kind }
+{
+    match kind {
+        RegisterKind::FlipFlop { i } => i,
+        RegisterKind::OfPin { n, .. } => n,
     }
 }
 

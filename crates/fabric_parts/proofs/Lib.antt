@@ -1,3 +1,5 @@
+-- nets that are below a number of nets
+pub mod Inside
 -- nets that are set
 pub mod CellsFound
 -- cells and carry inputs by tile are those of the list of tiles
@@ -6,11 +8,11 @@ pub mod CellsListed
 pub mod Named
 -- what gives a global its value, and pins at pads
 pub mod Sources
--- lists over io tiles
+-- the pins of all io tiles
+pub mod PinRecords
+-- why pins aren't taken, by the lists of io tiles and their pins
 pub mod PinsListed
 -- the upper tile of a RAM
 pub mod Upper
 -- lists over used RAMs
 pub mod RamsListed
--- the registers of pins are those of the pins that are registered
-pub mod RegistersListed

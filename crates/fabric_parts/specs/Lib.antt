@@ -1,4 +1,5 @@
 pub mod Globals
+pub mod PinRecords
 pub mod PinFaults
 pub mod Rams
 pub mod RamFaults

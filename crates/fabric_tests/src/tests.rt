@@ -19,7 +19,9 @@ mod rams;
 
 use chipdb_reader::{ChipDb, PinXy};
 use fabric::{Design, FabricFault, LinkEnds, design, design_with};
-use fabric_model::{Driver, GlobalNet, Links, LutInputs, Pin, RamCell, Register, links};
+use fabric_model::{
+    Driver, FabricOptions, GlobalNet, InputPort, Links, LutInputs, Pin, RamCell, Register, links,
+};
 use fabric_parts::{cells as find_cells, pins as find_pins, rams as find_rams};
 use fabric_wiring::{ClockEnd, Output};
 use ice_image::AnyImage;
@@ -40,20 +42,26 @@ struct Case<'a> {
     more: &'a [SampleBit],
     /// Whether the pad of global network 2 drives it.
     pad: bool,
-    /// Which inputs LUTs read.
-    lut_inputs: LutInputs,
+    /// Which inputs LUTs read, and whether pins of every kind are taken.
+    options: FabricOptions,
     gives: Gives<'a>,
 }
 
+/// No options: LUTs read all of their inputs, and not pins of every kind are taken.
+const NO_OPTIONS: FabricOptions = FabricOptions {
+    lut_inputs: LutInputs::All,
+    all_pins: false,
+};
+
 impl<'a> Case<'a> {
-    /// A case without more bits, in which no pad drives global network 2 and LUTs read all of their inputs.
+    /// A case without more bits and without options, in which no pad drives global network 2.
     fn of(text: &'a [u8], bits: &'a [SampleBit], gives: Gives<'a>) -> Case<'a> {
         Case {
             text,
             bits,
             more: &[],
             pad: false,
-            lut_inputs: LutInputs::All,
+            options: NO_OPTIONS,
             gives,
         }
     }
@@ -132,7 +140,7 @@ fn has_links(links: &Links, gives: Gives) -> bool {
 
 /// Whether the links are the expected ones, if links are expected.
 fn gives_links(alloc: Global, db: &ChipDb, image: &AnyImage, gives: Gives) -> bool {
-    match links(alloc, db, image) {
+    match links(alloc, db, image, false) {
         Ok(links) => has_links(&links, gives),
         Err(_) => false,
     }
@@ -183,16 +191,19 @@ fn is_refused(fault: &FabricFault, gives: Gives) -> bool {
     }
 }
 
-/// The design whose LUTs read these inputs.
+/// The design with these options.
 fn design_by(
     alloc: Global,
     db: &ChipDb,
     image: &AnyImage,
-    lut_inputs: LutInputs,
+    options: FabricOptions,
 ) -> Result<Design, FabricFault> {
-    match lut_inputs {
-        LutInputs::All => design(alloc, db, image),
-        LutInputs::Used => design_with(alloc, db, image, lut_inputs),
+    match options {
+        FabricOptions {
+            lut_inputs: LutInputs::All,
+            all_pins: false,
+        } => design(alloc, db, image),
+        _ => design_with(alloc, db, image, options),
     }
 }
 
@@ -201,11 +212,11 @@ fn gives_design(
     alloc: Global,
     db: &ChipDb,
     image: &AnyImage,
-    lut_inputs: LutInputs,
+    options: FabricOptions,
     gives: Gives,
 ) -> bool {
-    match design_by(alloc, db, image, lut_inputs) {
-        Ok(design) => design.lut_inputs() == lut_inputs && has_parts(alloc, &design, gives),
+    match design_by(alloc, db, image, options) {
+        Ok(design) => design.options() == options && has_parts(alloc, &design, gives),
         Err(fault) => is_refused(&fault, gives),
     }
 }
@@ -214,20 +225,20 @@ fn holds(
     alloc: Global,
     db: &ChipDb,
     image: &AnyImage,
-    lut_inputs: LutInputs,
+    options: FabricOptions,
     gives: Gives,
 ) -> bool {
     match gives {
         Gives::Links { .. } => gives_links(alloc, db, image, gives),
         Gives::Calls => gives_calls(alloc, db, image),
-        _ => gives_design(alloc, db, image, lut_inputs, gives),
+        _ => gives_design(alloc, db, image, options, gives),
     }
 }
 
-/// Whether there is one pin, pin 0 of the tile at (0, 1).
-fn is_first_pin(pins: &[Pin]) -> bool {
-    match pins {
-        [pin] => (pin.x, pin.y, pin.n) == (0, 1, 0),
+/// Whether there is one input port, pin 0 of the tile at (0, 1).
+fn is_first_pin(inputs: &[InputPort]) -> bool {
+    match inputs {
+        [input] => *input == (InputPort::Pad { x: 0, y: 1, n: 0 }),
         _ => false,
     }
 }
@@ -265,7 +276,7 @@ fn finds_pins(alloc: Global, db: &ChipDb, image: &AnyImage, links: &Links, desig
     requires device { db.now.chip.device ≡ (configuration_of image.now).layout.device }
     requires links { AreLinks (database_in db.now) (configuration_of image.now) links.now }
 {
-    match find_pins(alloc, db, image, links) {
+    match find_pins(alloc, db, image, links, false) {
         Ok(found) => found.pins.as_slice() == design.pins()
             && found.globals.as_slice() == design.globals(),
         Err(_) => false,
@@ -293,7 +304,7 @@ fn finds_cells(alloc: Global, db: &ChipDb, image: &AnyImage, design: &Design) ->
 
 /// Whether all parts that are found without a design are those of the design.
 fn finds_parts(alloc: Global, db: &ChipDb, image: &AnyImage, design: &Design) -> bool {
-    match links(alloc, db, image) {
+    match links(alloc, db, image, false) {
         Ok(links) => {
             finds_pins(alloc, db, image, &links, design)
                 && finds_rams(alloc, db, image, &links, design)
@@ -317,7 +328,7 @@ fn is_so_in(alloc: Global, db: &ChipDb, case: Case) -> bool {
         Ok(mut image) => {
             set_bits(&mut image, case.more);
             set_pad(&mut image, case.pad);
-            holds(alloc, db, &image, case.lut_inputs, case.gives)
+            holds(alloc, db, &image, case.options, case.gives)
         }
         Err(_) => false,
     }

@@ -1,5 +1,5 @@
 -- The answer for an image and a database, if they are counted and if they are refused.
-use Rattle.std.proofs.Common.{◌≡◌, ℕ, List, refl, sym, ap, ◌∙◌}
+use Rattle.std.proofs.Common.{◌≡◌, ℕ, Bool, List, refl, sym, ap, ◌∙◌}
 use Rattle.std.specs.Prelude.{Option, None, Some}
 use Rattle.ice_image.specs.Configuration.{Configuration}
 use Rattle.chipdb_reader.specs.Database.{Database}
@@ -28,19 +28,19 @@ cause-told cause (Rams (rams.Cascade x y)) one is told = is ∙ told
 cause-told cause (Rams (rams.Memory failed)) one is told = absurd is
 cause-told cause (OutOfMemory failed) one is told = cc
 
-module _ (db : Database) (image : Configuration) where
+module _ (all : Bool) (db : Database) (image : Configuration) where
   -- a tool that tells the fault stops as it has to
-  stops-told : (cause told : Option Fault) (stop : Stop) → ((one : Fault) → told ≡ Some one → cause ≡ Some one) → StopsFor told stop → StopsWith (counted_with db image cause) stop
-  stops-told cause (Some fault) (Refused refusal) same stops = ap (counted_with db image) (same fault refl) ∙ ap Refuses stops
+  stops-told : (cause told : Option Fault) (stop : Stop) → ((one : Fault) → told ≡ Some one → cause ≡ Some one) → StopsFor told stop → StopsWith (counted_with all db image cause) stop
+  stops-told cause (Some fault) (Refused refusal) same stops = ap (counted_with all db image) (same fault refl) ∙ ap Refuses stops
   stops-told cause None Memory same stops = tt
   stops-told cause (Some fault) (UsageError refusal) same stops = absurd stops
   stops-told cause (Some fault) Memory same stops = tt
   stops-told cause None (Refused refusal) same stops = absurd stops
   stops-told cause None (UsageError refusal) same stops = absurd stops
 
-  pub stops_counted : (cause : Option Fault) (fault : StatFault) (stop : Stop) → IsCause cause fault → StopsFor (told_fault (of_counts fault)) stop → StopsWith (counted_with db image cause) stop
+  pub stops_counted : (cause : Option Fault) (fault : StatFault) (stop : Stop) → IsCause cause fault → StopsFor (told_fault (of_counts fault)) stop → StopsWith (counted_with all db image cause) stop
   stops_counted cause fault stop is stops = stops-told cause (told_fault (of_counts fault)) stop (λ one told. cause-told cause fault one is told) stops
 
   -- the text of the counts, if nothing is wrong
-  pub counted_done : (text : List ℕ) → stat_fault db image ≡ None → text ≡ stat_text (counts_of db image) → counted db image ≡ Done text
-  counted_done text taken is = ap (counted_with db image) taken ∙ ap Done (sym is)
+  pub counted_done : (text : List ℕ) → stat_fault all db image ≡ None → text ≡ stat_text (counts_of all db image) → counted all db image ≡ Done text
+  counted_done text taken is = ap (counted_with all db image) taken ∙ ap Done (sym is)

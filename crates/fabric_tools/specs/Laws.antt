@@ -1,9 +1,10 @@
 -- Laws of the command lines of `icebox_explain` and `icebox_stat`: each command is simple, as `clap`'s statement needs it, and each task
 -- has the name of its tool.
-use Rattle.std.specs.Prelude.{◌≡◌, true, List, codes, refl, Option, None, Some}
+use Rattle.std.specs.Prelude.{◌≡◌, Bool, true, List, codes, refl, Option, None, Some}
 use Rattle.clap.specs.Words.{Row, Text, first_of, is_simple_and_free}
 use Rattle.clap.proofs.OnLiterals.{clap_on_literals}
 use Rattle.asc_text.specs.declared.fault.TileXy.{TileXy}
+use Rattle.tool_inputs.specs.Commands.{has_flag}
 use Rattle.fabric_tools.specs.Explain.{explain_command, explain_name, explain_task_by, explain_task_of, tile_given}
 use Rattle.fabric_tools.specs.Stat.{stat_command, stat_name, stat_task_by, stat_task_of}
 
@@ -25,9 +26,9 @@ pub stat-simple : is_simple_and_free stat_command ≡ true
 unfolding clap_on_literals
 stat-simple = refl
 
-stat_of-speaks : (layout db image : Option Text) → (stat_task_of layout db image).tool_name ≡ stat_name
-stat_of-speaks layout (Some db) image = refl
-stat_of-speaks layout None image = refl
+stat_of-speaks : (all : Bool) (layout db image : Option Text) → (stat_task_of all layout db image).tool_name ≡ stat_name
+stat_of-speaks all layout (Some db) image = refl
+stat_of-speaks all layout None image = refl
 
 pub stat-speaks : (rows : List Row) → (stat_task_by rows).tool_name ≡ stat_name
-stat-speaks rows = stat_of-speaks (first_of (codes "layout") rows) (first_of (codes "db") rows) (first_of (codes "image") rows)
+stat-speaks rows = stat_of-speaks (has_flag (codes "all-pins") rows) (first_of (codes "layout") rows) (first_of (codes "db") rows) (first_of (codes "image") rows)

@@ -17,22 +17,24 @@ use ice_image::AnyImage;
 use image_stat::stat;
 use std::alloc::{AllocError, Global};
 use tool_inputs::{
-    CommandLine, DB_LIMIT, DesignInput, IMAGE_LIMIT, Words, long_option, positional, required,
-    run_tool, value, with,
+    CommandLine, DB_LIMIT, DesignInput, IMAGE_LIMIT, Words, has_flag, long_flag, long_option,
+    positional, required, run_tool, value, with,
 };
 use tool_run::{Host, Job, Load, PieceTool, Stop};
 
 /// The command line of `icebox_stat`.
-pub const ICEBOX_STAT_USAGE: &str = "icebox_stat [--layout FILE] DB [IMAGE]";
+pub const ICEBOX_STAT_USAGE: &str = "icebox_stat [--all-pins] [--layout FILE] DB [IMAGE]";
 
 /// The help of `icebox_stat`, at most 80 columns wide.
 pub const ICEBOX_STAT_HELP: &str = "\
 icebox_stat: counts what an image uses of its device, by a chip database.
 
-Usage: icebox_stat [--layout FILE] DB [IMAGE]
+Usage: icebox_stat [--all-pins] [--layout FILE] DB [IMAGE]
 
   DB        the chip database of the image's device
   IMAGE     a bitstream (.bin) or a text (.asc); standard input if it is missing
+  --all-pins
+            takes pins of every kind, apart from the few that PinMode names
   --layout FILE
             the layout file; the standard layout if it is missing
 
@@ -64,7 +66,11 @@ fault. An image is refused for these causes, looked for in this order:
   Device        the database is for another device: take the one for yours
   Pll           a PLL is used
   PinMode       a pin of a kind that isn't taken; the six digits are the bits of
-                its type
+                its type, PIN_TYPE. With --all-pins there are three such kinds:
+                the last digit but one is 1 and D_IN_0 is used, which a latch
+                may hold; or the pin is the pad of a global network and drives
+                that pad too, so the first two digits aren't 00; or its tile has
+                LVDS, and it isn't pin 0 as an input
   Cascade       block RAMs that are chained
 
 Exit status: 0 done; 1 FILE, the database or the image is refused, with its
@@ -74,7 +80,10 @@ first fault; 2 the command line isn't taken; 3 reading failed; 4 writing failed;
 
 /// Counts what an image uses, by a database. The image is read under the layouts of a layout file if one is named.
 #[derive(Clone, Copy, Debug, PartialEq, Eq)]
-pub(crate) struct Counting;
+pub(crate) struct Counting {
+    /// Whether pins of every kind are taken.
+    pub(crate) all_pins: bool,
+}
 
 impl PieceTool for Counting {
     ghost use Rattle.tool_inputs.specs.DesignInput.{TakesInput, fed_input};
@@ -84,7 +93,7 @@ impl PieceTool for Counting {
 
     type Made = Vec<u8>;
 
-    ghost answer_of = { λ tool layout texts. stat_answer layout texts };
+    ghost answer_of = { λ tool layout texts. stat_answer tool.all_pins layout texts };
 
     ghost takes = { λ tool layout texts intake bytes. TakesInput layout texts intake bytes };
 
@@ -103,38 +112,48 @@ impl PieceTool for Counting {
     }
 
     fn finish(&self, alloc: Global, intake: DesignInput) -> Result<Vec<u8>, Stop<'_>> {
-        counted_text(alloc, intake)
+        counted_text(alloc, self.all_pins, intake)
     }
 }
 
 // The text of the counts, after the last piece of the image.
-fn counted_text(alloc: Global, intake: DesignInput) -> Result<Vec<u8>, Stop<'static>>
+fn counted_text(
+    alloc: Global,
+    all_pins: bool,
+    intake: DesignInput,
+) -> Result<Vec<u8>, Stop<'static>>
     ensures bytes { IfOk result (λ bytes. (layout : Option (List ℕ)) (texts : List (List ℕ)) → TakesInput layout texts intake []
-        → stat_answer layout texts ≡ Done bytes.items) }
+        → stat_answer all_pins layout texts ≡ Done bytes.items) }
     ensures stops { IfErr result (λ stop. (layout : Option (List ℕ)) (texts : List (List ℕ)) → TakesInput layout texts intake []
-        → StopsWith (stat_answer layout texts) stop) }
+        → StopsWith (stat_answer all_pins layout texts) stop) }
 {
     match intake.read(alloc) {
-        Ok((db, image)) => count_text(alloc, &db, &image),
+        Ok((db, image)) => count_text(alloc, &db, &image, all_pins),
         Err(stop) => Err(stop),
     }
 }
 
 // The text of the counts of an image by a database.
 #[tactic(auto, using(crate::proofs::Counted::stops_counted, crate::proofs::Counted::counted_done))]
-fn count_text(alloc: Global, db: &ChipDb, image: &AnyImage) -> Result<Vec<u8>, Stop<'static>>
-    ensures bytes { IfOk result (λ bytes. counted (database_in db.now) (configuration_of image.now) ≡ Done bytes.items) }
-    ensures stops { IfErr result (StopsWith (counted (database_in db.now) (configuration_of image.now))) }
+fn count_text(
+    alloc: Global,
+    db: &ChipDb,
+    image: &AnyImage,
+    all_pins: bool,
+) -> Result<Vec<u8>, Stop<'static>>
+    ensures bytes { IfOk result (λ bytes. counted all_pins (database_in db.now) (configuration_of image.now) ≡ Done bytes.items) }
+    ensures stops { IfErr result (StopsWith (counted all_pins (database_in db.now) (configuration_of image.now))) }
 {
-    match stat(alloc, db, image) {
+    match stat(alloc, db, image, all_pins) {
         Ok(text) => Ok(text),
         Err(fault) => Err(stat_stop(fault)),
     }
 }
 
-/// What the arguments ask for: a layout file, a database and an image.
+/// What the arguments ask for: whether pins of every kind are taken, a layout file, a database and an image.
 #[derive(Clone, Copy)]
 pub(crate) struct Inputs<'a> {
+    pub(crate) all_pins: bool,
     pub(crate) layout: Option<&'a str>,
     pub(crate) db: &'a str,
     pub(crate) image: Option<&'a str>,
@@ -145,6 +164,7 @@ fn command<'a>(alloc: Global) -> Result<Command<'a>, AllocError>
     ensures { IfOk result (λ command. app_of command ≡ stat_command) }
 {
     let command = Command::new(alloc, "icebox_stat");
+    let command = with(command, long_flag(alloc, "all-pins"))?;
     let command = with(command, long_option(alloc, "layout"))?;
     let command = with(command, required(alloc, "db"))?;
     with(command, positional(alloc, "image"))
@@ -152,14 +172,20 @@ fn command<'a>(alloc: Global) -> Result<Command<'a>, AllocError>
 
 // The inputs, from what was found in the arguments: there must be a database.
 fn wanted<'a>(
+    all_pins: bool,
     layout: Option<&'a str>,
     db: Option<&'a str>,
     image: Option<&'a str>,
 ) -> Option<Inputs<'a>>
-    ensures { stat_task_for result ≡ stat_task_of (text_of layout.entry) (text_of db.entry) (text_of image.entry) }
+    ensures { stat_task_for result ≡ stat_task_of all_pins (text_of layout.entry) (text_of db.entry) (text_of image.entry) }
 {
     match db {
-        Some(db) => Some(Inputs { layout, db, image }),
+        Some(db) => Some(Inputs {
+            all_pins,
+            layout,
+            db,
+            image,
+        }),
         None => None,
     }
 }
@@ -168,10 +194,11 @@ fn wanted<'a>(
 fn inputs_in<'a>(matches: &ArgMatches<'a>) -> Option<Inputs<'a>>
     ensures { stat_task_for result ≡ stat_task_by (rows_of (found_of matches.now)) }
 {
+    let all_pins = has_flag(matches, "all-pins");
     let layout = value(matches, "layout");
     let db = value(matches, "db");
     let image = value(matches, "image");
-    wanted(layout, db, image)
+    wanted(all_pins, layout, db, image)
 }
 
 // Does what the arguments ask for: loads their files and counts.
@@ -188,12 +215,15 @@ fn count_files<H: Host>(alloc: Global, inputs: Inputs<'_>, host: &mut H) -> u8
             limit: IMAGE_LIMIT,
         },
     ];
+    let tool = Counting {
+        all_pins: inputs.all_pins,
+    };
     let job = Job {
         tool_name: "icebox_stat",
         loads: &loads,
         target: None,
     };
-    host.perform_in_pieces(alloc, &Counting, inputs.layout, &job)
+    host.perform_in_pieces(alloc, &tool, inputs.layout, &job)
 }
 
 /// `icebox_stat` by its command line.

@@ -12,6 +12,7 @@ use Rattle.plane_map.specs.declared.device.DeviceName.{DeviceName}
 use Rattle.fabric_model.specs.declared.register.Register.{Register}
 use Rattle.fabric_model.specs.declared.ram.RamCell.{RamCell}
 use Rattle.fabric_model.specs.declared.driver.ClockUser.TheVariants.{Read, Write}
+use Rattle.fabric_model.specs.Registers.{user_of as user_of_kind}
 use Rattle.fabric_model.specs.Fabric.{Fabric}
 use Rattle.fabric_model.specs.Tiles.{over_grid, item_if, first_of}
 use Rattle.fabric_model.specs.Within.{IsNetIn}
@@ -135,7 +136,7 @@ module _ (x y : ℕ) where
         let Clocks : Register → Type 0 = λ (r : Register). IsNetIn fabric.nets r.clk in
         let rest = registers-tile registers (All-tail Clocks register registers all) in
         let here = (register.x == x) && (register.y == y) in
-        let input : ClockInput = record { x = register.x; y = register.y; user = register.user; net = register.clk } in
+        let input : ClockInput = record { x = register.x; y = register.y; user = user_of_kind register.kind; net = register.clk } in
         faults-first input (flat_map register_inputs registers) (All-head Clocks register registers all) here refl
         ∙ (ap (λ l. (if here then users_fault (register_user register) else []) ++ l) rest
         ∙ sym (register-more register registers here refl))

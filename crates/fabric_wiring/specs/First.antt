@@ -5,6 +5,7 @@ use Rattle.plane_map.specs.declared.device.DeviceName.{DeviceName}
 use Rattle.fabric_model.specs.declared.register.Register.{Register}
 use Rattle.fabric_model.specs.declared.ram.RamCell.{RamCell}
 use Rattle.fabric_model.specs.declared.driver.ClockUser.TheVariants.{Read, Write}
+use Rattle.fabric_model.specs.Registers.{user_of}
 use Rattle.fabric_model.specs.Tiles.{over_grid, item_if, first_of}
 use Rattle.fabric_model.specs.Clocks.{ClockEnd}
 use Rattle.fabric_model.specs.Clocks.ClockEnd.{at_pin, still, logic}
@@ -18,7 +19,7 @@ use Rattle.fabric_wiring.specs.Ends.{end_in}
 
 -- a register as a user of its clock
 abbrev pub register_inputs : Register → List ClockInput
-register_inputs register = record { x = register.x; y = register.y; user = register.user; net = register.clk } ∷ []
+register_inputs register = record { x = register.x; y = register.y; user = user_of register.kind; net = register.clk } ∷ []
 
 -- the ports of a RAM as users of their clocks: the read port comes first
 abbrev pub ram_inputs : RamCell → List ClockInput

@@ -20,7 +20,7 @@ pub record ArePartsOf (fabric : Fabric) (parts : Parts) : Type 0 where
   pub buffers : map buffer_of parts.buffers.items ≡ fabric.buffers
   pub pins : parts.pins.items ≡ fabric.pins
   pub globals : parts.globals.items ≡ fabric.globals
-  pub lut_inputs : parts.lut_inputs ≡ fabric.lut_inputs
+  pub lut_inputs : parts.options.lut_inputs ≡ fabric.lut_inputs
   pub lcs : parts.lcs.items ≡ fabric.lcs
   pub registers : parts.registers.items ≡ fabric.registers
   pub sets : parts.sets.items ≡ fabric.sets

@@ -5,7 +5,7 @@ use fabric_model::{Driver, LutTable, Register, Signal};
 /// How a driver makes its value.
 #[derive(Clone, Copy, Debug, PartialEq, Eq)]
 pub enum Rule {
-    /// The value of the input pin with that index among the input pins of the fabric.
+    /// The value of the input port with that index among those of the fabric.
     PinBit(u32),
     /// A bit that is always the same.
     Constant(bool),

@@ -25,7 +25,7 @@ use std::alloc::{AllocError, Global};
 /// `fabout` drives, and through LUTs that follow one net.
 #[derive(Clone, Copy, Debug, PartialEq, Eq)]
 pub enum ClockEnd {
-    /// At the input pin with that index among the input pins; turned if the chain inverts the clock on its way.
+    /// At the input port with that index among the input ports; turned if the chain inverts the clock on its way.
     Pin { place: u32, turned: bool },
     /// At a bit that is always the same: at a class of joined nets without a driver, which is 0, or at a LUT whose value is always that bit.
     Still(bool),

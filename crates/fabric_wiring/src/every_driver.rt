@@ -7,13 +7,13 @@ ghost use Rattle.fabric_wiring.specs.Parts.{buffer_of, ArePartsOf};
 
 use crate::cells::{append_carries, append_louts, append_luts, append_sets};
 use crate::drive::{Drive, Rule};
+use crate::inner_nets::{append_each_data, append_pads};
 use crate::parts::{Buffer, Parts};
-use crate::pin_places::pin_places;
 use crate::pins::{append_backs, append_globals, append_pins};
 use crate::push::push_if;
 use crate::rams::append_rams;
-use crate::registers::{append_flips, append_pin_registers};
-use fabric_model::{Driver, inputs};
+use crate::registers::{append_flips, append_inputs, append_seconds, flip_count};
+use fabric_model::{Driver, PinSignals};
 use std::alloc::{AllocError, Global};
 
 /// Appends what buffers drive: their destinations.
@@ -31,19 +31,21 @@ fn append_buffers(drives: &mut Vec<Drive>, buffers: &[Buffer]) -> Result<(), All
 pub(crate) fn all_drives(alloc: Global, parts: &Parts) -> Result<Vec<Drive>, AllocError>
     ensures { IfOk result (λ drives. (fabric : Fabric) → ArePartsOf fabric parts.now → map drive_of drives.items ≡ drives_of fabric) }
 {
-    let inputs = inputs(alloc, &parts.pins)?;
-    let places = pin_places(alloc, parts)?;
+    let signals = PinSignals::new(alloc, flip_count(&parts.lcs), &parts.pins)?;
     let mut drives = Vec::new(alloc);
-    append_pins(&mut drives, &inputs)?;
-    append_backs(&mut drives, &places, &parts.pins)?;
-    append_luts(&mut drives, parts.lut_inputs, &parts.lcs)?;
+    append_pins(&mut drives, &signals, &parts.pins)?;
+    append_backs(&mut drives, &signals, &parts.pins)?;
+    append_luts(&mut drives, parts.options.lut_inputs, &parts.lcs)?;
     append_flips(&mut drives, &parts.registers)?;
-    append_louts(&mut drives, parts.lut_inputs, &parts.lcs)?;
+    append_louts(&mut drives, parts.options.lut_inputs, &parts.lcs)?;
     append_carries(&mut drives, &parts.lcs)?;
     append_sets(&mut drives, &parts.sets)?;
     append_rams(&mut drives, &parts.rams)?;
-    append_globals(&mut drives, &inputs, &parts.globals)?;
+    append_globals(&mut drives, &signals, &parts.globals)?;
     append_buffers(&mut drives, &parts.buffers)?;
-    append_pin_registers(&mut drives, &parts.registers)?;
+    append_inputs(&mut drives, &parts.registers)?;
+    append_seconds(&mut drives, &parts.registers)?;
+    append_each_data(&mut drives, &signals, &parts.pins)?;
+    append_pads(&mut drives, &signals, &parts.pins)?;
     Ok(drives)
 }

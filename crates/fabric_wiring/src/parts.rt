@@ -1,6 +1,6 @@
 // The parts of a fabric.
 
-use fabric_model::{CarrySet, GlobalNet, Links, LogicCell, LutInputs, Pin, RamCell, Register};
+use fabric_model::{CarrySet, FabricOptions, GlobalNet, Links, LogicCell, Pin, RamCell, Register};
 
 /// A buffer that is on: its index among the buffers of the database, and its two nets.
 #[derive(Clone, Copy, Debug, PartialEq, Eq)]
@@ -21,8 +21,8 @@ pub struct Parts {
     /// The pins that are ports.
     pub pins: Vec<Pin>,
     pub globals: Vec<GlobalNet>,
-    /// Which inputs the LUTs of the cells read.
-    pub lut_inputs: LutInputs,
+    /// What is taken, and which inputs the LUTs of the cells read.
+    pub options: FabricOptions,
     /// The used cells.
     pub lcs: Vec<LogicCell>,
     /// The registers: the flip-flops of the cells, then the registers of pins.

@@ -1,77 +1,100 @@
 // What pins and global networks drive.
-ghost use Rattle.std.specs.Prelude.{◌≡◌, ◌∷◌, [], ◌++◌, map, filter, flat_map, IfOk, OnOk};
-ghost use Rattle.fabric_model.specs.Fabric.{numbered};
-ghost use Rattle.fabric_model.specs.Drivers.{pin_drives, global_rule, global_drives};
+ghost use Rattle.std.specs.Prelude.{◌≡◌, ◌++◌, map, flat_map, IfOk, OnOk};
+ghost use Rattle.fabric_model.specs.PinTypes.{takes_pad};
+ghost use Rattle.fabric_model.specs.Drivers.{pin_drives, is_read_back, global_rule, global_drives};
 ghost use Rattle.fabric_wiring.specs.Drives.{drive_of, rule_of};
 ghost use Rattle.fabric_wiring.specs.Outputs.{back_from};
 
 use crate::drive::{Drive, Rule};
-use crate::pin_places::{PinPlaces, output_signal};
 use crate::push::push_if;
-use fabric_model::{Driver, GlobalFrom, GlobalNet, Pin, place_among, place_of};
+use fabric_model::{Driver, GlobalFrom, GlobalNet, InputPort, PadInput, Pin, PinSignals};
 use std::alloc::AllocError;
 
-/// Appends what an input pin drives, given its index: nothing if it has a register.
-fn append_pin(drives: &mut Vec<Drive>, place: u32, pin: Pin) -> Result<(), AllocError>
-    ensures { OnOk result (map drive_of drives.new.items ≡ map drive_of drives.old.items ++ pin_drives (place, pin)) }
+/// Whether the fabric gets the pad as it is.
+fn takes_pad(takes: PadInput) -> bool
+    ensures { result ≡ takes_pad takes }
 {
-    if pin.is_registered() {
-        return Ok(());
-    }
-    let driver = Driver::Pin {
-        x: pin.x,
-        y: pin.y,
-        n: pin.n,
-    };
-    push_if(drives, driver, Rule::PinBit(place), pin.din)
+    matches!(takes, PadInput::Plain)
 }
 
-/// Appends what input pins drive.
-pub(crate) fn append_pins(drives: &mut Vec<Drive>, inputs: &[Pin]) -> Result<(), AllocError>
-    ensures { OnOk result (map drive_of drives.new.items ≡ map drive_of drives.old.items ++ flat_map pin_drives (numbered inputs.now)) }
+/// Appends what a pin drives that never drives its pad: nothing if it doesn't take the pad as it is.
+fn append_pin(drives: &mut Vec<Drive>, signals: &PinSignals<'_>, pin: Pin) -> Result<(), AllocError>
+    ensures { OnOk result (map drive_of drives.new.items ≡ map drive_of drives.old.items ++ pin_drives signals.now.pins pin) }
 {
-    for (i, pin) in inputs.iter().enumerate() {
-        append_pin(drives, place_of(i)?, *pin)?;
+    if pin.drives() || !takes_pad(pin.takes) {
+        return Ok(());
+    }
+    let (x, y, n) = (pin.x, pin.y, pin.n);
+    let place = signals.input_place(InputPort::Pad { x, y, n })?;
+    push_if(
+        drives,
+        Driver::Pin { x, y, n },
+        Rule::PinBit(place),
+        pin.din_0,
+    )
+}
+
+/// Appends what pins drive that never drive their pads.
+pub(crate) fn append_pins(
+    drives: &mut Vec<Drive>,
+    signals: &PinSignals<'_>,
+    pins: &[Pin],
+) -> Result<(), AllocError>
+    ensures { OnOk result (map drive_of drives.new.items ≡ map drive_of drives.old.items ++ flat_map (pin_drives signals.now.pins) pins.now) }
+{
+    for pin in pins {
+        append_pin(drives, signals, *pin)?;
     }
     Ok(())
 }
 
-/// Appends the readback of an output pin, if it has one.
-fn append_back(drives: &mut Vec<Drive>, places: &PinPlaces, pin: Pin) -> Result<(), AllocError>
-    ensures { OnOk result (map drive_of drives.new.items ≡ map drive_of drives.old.items ++ flat_map (back_from places.now.flips places.now.pins.items) (filter (λ pin. pin.back) (pin ∷ []))) }
+/// Whether the fabric reads back the pad of a pin that drives it.
+fn is_read_back(pin: Pin) -> bool
+    ensures { result ≡ is_read_back pin }
 {
-    if !pin.back {
-        return Ok(());
-    }
-    let driver = Driver::Readback {
-        x: pin.x,
-        y: pin.y,
-        n: pin.n,
-    };
-    let rule = Rule::Input(output_signal(places, pin)?);
-    push_if(drives, driver, rule, pin.din)
+    pin.drives() && takes_pad(pin.takes) && (!pin.is_switched() || pin.reads_0)
 }
 
-/// Appends the readbacks of the output pins that have one.
+/// Appends the readback of a pin, if it has one.
+fn append_back(
+    drives: &mut Vec<Drive>,
+    signals: &PinSignals<'_>,
+    pin: Pin,
+) -> Result<(), AllocError>
+    ensures { OnOk result (map drive_of drives.new.items ≡ map drive_of drives.old.items ++ back_from signals.now pin) }
+{
+    if !is_read_back(pin) {
+        return Ok(());
+    }
+    let (x, y, n) = (pin.x, pin.y, pin.n);
+    let rule = Rule::Input(signals.pad_signal(pin)?);
+    push_if(drives, Driver::Readback { x, y, n }, rule, pin.din_0)
+}
+
+/// Appends the readbacks of pins.
 pub(crate) fn append_backs(
     drives: &mut Vec<Drive>,
-    places: &PinPlaces,
+    signals: &PinSignals<'_>,
     pins: &[Pin],
 ) -> Result<(), AllocError>
-    ensures { OnOk result (map drive_of drives.new.items ≡ map drive_of drives.old.items ++ flat_map (back_from places.now.flips places.now.pins.items) (filter (λ pin. pin.back) pins.now)) }
+    ensures { OnOk result (map drive_of drives.new.items ≡ map drive_of drives.old.items ++ flat_map (back_from signals.now) pins.now) }
 {
     for pin in pins {
-        append_back(drives, places, *pin)?;
+        append_back(drives, signals, *pin)?;
     }
     Ok(())
 }
 
 /// How a global network makes its value.
-fn global_rule(inputs: &[Pin], from: GlobalFrom) -> Result<Rule, AllocError>
-    ensures { IfOk result (λ rule. rule_of rule ≡ global_rule inputs.now from) }
+fn global_rule(signals: &PinSignals<'_>, from: GlobalFrom) -> Result<Rule, AllocError>
+    ensures { IfOk result (λ rule. rule_of rule ≡ global_rule signals.now.pins from) }
 {
     match from {
-        GlobalFrom::Pad { x, y, n } => Ok(Rule::PinBit(place_of(place_among(inputs, x, y, n))?)),
+        GlobalFrom::Pad { x, y, n } => Ok(Rule::PinBit(signals.input_place(InputPort::Pad {
+            x,
+            y,
+            n,
+        })?)),
         GlobalFrom::Fabout { net } => Ok(Rule::Copied(net)),
     }
 }
@@ -79,13 +102,13 @@ fn global_rule(inputs: &[Pin], from: GlobalFrom) -> Result<Rule, AllocError>
 /// Appends what global networks drive.
 pub(crate) fn append_globals(
     drives: &mut Vec<Drive>,
-    inputs: &[Pin],
+    signals: &PinSignals<'_>,
     globals: &[GlobalNet],
 ) -> Result<(), AllocError>
-    ensures { OnOk result (map drive_of drives.new.items ≡ map drive_of drives.old.items ++ flat_map (global_drives inputs.now) globals.now) }
+    ensures { OnOk result (map drive_of drives.new.items ≡ map drive_of drives.old.items ++ flat_map (global_drives signals.now.pins) globals.now) }
 {
     for global in globals {
-        let rule = global_rule(inputs, global.from)?;
+        let rule = global_rule(signals, global.from)?;
         let driver = Driver::Global {
             g: global.g,
             net: global.net,

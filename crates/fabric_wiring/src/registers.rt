@@ -1,15 +1,15 @@
 // Registers, and what they drive.
-ghost use Rattle.std.specs.Prelude.{◌≡◌, ◌++◌, map, flat_map, IfOk, OnOk, Some};
+ghost use Rattle.std.specs.Prelude.{◌≡◌, ◌++◌, length, map, filter, flat_map, IfOk, OnOk, Some};
 ghost use Rattle.fabric_model.specs.Fabric.{numbered};
 ghost use Rattle.fabric_model.specs.Registers.{table_of, register_of, registers_of};
-ghost use Rattle.fabric_model.specs.Drivers.{drives_by, flip_drives, pin_register_drives};
+ghost use Rattle.fabric_model.specs.Drivers.{drives_by, flip_drives, input_drives, second_drives};
 ghost use Rattle.fabric_wiring.specs.Drives.{drive_of};
 
 use crate::drive::{Drive, Rule};
 use crate::push::push_if;
 use fabric_model::{
-    ClockUser, Driver, LogicCell, LutInputs, LutTable, Register, inputs_read, net_or_0, net_or_1,
-    place_of,
+    Driver, LogicCell, LutInputs, LutTable, PinRegister, Register, RegisterKind, inputs_read,
+    net_or_0, net_or_1, place_of,
 };
 use std::alloc::{AllocError, Global};
 
@@ -37,7 +37,7 @@ fn register_of(inputs: LutInputs, lc: &LogicCell) -> Register
     Register {
         x: lc.x,
         y: lc.y,
-        user: ClockUser::Cell { i: lc.i },
+        kind: RegisterKind::FlipFlop { i: lc.i },
         out: lc.out,
         clk: lc.clk,
         neg: lc.neg,
@@ -70,6 +70,13 @@ pub fn registers_of(
     Ok(registers)
 }
 
+/// The number of cells with a flip-flop.
+pub(crate) fn flip_count(lcs: &[LogicCell]) -> usize
+    ensures { result ≡ length (filter (λ lc. lc.flip) lcs.now) }
+{
+    lcs.iter().filter(|lc| lc.flip).count()
+}
+
 /// Appends what a register drives, given its index among the registers and which driver it is.
 fn append_register(
     drives: &mut Vec<Drive>,
@@ -91,11 +98,11 @@ fn append_flip(drives: &mut Vec<Drive>, place: u32, register: &Register) -> Resu
     ensures { OnOk result (map drive_of drives.new.items ≡ map drive_of drives.old.items ++ flip_drives (place, register.now)) }
 {
     let (x, y) = (register.x, register.y);
-    match register.user {
-        ClockUser::Cell { i } => {
+    match register.kind {
+        RegisterKind::FlipFlop { i } => {
             append_register(drives, Driver::FlipFlop { x, y, i }, place, register)
         }
-        _ => Ok(()),
+        RegisterKind::OfPin { .. } => Ok(()),
     }
 }
 
@@ -112,32 +119,56 @@ pub(crate) fn append_flips(
     Ok(())
 }
 
-/// Appends what a register drives if it is the register of an input pin.
-fn append_pin_register(
-    drives: &mut Vec<Drive>,
-    place: u32,
-    register: &Register,
-) -> Result<(), AllocError>
-    ensures { OnOk result (map drive_of drives.new.items ≡ map drive_of drives.old.items ++ pin_register_drives (place, register.now)) }
+/// Appends what a register drives if it is that of `io_n/D_IN_0`.
+fn append_input(drives: &mut Vec<Drive>, place: u32, register: &Register) -> Result<(), AllocError>
+    ensures { OnOk result (map drive_of drives.new.items ≡ map drive_of drives.old.items ++ input_drives (place, register.now)) }
 {
     let (x, y) = (register.x, register.y);
-    match register.user {
-        ClockUser::Input { n } => {
-            append_register(drives, Driver::PinReg { x, y, n }, place, register)
-        }
+    match register.kind {
+        RegisterKind::OfPin {
+            n,
+            register: PinRegister::Input,
+        } => append_register(drives, Driver::PinReg { x, y, n }, place, register),
         _ => Ok(()),
     }
 }
 
-/// Appends what the registers of input pins drive.
-pub(crate) fn append_pin_registers(
+/// Appends what registers of `io_n/D_IN_0` drive.
+pub(crate) fn append_inputs(
     drives: &mut Vec<Drive>,
     registers: &[Register],
 ) -> Result<(), AllocError>
-    ensures { OnOk result (map drive_of drives.new.items ≡ map drive_of drives.old.items ++ flat_map pin_register_drives (numbered registers.now)) }
+    ensures { OnOk result (map drive_of drives.new.items ≡ map drive_of drives.old.items ++ flat_map input_drives (numbered registers.now)) }
 {
     for (i, register) in registers.iter().enumerate() {
-        append_pin_register(drives, place_of(i)?, register)?;
+        append_input(drives, place_of(i)?, register)?;
+    }
+    Ok(())
+}
+
+/// Appends what a register drives if it is that of `io_n/D_IN_1`.
+fn append_second(drives: &mut Vec<Drive>, place: u32, register: &Register) -> Result<(), AllocError>
+    ensures { OnOk result (map drive_of drives.new.items ≡ map drive_of drives.old.items ++ second_drives (place, register.now)) }
+{
+    let (x, y) = (register.x, register.y);
+    match register.kind {
+        RegisterKind::OfPin {
+            n,
+            register: PinRegister::SecondInput,
+        } => append_register(drives, Driver::PinReg1 { x, y, n }, place, register),
+        _ => Ok(()),
+    }
+}
+
+/// Appends what registers of `io_n/D_IN_1` drive.
+pub(crate) fn append_seconds(
+    drives: &mut Vec<Drive>,
+    registers: &[Register],
+) -> Result<(), AllocError>
+    ensures { OnOk result (map drive_of drives.new.items ≡ map drive_of drives.old.items ++ flat_map second_drives (numbered registers.now)) }
+{
+    for (i, register) in registers.iter().enumerate() {
+        append_second(drives, place_of(i)?, register)?;
     }
     Ok(())
 }

@@ -96,7 +96,7 @@ fn or_register(
     let input = ClockInput {
         x: register.x,
         y: register.y,
-        user: register.user,
+        user: register.kind.user(),
         net: register.clk,
     };
     or_input(device, links, ends, found, input)

@@ -11,13 +11,13 @@ use Rattle.vlog_forms.proofs.Spelled.{outcome-spelled}
 use Rattle.vlog_run.specs.declared.event.EventFault.{EventFault}
 use Rattle.vlog_run.specs.Events.{event_fault, events_of}
 use Rattle.vlog_run.specs.Text.{run_text}
-use Rattle.fabric_model.specs.Fabric.{fabric_with, fabric_of}
+use Rattle.fabric_model.specs.Fabric.{fabric_with}
 use Rattle.fabric_model.specs.Steps.{Entry, IsRun}
-use Rattle.fabric_module.specs.Names.{output_name, port_name}
+use Rattle.fabric_module.specs.Names.{input_port_name, output_name}
 use Rattle.fabric_module.specs.Written.{module_of, pin_ports}
 use Rattle.fabric_module.proofs.Design.{design-is-module}
 use Rattle.pin_file.specs.declared.pin_name.PinName.{PinName}
-use Rattle.port_names.specs.Named.{named_module, named_output, named_port}
+use Rattle.port_names.specs.Named.{named_input, named_module, named_output}
 use Rattle.port_names.proofs.IsFabric.{named-is-fabric}
 use Rattle.tool_run.specs.Runs.{Does, Outside, Scene}
 use Rattle.tool_run.specs.Tasks.{Done, Task, usage_error}
@@ -31,7 +31,7 @@ use Rattle.module_tools.specs.declared.told.Told.TheVariants.{Lines}
 use Rattle.module_tools.specs.Vlogrun.{run_of, run_over, told_by, vlogrun, vlogrun_command, vlogrun_name, vlogrun_outcome, vlogrun_task_by, vlogrun_task_of, vlogrun_usage}
 use Rattle.design_answers.specs.Lines.{fabric_events, fabric_text}
 use Rattle.design_answers.proofs.Lines.{run-shown}
-use Rattle.icestorm_cli.specs.Runs.{IsModuleOf, PromisesRun, RunsFabric, ports_with, shows_registers, tells_waves}
+use Rattle.icestorm_cli.specs.Runs.{IsModuleOf, PromisesRun, RunsFabric, fabric_for, ports_with, shows_registers, tells_waves}
 
 -- ---- the lines
 
@@ -51,31 +51,31 @@ spelled-done registers m text events lines spells done =
     over-done registers m events lines (event_fault m.ports events) (sym (ap (λ outcome. run_of (Lines registers) outcome events) (outcome-spelled text m spells)) ∙ done)
 
 -- the lines for the module of a design
-own-shown : (db : Database) (image : Configuration) (m : Parts) → IsModuleOf None db image m → (registers : Bool) (events : List ℕ) (entries : List Entry)
-    → IsRun (fabric_of db image) (fabric_events (ports_with None (fabric_of db image).pins) events) entries → run_text m (events_of m.ports events) registers ≡ fabric_text registers entries
+own-shown : (db : Database) (image : Configuration) (m : Parts) (is : IsModuleOf None db image m) → (registers : Bool) (events : List ℕ) (entries : List Entry)
+    → IsRun (fabric_for is.design db image) (fabric_events (ports_with None (fabric_for is.design db image).pins) events) entries → run_text m (events_of m.ports events) registers ≡ fabric_text registers entries
 unfolding module_of fabric_with
 own-shown db image m is registers events entries run =
-    let fabric = fabric_of db image in
-    let inputs = is.design.parts.lut_inputs in
+    let fabric = fabric_for is.design db image in
+    let options = is.design.parts.options in
     let design = is.is_design in
-    let shown = run-shown port_name output_name fabric (module_of (fabric_with inputs db image) is.design.order is.name) registers events entries
-    (design-is-module inputs db image design.fit design.few design.taken is.design.order design.kept.order is.name (fabric_events (flat_map pin_ports fabric.pins) events) entries run) in
+    let shown = run-shown input_port_name output_name fabric (module_of (fabric_with options db image) is.design.order is.name) registers events entries
+    (design-is-module options db image design.fit design.few design.taken is.design.order design.kept.order is.name (fabric_events (flat_map pin_ports fabric.pins) events) entries run) in
     subst (λ (one : Parts). run_text one (events_of one.ports events) registers ≡ fabric_text registers entries) (sym is.is) shown
 
 -- the lines for the module with the names of a pin file
-named-shown : (named : List PinName) (db : Database) (image : Configuration) (m : Parts) → IsModuleOf (Some named) db image m → (registers : Bool) (events : List ℕ) (entries : List Entry)
-    → IsRun (fabric_of db image) (fabric_events (ports_with (Some named) (fabric_of db image).pins) events) entries → run_text m (events_of m.ports events) registers ≡ fabric_text registers entries
+named-shown : (named : List PinName) (db : Database) (image : Configuration) (m : Parts) (is : IsModuleOf (Some named) db image m) → (registers : Bool) (events : List ℕ) (entries : List Entry)
+    → IsRun (fabric_for is.design db image) (fabric_events (ports_with (Some named) (fabric_for is.design db image).pins) events) entries → run_text m (events_of m.ports events) registers ≡ fabric_text registers entries
 named-shown named db image m is registers events entries run =
-    let inputs = is.design.parts.lut_inputs in
+    let options = is.design.parts.options in
     let design = is.is_design in
-    let made = named_module named (fabric_with inputs db image) is.design.order is.name in
-    let runs = (named-is-fabric named inputs db image design.fit design.few design.taken is.are_taken is.design.order is.name design.kept.order is.is_name).1 in
-    let shown = run-shown (named_port named) (named_output named) (fabric_of db image) made registers events entries
-    (runs.alike (fabric_events made.ports events) entries (subst (λ ports. IsRun (fabric_of db image) (fabric_events ports events) entries) (sym runs.ports) run)) in
+    let made = named_module named (fabric_with options db image) is.design.order is.name in
+    let runs = (named-is-fabric named options db image design.fit design.few design.taken is.are_taken is.design.order is.name design.kept.order is.is_name).1 in
+    let shown = run-shown (named_input named) (named_output named) (fabric_for is.design db image) made registers events entries
+    (runs.alike (fabric_events made.ports events) entries (subst (λ ports. IsRun (fabric_for is.design db image) (fabric_events ports events) entries) (sym runs.ports) run)) in
     subst (λ (one : Parts). run_text one (events_of one.ports events) registers ≡ fabric_text registers entries) (sym is.is) shown
 
-module-shown : (names : Option (List PinName)) (db : Database) (image : Configuration) (m : Parts) → IsModuleOf names db image m → (registers : Bool) (events : List ℕ) (entries : List Entry)
-    → IsRun (fabric_of db image) (fabric_events (ports_with names (fabric_of db image).pins) events) entries → run_text m (events_of m.ports events) registers ≡ fabric_text registers entries
+module-shown : (names : Option (List PinName)) (db : Database) (image : Configuration) (m : Parts) (is : IsModuleOf names db image m) → (registers : Bool) (events : List ℕ) (entries : List Entry)
+    → IsRun (fabric_for is.design db image) (fabric_events (ports_with names (fabric_for is.design db image).pins) events) entries → run_text m (events_of m.ports events) registers ≡ fabric_text registers entries
 module-shown None = own-shown
 module-shown (Some named) = named-shown named
 

@@ -8,7 +8,7 @@ use Rattle.vlog_module.specs.Parts.{Parts}
 use Rattle.vlog_module.specs.Names.{IsName}
 use Rattle.vlog_forms.specs.Items.{IsSpelling}
 use Rattle.fabric_model.specs.declared.pin.Pin.{Pin}
-use Rattle.fabric_model.specs.Fabric.{Fabric, fabric_with, fabric_of}
+use Rattle.fabric_model.specs.Fabric.{Fabric, fabric_with, reading_all}
 use Rattle.fabric_model.specs.Steps.{Entry, IsRun}
 use Rattle.fabric.specs.Kept.{Kept}
 use Rattle.fabric.specs.Design.{IsDesignOf}
@@ -37,21 +37,26 @@ abbrev pub AreTaken : Option (List PinName) → List Pin → Type 0
 AreTaken None pins = Unit {0}
 AreTaken (Some named) pins = AreAccepted pins named
 
--- This is the module of the design of a database and an image, under some name. Its ports have the names of a pin file, or their own.
+-- the fabric that a design of a database and an image is for: it has the design's options, but its LUTs read all of their inputs
+abbrev pub fabric_for : Kept → Database → Configuration → Fabric
+fabric_for design db image = fabric_with (reading_all design.parts.options) db image
+
+-- This is the module of a design of a database and an image, under some name. Its ports have the names of a pin file, or their own.
 pub record IsModuleOf (names : Option (List PinName)) (db : Database) (image : Configuration) (m : Parts) : Type 0 where
   pub design : Kept
   pub name : List ℕ
   pub is_design : IsDesignOf db image design
   pub is_name : IsName name
-  pub are_taken : AreTaken names (fabric_of db image).pins
-  pub is : m ≡ module_with names (fabric_with design.parts.lut_inputs db image) design.order name
+  pub are_taken : AreTaken names (fabric_for design db image).pins
+  pub is : m ≡ module_with names (fabric_with design.parts.options db image) design.order name
 
 -- if the first of two texts spells the module of a design, the bytes are the lines of the run of the design's fabric over the events of the
 -- second
 abbrev pub RunsFabric : Bool → List (List ℕ) → List ℕ → Type 0
 RunsFabric registers texts bytes =
-    (names : Option (List PinName)) (db : Database) (image : Configuration) (m : Parts) → IsModuleOf names db image m → IsSpelling (get_or texts 0 []) m
-    → (entries : List Entry) → IsRun (fabric_of db image) (fabric_events (ports_with names (fabric_of db image).pins) (get_or texts 1 [])) entries
+    (names : Option (List PinName)) (db : Database) (image : Configuration) (m : Parts) (is : IsModuleOf names db image m) → IsSpelling (get_or texts 0 []) m
+    → (entries : List Entry)
+    → IsRun (fabric_for is.design db image) (fabric_events (ports_with names (fabric_for is.design db image).pins) (get_or texts 1 [])) entries
     → bytes ≡ fabric_text registers entries
 
 -- whether the arguments of `vlogrun` ask for registers

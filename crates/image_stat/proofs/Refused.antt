@@ -1,6 +1,6 @@
 -- The faults of links, pins and RAMs are the faults of counting, if nothing before them is wrong.
 use Rattle.std.proofs.Common.{◌≡◌, [], refl, ◌∙◌}
-use Rattle.std.specs.Prelude.{◌↔◌, Some, None}
+use Rattle.std.specs.Prelude.{◌↔◌, Bool, Some, None}
 use Rattle.plane_map.proofs.Devices.{same-device, other-device}
 use Rattle.ice_image.specs.Configuration.{Configuration}
 use Rattle.chipdb_reader.specs.Database.{Database}
@@ -17,40 +17,40 @@ use Rattle.fabric_parts.specs.RamFaults.{IsCause as IsRamCause}
 use Rattle.image_stat.specs.Causes.{of_links, of_pins, of_rams}
 use Rattle.image_stat.specs.Faults.{IsCause, stat_fault}
 
-module _ (db : Database) (image : Configuration) where
+module _ (all : Bool) (db : Database) (image : Configuration) where
   no-device : db.chip.device ≡ image.layout.device → device_faults db image ≡ []
   unfolding device_faults
   no-device same = rw (same, same-device image.layout.device) refl
 
-  with-device : ¬ (db.chip.device ≡ image.layout.device) → stat_fault db image ≡ Some Fault.other_device
+  with-device : ¬ (db.chip.device ≡ image.layout.device) → stat_fault all db image ≡ Some Fault.other_device
   unfolding stat_fault device_faults
   with-device other = rw (other-device db.chip.device image.layout.device other) refl
 
-  behind-device : db.chip.device ≡ image.layout.device → stat_fault db image ≡ or_else (pins_fault db image) (rams_fault db image)
+  behind-device : db.chip.device ≡ image.layout.device → stat_fault all db image ≡ or_else (pins_fault all db image) (rams_fault db image)
   unfolding stat_fault
   behind-device same = rw (no-device same) refl
 
-  pub links-cause : (fault : LinkFault) → ((fault ≡ links.Device) ↔ (¬ (db.chip.device ≡ image.layout.device))) → IsCause (stat_fault db image) (of_links fault)
+  pub links-cause : (fault : LinkFault) → ((fault ≡ links.Device) ↔ (¬ (db.chip.device ≡ image.layout.device))) → IsCause (stat_fault all db image) (of_links fault)
   links-cause links.Device tells = with-device (tells.0 refl)
   links-cause (links.Memory failed) tells = tt
 
   module _ (same : db.chip.device ≡ image.layout.device) where
-    pins-refuse : (cause : Fault) → pins_fault db image ≡ Some cause → stat_fault db image ≡ Some cause
+    pins-refuse : (cause : Fault) → pins_fault all db image ≡ Some cause → stat_fault all db image ≡ Some cause
     pins-refuse cause is = behind-device same ∙ rw is refl
 
-    pub pins-cause : (fault : PinFault) → IsPinCause (pins_fault db image) fault → IsCause (stat_fault db image) (of_pins fault)
+    pub pins-cause : (fault : PinFault) → IsPinCause (pins_fault all db image) fault → IsCause (stat_fault all db image) (of_pins fault)
     pins-cause (pins.Pll x y) is = pins-refuse _ is
     pins-cause (pins.PinMode x y pio pintype) is = pins-refuse _ is
     pins-cause (pins.Memory failed) is = tt
 
-    module _ (pins-taken : pins_fault db image ≡ None) where
-      rams-refuse : (cause : Fault) → rams_fault db image ≡ Some cause → stat_fault db image ≡ Some cause
+    module _ (pins-taken : pins_fault all db image ≡ None) where
+      rams-refuse : (cause : Fault) → rams_fault db image ≡ Some cause → stat_fault all db image ≡ Some cause
       rams-refuse cause is = behind-device same ∙ rw (pins-taken, is) refl
 
-      pub rams-cause : (fault : RamFault) → IsRamCause (rams_fault db image) fault → IsCause (stat_fault db image) (of_rams fault)
+      pub rams-cause : (fault : RamFault) → IsRamCause (rams_fault db image) fault → IsCause (stat_fault all db image) (of_rams fault)
       rams-cause (rams.Cascade x y) is = rams-refuse _ is
       rams-cause (rams.Memory failed) is = tt
 
       -- nothing is wrong if the devices agree and no pin and no RAM is refused
-      pub all-taken : rams_fault db image ≡ None → stat_fault db image ≡ None
+      pub all-taken : rams_fault db image ≡ None → stat_fault all db image ≡ None
       all-taken rams-taken = behind-device same ∙ rw (pins-taken, rams-taken) refl

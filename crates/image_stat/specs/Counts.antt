@@ -30,15 +30,16 @@ cram_bits image = flat_map flat image.cram
 abbrev pub globals_among : List GlobalNet → List ℕ
 globals_among nets = gathered_below 8 (λ g. item_if (list_any (λ global. global.g == g) nets) g)
 
--- The counts of a database and an image. Logic cells and RAMs count if they are used, and pins if they are ports. Flip-flops and carries
--- are counted among the used cells. Links count if they are on, and bits of the configuration planes, extra bits included, if they are 1.
-unfoldable pub counts_of : Database → Configuration → Counts
-counts_of db image = record {
+-- The counts of a database and an image. Logic cells and RAMs count if they are used, and pins if they are ports, of every kind or not.
+-- Flip-flops and carries are counted among the used cells. Links count if they are on, and bits of the configuration planes, extra bits
+-- included, if they are 1.
+unfoldable pub counts_of : Bool → Database → Configuration → Counts
+counts_of all db image = record {
   luts = length (cells_of db image);
   flops = count_by (λ lc. lc.flip) (cells_of db image);
   carries = count_by (λ lc. lc.carry) (cells_of db image);
   rams = length (rams_of db image);
-  pins = length (pins_of db image);
+  pins = length (pins_of all db image);
   globals = length (globals_among (globals_of db image));
   buffers = count_by (is_link_on image) db.buffers;
   routings = count_by (is_link_on image) db.routings;

@@ -1,5 +1,5 @@
 -- Why a database and an image are not counted.
-use Rattle.std.specs.Prelude.{◌≡◌, Option, Some}
+use Rattle.std.specs.Prelude.{◌≡◌, Bool, Option, Some}
 use Rattle.ice_image.specs.Configuration.{Configuration}
 use Rattle.chipdb_reader.specs.Database.{Database}
 use Rattle.index_search.specs.Places.{or_else}
@@ -12,9 +12,9 @@ use Rattle.fabric_parts.specs.declared.ram.fault.RamFault.TheVariants as rams
 use Rattle.image_stat.specs.declared.fault.StatFault.{StatFault}
 use Rattle.image_stat.specs.declared.fault.StatFault.TheVariants.{Device, Pins, Rams, Memory}
 
--- the first cause: the devices differ, a pin is refused, or a RAM is refused
-unfoldable pub stat_fault : Database → Configuration → Option Fault
-stat_fault db image = or_else (first_of (device_faults db image)) (or_else (pins_fault db image) (rams_fault db image))
+-- the first cause: the devices differ, a pin is refused, if pins of every kind are taken or if not, or a RAM is refused
+unfoldable pub stat_fault : Bool → Database → Configuration → Option Fault
+stat_fault all db image = or_else (first_of (device_faults db image)) (or_else (pins_fault all db image) (rams_fault db image))
 
 -- the reported fault of a pin is that one; out of memory isn't reported so
 abbrev pub IsPinCause : Option Fault → PinFault → Type 0

@@ -17,7 +17,7 @@ use ice_image::AnyImage;
 use std::alloc::Global;
 
 /// Counts what an image uses of its device, by the names of a chip database. The answer is a text of ten lines, each a word, a space and a
-/// number.
+/// number. `all_pins` says whether pins of every kind are taken.
 ///
 /// # Errors
 /// `Device` if the database is for another device; else `Pins` with the first pin that is refused (a PLL or a pin type that isn't
@@ -28,29 +28,34 @@ use std::alloc::Global;
 /// ```ignore
 /// use image_stat::stat;
 ///
-/// let text = stat(alloc, &db, &image)?; // `db` is a `ChipDb`, and `image` an `AnyImage`
+/// let text = stat(alloc, &db, &image, false)?; // `db` is a `ChipDb`, and `image` an `AnyImage`
 /// // luts 1
 /// // flops 0
 /// // carries 0
 /// // ...
 /// ```
-pub fn stat(alloc: Global, db: &ChipDb, image: &AnyImage) -> Result<Vec<u8>, StatFault>
-    ensures text { IfOk result (λ text. text.items ≡ stat_text (counts_of (database_in db.now) (configuration_of image.now))) }
-    ensures taken { OnOk result (stat_fault (database_in db.now) (configuration_of image.now) ≡ None) }
-    ensures refused { IfErr result (IsCause (stat_fault (database_in db.now) (configuration_of image.now))) }
+pub fn stat(
+    alloc: Global,
+    db: &ChipDb,
+    image: &AnyImage,
+    all_pins: bool,
+) -> Result<Vec<u8>, StatFault>
+    ensures text { IfOk result (λ text. text.items ≡ stat_text (counts_of all_pins (database_in db.now) (configuration_of image.now))) }
+    ensures taken { OnOk result (stat_fault all_pins (database_in db.now) (configuration_of image.now) ≡ None) }
+    ensures refused { IfErr result (IsCause (stat_fault all_pins (database_in db.now) (configuration_of image.now))) }
 {
-    let counts = counts(alloc, db, image)?;
+    let counts = counts(alloc, db, image, all_pins)?;
     Ok(text_of(alloc, &counts)?)
 }
 
 /// Counts what an image uses, and checks it first.
-fn counts(alloc: Global, db: &ChipDb, image: &AnyImage) -> Result<Counts, StatFault>
-    ensures counts { IfOk result (λ counts. counts ≡ counts_of (database_in db.now) (configuration_of image.now)) }
-    ensures taken { OnOk result (stat_fault (database_in db.now) (configuration_of image.now) ≡ None) }
-    ensures refused { IfErr result (IsCause (stat_fault (database_in db.now) (configuration_of image.now))) }
+fn counts(alloc: Global, db: &ChipDb, image: &AnyImage, all_pins: bool) -> Result<Counts, StatFault>
+    ensures counts { IfOk result (λ counts. counts ≡ counts_of all_pins (database_in db.now) (configuration_of image.now)) }
+    ensures taken { OnOk result (stat_fault all_pins (database_in db.now) (configuration_of image.now) ≡ None) }
+    ensures refused { IfErr result (IsCause (stat_fault all_pins (database_in db.now) (configuration_of image.now))) }
 {
-    let links = links(alloc, db, image)?;
-    let pins = pins(alloc, db, image, &links)?;
+    let links = links(alloc, db, image, all_pins)?;
+    let pins = pins(alloc, db, image, &links, all_pins)?;
     let rams = rams(alloc, db, image, &links)?;
     let cells = cells(alloc, db, image)?;
     let extras = image.extra_bits(alloc)?;

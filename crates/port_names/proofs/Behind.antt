@@ -1,12 +1,12 @@
--- A name with `_en` after it is a name.
-use Rattle.std.proofs.Common.{◌≡◌, ℕ, Bool, true, false, List, [], ◌∷◌, refl, sym, ap, ◌∙◌}
-use Rattle.std.specs.Prelude.{bytes_eq, codes, not, ◌==◌}
+-- A name with `_en` or `_in` after it is a name.
+use Rattle.std.proofs.Common.{◌≡◌, ℕ, Bool, true, false, List, [], ◌∷◌, ◌++◌, refl, sym, ap, ◌∙◌}
+use Rattle.std.specs.Prelude.{bytes_eq, codes, not, ◌&&◌, ◌==◌}
 use Rattle.std.specs.List.{list_all, list_any}
 use Rattle.std.proofs.lemmas.Bool.{and_from, and_parts, and_right}
 use Rattle.std.proofs.lemmas.List.Folds.{list_all-append}
 use Rattle.shared_lemmas.proofs.Bytes.{bytes_eq-apart}
 use Rattle.vlog_module.specs.Names.{is_name_byte, is_word, is_reserved, reserved_words, is_name, IsName}
-use Rattle.pin_file.specs.PortNames.{enable_name}
+use Rattle.pin_file.specs.PortNames.{enable_name, input_name}
 
 -- whether no `_` is among bytes
 abbrev is_joined : List ℕ → Bool
@@ -25,19 +25,27 @@ reserved-joined : list_all is_joined reserved_words ≡ true
 unfolding reserved_words
 reserved-joined = refl
 
-not-reserved : (name : List ℕ) → is_reserved (enable_name name) ≡ false
-not-reserved name =
-    no-word reserved_words reserved-joined (enable_name name)
-    (list_all-append (λ byte. not (byte == 95)) name (codes "_en") ∙ and_right (is_joined name) false refl)
+-- a name with such a tail
+module _ (tail : List ℕ) (parted : is_joined tail ≡ false) (bytes : list_all is_name_byte tail ≡ true) where
+  not-reserved : (name : List ℕ) → is_reserved (name ++ tail) ≡ false
+  not-reserved name =
+      no-word reserved_words reserved-joined (name ++ tail)
+      (list_all-append (λ byte. not (byte == 95)) name tail ∙ (ap (λ bit. is_joined name && bit) parted ∙ and_right (is_joined name) false refl))
 
-word-behind : (name : List ℕ) → is_word name ≡ true → is_word (enable_name name) ≡ true
-word-behind [] word = absurd cc
-word-behind (byte ∷ name) word =
-    let parts = and_parts _ (list_all is_name_byte name) word in
-    and_from _ _ parts.0 (list_all-append is_name_byte name (codes "_en") ∙ and_from (list_all is_name_byte name) true parts.1 refl)
+  word-behind : (name : List ℕ) → is_word name ≡ true → is_word (name ++ tail) ≡ true
+  word-behind [] word = absurd cc
+  word-behind (byte ∷ name) word =
+      let parts = and_parts _ (list_all is_name_byte name) word in
+      and_from _ _ parts.0 (list_all-append is_name_byte name tail ∙ and_from (list_all is_name_byte name) (list_all is_name_byte tail) parts.1 bytes)
+
+  tail_named : (name : List ℕ) → IsName name → IsName (name ++ tail)
+  unfolding is_name
+  tail_named name named =
+      let parts = and_parts (is_word name) (not (is_reserved name)) named in
+      and_from (is_word (name ++ tail)) (not (is_reserved (name ++ tail))) (word-behind name parts.0) (ap not (not-reserved name))
 
 pub behind_named : (name : List ℕ) → IsName name → IsName (enable_name name)
-unfolding is_name
-behind_named name named =
-    let parts = and_parts (is_word name) (not (is_reserved name)) named in
-    and_from (is_word (enable_name name)) (not (is_reserved (enable_name name))) (word-behind name parts.0) (ap not (not-reserved name))
+behind_named = tail_named (codes "_en") refl refl
+
+pub inside_named : (name : List ℕ) → IsName name → IsName (input_name name)
+inside_named = tail_named (codes "_in") refl refl

@@ -19,17 +19,16 @@ use Rattle.fabric_model.specs.declared.register.Register.{Register}
 use Rattle.fabric_model.specs.declared.ram.RamCell.{RamCell}
 use Rattle.fabric_model.specs.declared.pin.Pin.{Pin}
 use Rattle.fabric_model.specs.Tiles.{each_below}
-use Rattle.fabric_model.specs.Pins.{is_tri_state}
 use Rattle.fabric_model.specs.Fabric.{Fabric, numbered}
 use Rattle.fabric_model.specs.Outputs.{outputs_of}
 use Rattle.index_search.proofs.Gathered.{All-gathered_below}
 use Rattle.fabric_model.proofs.Apart.{All-every}
 use Rattle.fabric_model.proofs.Within.{All-flat_map, All-single, All-if}
-use Rattle.fabric_module.specs.Names.{enable_name}
+use Rattle.fabric_module.proofs.Configured.{each-name}
 use Rattle.fabric_module.specs.Rights.{setting_wire}
-use Rattle.fabric_module.specs.Written.{clock_name, clocked, port_of, enable_ports, pin_ports, register_item, read_register, ram_memory, class_wire, output_assign, items_by, register_items, read_item, read_items, write_item, write_items, start_item, start_items, items_of, module_of}
+use Rattle.fabric_module.specs.Written.{clock_name, clocked, pin_ports, register_item, read_register, ram_memory, class_wire, output_assign, items_by, register_items, read_item, read_items, write_item, write_items, start_item, start_items, items_of, module_of}
 use Rattle.port_names.specs.Fresh.{declared_names}
-use Rattle.port_names.proofs.Own.{IsOwn, own-port, own-enable, own-register, own-read, own-memory, own-wire}
+use Rattle.port_names.proofs.Own.{IsOwn, own-port, own-enable, own-outside, own-register, own-read, own-memory, own-wire}
 
 -- ---- what items declare
 
@@ -169,9 +168,7 @@ pub ports-own : (pins : List Pin) → All (λ (port : Port). IsOwn port.name) (f
 ports-own pins =
     All-flat_map (λ (port : Port). IsOwn port.name) pin_ports pins
     (All-every (λ pin. All (λ (port : Port). IsOwn port.name) (pin_ports pin))
-    (λ pin. All-cons (λ (port : Port). IsOwn port.name) (port_of pin) (enable_ports pin) (own-port pin)
-    (All-if (λ (port : Port). IsOwn port.name) (is_tri_state pin) (record { name = enable_name pin; output = true } ∷ [])
-    (All-single (λ (port : Port). IsOwn port.name) (record { name = enable_name pin; output = true }) (own-enable pin)))) pins)
+    (λ pin. each-name IsOwn pin (own-port pin) (own-enable pin) (own-outside pin.x pin.y pin.n)) pins)
 
 pub declared-own : (fabric : Fabric) (order name : List ℕ) → All IsOwn (declared_names (module_of fabric order name))
 unfolding module_of

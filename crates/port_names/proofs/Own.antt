@@ -5,12 +5,13 @@ use Rattle.std.specs.Char.{is_ascii_digit}
 use Rattle.std.specs.Fmt.{digit_glyph, digits_onto}
 use Rattle.std.proofs.lemmas.Bool.{cases_Bool, and_from, le-leb, lt-ltb}
 use Rattle.std.proofs.DigitsParse.{digits_onto-nil}
-use Rattle.fabric_model.specs.declared.driver.ClockUser.{ClockUser}
-use Rattle.fabric_model.specs.declared.driver.ClockUser.TheVariants.{Cell, Input, Output, Read, Write}
+use Rattle.fabric_model.specs.declared.register.PinRegister.TheVariants as kind
+use Rattle.fabric_model.specs.declared.register.RegisterKind.{RegisterKind}
+use Rattle.fabric_model.specs.declared.register.RegisterKind.TheVariants.{FlipFlop, OfPin}
 use Rattle.fabric_model.specs.declared.register.Register.{Register}
 use Rattle.fabric_model.specs.declared.ram.RamCell.{RamCell}
 use Rattle.fabric_model.specs.declared.pin.Pin.{Pin}
-use Rattle.fabric_module.specs.Names.{two_numbers, three_numbers, port_name, enable_name, user_prefix, user_number, register_name, read_name, memory_name, wire_name}
+use Rattle.fabric_module.specs.Names.{two_numbers, three_numbers, pad_name, port_name, enable_name, outside_name, register_prefix, register_number, register_name, read_name, memory_name, wire_name}
 use Rattle.pin_file.specs.PortNames.{own_beginnings, has_own_form}
 
 -- ---- numbers begin with a digit
@@ -58,27 +59,37 @@ own-pin : (rest : List ℕ) → BeginsDigit rest → IsOwn (codes "io_" ++ rest)
 unfolding has_own_form own_beginnings
 own-pin rest begins = rw begins refl
 
+own-pad : (x y n : ℕ) → IsOwn (pad_name x y n)
+unfolding pad_name
+own-pad x y n = own-pin (three_numbers x y n) (three-begin x y n)
+
 pub own-port : (pin : Pin) → IsOwn (port_name pin)
-unfolding port_name
-own-port pin = own-pin (three_numbers pin.x pin.y pin.n) (three-begin pin.x pin.y pin.n)
+own-port pin = own-pad pin.x pin.y pin.n
 
 pub own-enable : (pin : Pin) → IsOwn (enable_name pin)
-unfolding port_name enable_name
+unfolding pad_name enable_name
 own-enable pin =
     own-pin (three_numbers pin.x pin.y pin.n ++ codes "_en") (begins-front (three_numbers pin.x pin.y pin.n) (codes "_en") (three-begin pin.x pin.y pin.n))
 
-own-user : (user : ClockUser) (rest : List ℕ) → BeginsDigit rest → IsOwn (user_prefix user ++ rest)
+pub own-outside : (x y n : ℕ) → IsOwn (outside_name x y n)
+unfolding pad_name outside_name
+own-outside x y n = own-pin (three_numbers x y n ++ codes "_in") (begins-front (three_numbers x y n) (codes "_in") (three-begin x y n))
+
+own-kind : (register : RegisterKind) (rest : List ℕ) → BeginsDigit rest → IsOwn (register_prefix register ++ rest)
 unfolding has_own_form own_beginnings
-own-user (Cell i) rest begins = rw begins refl
-own-user (Input n) rest begins = rw begins refl
-own-user (Output n) rest begins = rw begins refl
-own-user Read rest begins = rw begins refl
-own-user Write rest begins = rw begins refl
+own-kind (FlipFlop i) rest begins = rw begins refl
+own-kind (OfPin n kind.Input) rest begins = rw begins refl
+own-kind (OfPin n kind.SecondInput) rest begins = rw begins refl
+own-kind (OfPin n kind.InputClockEnable) rest begins = rw begins refl
+own-kind (OfPin n kind.Output) rest begins = rw begins refl
+own-kind (OfPin n kind.SecondOutput) rest begins = rw begins refl
+own-kind (OfPin n kind.OutputClockEnable) rest begins = rw begins refl
+own-kind (OfPin n kind.OutputEnable) rest begins = rw begins refl
 
 pub own-register : (register : Register) → IsOwn (register_name register)
 unfolding register_name
 own-register register =
-    own-user register.user (three_numbers register.x register.y (user_number register.user)) (three-begin register.x register.y (user_number register.user))
+    own-kind register.kind (three_numbers register.x register.y (register_number register.kind)) (three-begin register.x register.y (register_number register.kind))
 
 pub own-read : (ram : RamCell) → IsOwn (read_name ram)
 unfolding read_name has_own_form own_beginnings

@@ -3,16 +3,18 @@ use Rattle.std.proofs.Common.{◌≡◌, ℕ, zero, suc, ◌⊎◌, Bool, true, 
 use Rattle.std.specs.Prelude.{All, Contains, Option, Some, None, flat_map, bytes_eq, codes, if◌then◌else◌}
 use Rattle.std.specs.List.{IsDistinct}
 use Rattle.std.proofs.lemmas.Bool.{cases_Bool}
+use Rattle.std.proofs.lemmas.List.{append_cancel_left}
 use Rattle.std.proofs.lemmas.List.Elements.{All-nil, All-cons, All-head, All-tail, All-map, All-contains, All-contains_itself, All-weaker}
 use Rattle.shared_lemmas.proofs.Bytes.{bytes_eq-same, bytes_eq-apart, apart_turned}
 use Rattle.fabric_model.specs.declared.pin.Pin.{Pin}
-use Rattle.fabric_model.specs.Pins.{is_tri_state}
-use Rattle.fabric_model.proofs.Apart.{AreApart, All-every, apart-single, apart-if, apart-map, apart-flat_map}
-use Rattle.fabric_model.proofs.Within.{All-flat_map, All-single, All-if}
-use Rattle.fabric_module.specs.Names.{three_numbers, port_name, enable_name}
+use Rattle.fabric_model.specs.Tiles.{item_if}
+use Rattle.fabric_model.specs.Pins.{is_switched, has_outside}
+use Rattle.fabric_model.proofs.Apart.{AreApart, All-every, apart-single, apart-map, apart-flat_map}
+use Rattle.fabric_model.proofs.Within.{All-flat_map, All-single}
+use Rattle.fabric_module.specs.Names.{pad_name, port_name, enable_name, outside_name}
 use Rattle.pin_file.specs.declared.place.PinPlace.{PinPlace}
 use Rattle.pin_file.specs.declared.pin_name.PinName.{PinName}
-use Rattle.pin_file.specs.PortNames.{is_place, pin_at, names_by, names_with, all_names, AreSafe, enable_name as enable_name_behind}
+use Rattle.pin_file.specs.PortNames.{is_place, pin_at, names_by, names_with, all_names, AreSafe, enable_name as enable_name_behind, input_name as input_name_behind}
 use Rattle.pin_file.proofs.PinSteps.{place-itself, place-same}
 use Rattle.port_names.specs.Fresh.{new_names}
 use Rattle.port_names.specs.Named.{place_of, port_pin, port_pins, given_name, renaming_by, pin_renaming, port_renaming}
@@ -22,8 +24,7 @@ use Rattle.port_names.proofs.Lists.{All-each, PartsDiffer, parts-apart, two-apar
 
 -- pins at one place have one name
 name-by-place : (a b : Pin) → place_of a ≡ place_of b → port_name a ≡ port_name b
-unfolding port_name
-name-by-place a b same = ap (λ (place : PinPlace). codes "io_" ++ three_numbers place.x place.y place.pio) same
+name-by-place a b same = ap (λ (place : PinPlace). pad_name place.x place.y place.pio) same
 
 -- two pins with different names
 abbrev pub PinsDiffer : Pin → Pin → Type 0
@@ -59,22 +60,62 @@ given-cases (port ∷ named) pin =
       ]
     ]
 
--- a name with `_en` after it is another name
-longer : (name : List ℕ) → name ≡ enable_name_behind name → ⊥
-longer name same = absurd (omega (arith, ap length same, length-append name (codes "_en")))
+-- a name with a tail is another name
+longer : (name tail : List ℕ) → name ≡ name ++ 95 ∷ tail → ⊥
+longer name tail same = absurd (omega (arith, ap length same, length-append name (95 ∷ tail)))
+
+-- two pairs of names whose second ones differ
+abbrev SecondsDiffer : List ℕ × List ℕ → List ℕ × List ℕ → Type 0
+SecondsDiffer one two = Differ one.1 two.1
+
+module _ (pin : Pin) (name : List ℕ) where
+  abbrev of_port : List ℕ × List ℕ
+  of_port = (port_name pin, name)
+
+  abbrev of_enable : List ℕ × List ℕ
+  of_enable = (enable_name pin, enable_name_behind name)
+
+  abbrev of_outside : List ℕ × List ℕ
+  of_outside = (outside_name pin.x pin.y pin.n, input_name_behind name)
+
+  name-no_enable : SecondsDiffer of_port of_enable
+  name-no_enable = bytes_eq-apart name (enable_name_behind name) (longer name (codes "en"))
+
+  name-no_outside : SecondsDiffer of_port of_outside
+  name-no_outside = bytes_eq-apart name (input_name_behind name) (longer name (codes "in"))
+
+  enable-no_outside : SecondsDiffer of_enable of_outside
+  enable-no_outside =
+      bytes_eq-apart (enable_name_behind name) (input_name_behind name)
+      (λ same. let never : false ≡ true = bytes_eq-same (codes "_en") (codes "_in") (append_cancel_left name (codes "_en") (codes "_in") same) in absurd cc)
+
+  inside-by : (switched outside : Bool) → AreApart SecondsDiffer (of_port ∷ (item_if switched of_enable ++ item_if outside of_outside))
+  inside-by true true = (
+    All-cons (SecondsDiffer of_port) of_enable (of_outside ∷ []) name-no_enable (All-single (SecondsDiffer of_port) of_outside name-no_outside),
+    (All-single (SecondsDiffer of_enable) of_outside enable-no_outside, apart-single SecondsDiffer of_outside),
+  )
+  inside-by true false = (All-single (SecondsDiffer of_port) of_enable name-no_enable, apart-single SecondsDiffer of_enable)
+  inside-by false true = (All-single (SecondsDiffer of_port) of_outside name-no_outside, apart-single SecondsDiffer of_outside)
+  inside-by false false = apart-single SecondsDiffer of_port
+
+  -- what holds of the names that a port gives holds of the new ones of a pin
+  given-flags : (Q : List ℕ → Type 0) (switched outside : Bool)
+      → All Q ((if switched then enable_name_behind name ∷ [] else []) ++ (if outside then input_name_behind name ∷ [] else []))
+      → All (λ (entry : List ℕ × List ℕ). Q entry.1) (item_if switched of_enable ++ item_if outside of_outside)
+  given-flags Q true true all =
+      All-cons (λ (entry : List ℕ × List ℕ). Q entry.1) of_enable (of_outside ∷ []) (All-head Q (enable_name_behind name) (input_name_behind name ∷ []) all)
+      (All-single (λ (entry : List ℕ × List ℕ). Q entry.1) of_outside (All-head Q (input_name_behind name) [] (All-tail Q (enable_name_behind name) (input_name_behind name ∷ []) all)))
+  given-flags Q true false all = All-single (λ (entry : List ℕ × List ℕ). Q entry.1) of_enable (All-head Q (enable_name_behind name) [] all)
+  given-flags Q false true all = All-single (λ (entry : List ℕ × List ℕ). Q entry.1) of_outside (All-head Q (input_name_behind name) [] all)
+  given-flags Q false false all = All-nil (λ (entry : List ℕ × List ℕ). Q entry.1)
 
 -- the new names of a pin's ports are apart
-given-inside : (pin : Pin) (given : Option (List ℕ)) → AreApart (λ (one two : List ℕ × List ℕ). Differ one.1 two.1) (renaming_by pin given)
+given-inside : (pin : Pin) (given : Option (List ℕ)) → AreApart SecondsDiffer (renaming_by pin given)
 given-inside pin None = tt
-given-inside pin (Some name) = (
-  All-if (λ (two : List ℕ × List ℕ). Differ name two.1) (is_tri_state pin) ((enable_name pin, enable_name_behind name) ∷ [])
-      (All-single (λ (two : List ℕ × List ℕ). Differ name two.1) (enable_name pin, enable_name_behind name) (bytes_eq-apart name (enable_name_behind name) (longer name))),
-  apart-if (λ (one two : List ℕ × List ℕ). Differ one.1 two.1) (is_tri_state pin) ((enable_name pin, enable_name_behind name) ∷ [])
-      (apart-single (λ (one two : List ℕ × List ℕ). Differ one.1 two.1) (enable_name pin, enable_name_behind name)),
-)
+given-inside pin (Some name) = inside-by pin name (is_switched pin) (has_outside pin)
 
 -- items of a list with what is known of each
-apart-known : {X : Type 0} (P : X → Type 0) (R : X → X → Type 0) (xs : List X) → All P xs → AreApart R xs → AreApart (λ a b. P a × P b × R a b) xs
+pub apart-known : {X : Type 0} (P : X → Type 0) (R : X → X → Type 0) (xs : List X) → All P xs → AreApart R xs → AreApart (λ a b. P a × P b × R a b) xs
 apart-known P R [] all apart = tt
 apart-known P R (x ∷ xs) all apart =
     let rest = All-tail P x xs all in (
@@ -96,15 +137,9 @@ module _ (pins : List Pin) (named : List PinName) (pins_apart : AreApart PinsDif
       let same : names_of pins port ≡ names_with port.name (port_pin pin)
       = ap (λ place. names_by port.name (pin_at (port_pins pins) place)) at ∙ ap (names_by port.name) (pin-there pins pins_apart pin there) in
       let each : All Q (names_with port.name (port_pin pin)) = subst (All Q) same all in
-      All-cons (λ (entry : List ℕ × List ℕ). Q entry.1) (port_name pin, port.name) _
-      (All-head Q port.name ((if is_tri_state pin then enable_name_behind port.name ∷ [] else []) ++ []) each)
-      (elim (cases_Bool (is_tri_state pin)) [
-        | inl switched ↦
-            let second : All Q ((if is_tri_state pin then enable_name_behind port.name ∷ [] else []) ++ []) = All-tail Q port.name _ each in
-            let only : All Q (enable_name_behind port.name ∷ []) = subst (λ (b : Bool). All Q ((if b then enable_name_behind port.name ∷ [] else []) ++ [])) switched second in
-            rw switched (All-single (λ (entry : List ℕ × List ℕ). Q entry.1) (enable_name pin, enable_name_behind port.name) (All-head Q (enable_name_behind port.name) [] only))
-        | inr still ↦ rw still (All-nil (λ (entry : List ℕ × List ℕ). Q entry.1))
-      ])
+      let tails = (if is_switched pin then enable_name_behind port.name ∷ [] else []) ++ (if has_outside pin then input_name_behind port.name ∷ [] else []) in
+      All-cons (λ (entry : List ℕ × List ℕ). Q entry.1) (port_name pin, port.name) _ (All-head Q port.name tails each)
+      (given-flags pin port.name Q (is_switched pin) (has_outside pin) (All-tail Q port.name tails each))
 
   -- what holds of all names of the pin file holds of those that a pin gets
   new-pin : (Q : List ℕ → Type 0) → All Q (all_names (port_pins pins) named) → (pin : Pin) → Contains pins pin

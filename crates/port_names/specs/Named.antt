@@ -1,17 +1,21 @@
 -- The names that a pin file gives to the ports of a module that is written for a fabric.
-use Rattle.std.specs.Prelude.{◌≡◌, ℕ, true, false, List, [], ◌∷◌, map, find, flat_map, Option, Some, None, option_map, if◌then◌else◌}
+use Rattle.std.specs.Prelude.{◌≡◌, ℕ, false, List, [], ◌∷◌, ◌++◌, map, find, flat_map, Option, Some, None, option_map, if◌then◌else◌}
 use Rattle.vlog_module.specs.declared.modules.Port.{Port}
 use Rattle.vlog_module.specs.Parts.{Parts}
 use Rattle.fabric_model.specs.declared.pin.Pin.{Pin}
-use Rattle.fabric_model.specs.Pins.{is_tri_state}
+use Rattle.fabric_model.specs.declared.input_port.InputPort.{InputPort}
+use Rattle.fabric_model.specs.declared.input_port.InputPort.TheVariants.{Pad, Outside}
+use Rattle.fabric_model.specs.Tiles.{item_if}
+use Rattle.fabric_model.specs.Pins.{drives, is_switched, has_outside}
+use Rattle.fabric_model.specs.InputPorts.{pin_inputs}
 use Rattle.fabric_model.specs.Fabric.{Fabric}
 use Rattle.fabric_model.specs.Outputs.{Output}
-use Rattle.fabric_module.specs.Names.{port_name, enable_name}
-use Rattle.fabric_module.specs.Written.{module_of}
+use Rattle.fabric_module.specs.Names.{pad_name, port_name, enable_name, outside_name}
+use Rattle.fabric_module.specs.Written.{output_port, module_of}
 use Rattle.pin_file.specs.declared.place.PinPlace.{PinPlace}
 use Rattle.pin_file.specs.declared.place.PortPin.{PortPin}
 use Rattle.pin_file.specs.declared.pin_name.PinName.{PinName}
-use Rattle.pin_file.specs.PortNames.{is_place, enable_name as enable_name_behind}
+use Rattle.pin_file.specs.PortNames.{is_place, enable_name as enable_name_behind, input_name as input_name_behind}
 use Rattle.pin_file.specs.Packages.{Package}
 use Rattle.pin_file.specs.Faults.{ports_of, pin_fault_of}
 use Rattle.port_names.specs.Renamed.{renamed}
@@ -21,9 +25,9 @@ use Rattle.port_names.specs.Renamed.{renamed}
 abbrev pub place_of : Pin → PinPlace
 place_of pin = record { x = pin.x; y = pin.y; pio = pin.n }
 
--- a pin of a design and its ports: a tri-state output has an output enable
+-- a pin of a design and its ports: one that drives its pad at times has an output enable, and an input from outside if its pad is read
 abbrev pub port_pin : Pin → PortPin
-port_pin pin = record { place = place_of pin; enable = is_tri_state pin; outside = false }
+port_pin pin = record { place = place_of pin; enable = is_switched pin; outside = has_outside pin }
 
 -- the pins of a design and their ports; each pin has a port
 abbrev pub port_pins : List Pin → List PortPin
@@ -38,34 +42,54 @@ pub record AreAccepted (pins : List Pin) (named : List PinName) : Type 0 where
 
 -- ---- names
 
--- the first name that is given for the place of a pin, if there is one
+-- the first name that is given for a place, if there is one
+abbrev pub given_at : List PinName → PinPlace → Option (List ℕ)
+given_at named place = option_map (λ port. port.name) (find (λ port. is_place place port.place) named)
+
+-- that for the place of a pin
 abbrev pub given_name : List PinName → Pin → Option (List ℕ)
-given_name named pin = option_map (λ port. port.name) (find (λ port. is_place (place_of pin) port.place) named)
+given_name named pin = given_at named (place_of pin)
 
--- the name of a pin's port: the one that is given, or else its own
-abbrev pub port_by : Pin → Option (List ℕ) → List ℕ
-port_by pin (Some name) = name
-port_by pin None = port_name pin
+-- the name that is given, or else the port's own
+abbrev pub name_by : List ℕ → Option (List ℕ) → List ℕ
+name_by own (Some name) = name
+name_by own None = own
 
--- the name of the port that is a pin's output enable: the one that is given with `_en` after it, or else its own
-abbrev pub enable_by : Pin → Option (List ℕ) → List ℕ
-enable_by pin (Some name) = enable_name_behind name
-enable_by pin None = enable_name pin
+-- the name that is given with `_en` after it, or else the port's own
+abbrev pub enable_by : List ℕ → Option (List ℕ) → List ℕ
+enable_by own (Some name) = enable_name_behind name
+enable_by own None = own
 
+-- the name that is given with `_in` after it, or else the port's own
+abbrev pub outside_by : List ℕ → Option (List ℕ) → List ℕ
+outside_by own (Some name) = input_name_behind name
+outside_by own None = own
+
+-- the name of the port at which a pin puts out what it drives its pad with
 abbrev pub named_port : List PinName → Pin → List ℕ
-named_port named pin = port_by pin (given_name named pin)
+named_port named pin = name_by (port_name pin) (given_name named pin)
 
+-- the name of the port that is a pin's output enable
 abbrev pub named_enable : List PinName → Pin → List ℕ
-named_enable named pin = enable_by pin (given_name named pin)
+named_enable named pin = enable_by (enable_name pin) (given_name named pin)
+
+-- the name of an input port
+abbrev pub named_input : List PinName → InputPort → List ℕ
+named_input named (Pad x y n) = name_by (pad_name x y n) (given_at named (record { x = x; y = y; pio = n }))
+named_input named (Outside x y n) = outside_by (outside_name x y n) (given_at named (record { x = x; y = y; pio = n }))
 
 -- the name of an output's port
 abbrev pub named_output : List PinName → Output → List ℕ
 named_output named output = if output.enable then named_enable named output.pin else named_port named output.pin
 
 -- the ports of a pin, as a module declares them
+abbrev pub named_input_port : List PinName → InputPort → Port
+named_input_port named port = record { name = named_input named port; output = false }
+
 abbrev pub named_pin_ports : List PinName → Pin → List Port
 named_pin_ports named pin =
-    record { name = named_port named pin; output = pin.output } ∷ (if is_tri_state pin then record { name = named_enable named pin; output = true } ∷ [] else [])
+    item_if (drives pin) (output_port (named_port named pin))
+    ++ (item_if (is_switched pin) (output_port (named_enable named pin)) ++ map (named_input_port named) (pin_inputs pin))
 
 -- the ports of all pins
 unfoldable pub named_ports : List PinName → List Pin → List Port
@@ -77,7 +101,9 @@ named_ports named pins = flat_map (named_pin_ports named) pins
 abbrev pub renaming_by : Pin → Option (List ℕ) → List (List ℕ × List ℕ)
 renaming_by pin None = []
 renaming_by pin (Some name) =
-    (port_name pin, name) ∷ (if is_tri_state pin then (enable_name pin, enable_name_behind name) ∷ [] else [])
+    (port_name pin, name)
+    ∷ (item_if (is_switched pin) (enable_name pin, enable_name_behind name)
+    ++ item_if (has_outside pin) (outside_name pin.x pin.y pin.n, input_name_behind name))
 
 abbrev pub pin_renaming : List PinName → Pin → List (List ℕ × List ℕ)
 pin_renaming named pin = renaming_by pin (given_name named pin)

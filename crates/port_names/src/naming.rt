@@ -1,11 +1,11 @@
 // The names of ports.
 ghost use Rattle.std.specs.Prelude.{◌≡◌, ◌++◌, find, option_map, IfOk, OnOk, Some};
-ghost use Rattle.pin_file.specs.PortNames.{is_place, enable_name as enable_name_behind};
+ghost use Rattle.pin_file.specs.PortNames.{is_place, enable_name as enable_name_behind, input_name as input_name_behind};
 ghost use Rattle.port_names.specs.Named.{renaming_by, pin_renaming, port_renaming};
 
-use crate::pins::{is_tri_state, place_of};
-use fabric_model::Pin;
-use fabric_module::{enable_name, port_name};
+use crate::pins::place_of;
+use fabric_model::{InputPort, Pin, has_outside};
+use fabric_module::{enable_name, input_port_name, port_name};
 use pin_file::{PinName, PinPlace};
 use std::alloc::{AllocError, Global};
 use vlog_module::Name;
@@ -29,6 +29,16 @@ fn enable_name_behind(alloc: Global, name: &Name) -> Result<Name, AllocError>
     Name::new(alloc, &bytes)
 }
 
+/// A name with `_in` after it.
+#[tactic(auto, using(crate::proofs::Behind::inside_named))]
+fn input_name_behind(alloc: Global, name: &Name) -> Result<Name, AllocError>
+    ensures { IfOk result (λ made. made ≡ input_name_behind name.now) }
+{
+    let mut bytes = Vec::from_slice(alloc, name.bytes())?;
+    bytes.extend_from_slice(b"_in")?;
+    Name::new(alloc, &bytes)
+}
+
 /// Appends the names that a pin's ports have, each with the new name that it gets from `name`.
 fn append_names(
     alloc: Global,
@@ -41,10 +51,16 @@ fn append_names(
     let port = port_name(alloc, pin)?;
     let given = Name::new(alloc, name.bytes())?;
     names.push((port, given))?;
-    if is_tri_state(pin) {
+    if pin.is_switched() {
         let enable = enable_name(alloc, pin)?;
         let given = enable_name_behind(alloc, name)?;
         names.push((enable, given))?;
+    }
+    if has_outside(*pin) {
+        let (x, y, n) = (pin.x, pin.y, pin.n);
+        let outside = input_port_name(alloc, &InputPort::Outside { x, y, n })?;
+        let given = input_name_behind(alloc, name)?;
+        names.push((outside, given))?;
     }
     Ok(())
 }

@@ -1,10 +1,9 @@
 // Pins and their ports.
 ghost use Rattle.std.specs.Prelude.{◌≡◌, IfOk};
-ghost use Rattle.fabric_model.specs.Pins.{is_tri_state};
 ghost use Rattle.port_names.specs.Named.{place_of, port_pin, port_pins};
 
 use fabric::Design;
-use fabric_model::{Pin, PinKind};
+use fabric_model::{Pin, has_outside};
 use pin_file::{PinPlace, PortPin};
 use std::alloc::{AllocError, Global};
 
@@ -20,21 +19,14 @@ pub(crate) fn place_of(pin: &Pin) -> PinPlace
     }
 }
 
-/// Whether a pin has an output enable: whether it is a tri-state output.
-pub(crate) fn is_tri_state(pin: &Pin) -> bool
-    ensures { result ≡ is_tri_state pin.now }
-{
-    pin.output && pin.kind == PinKind::TriState
-}
-
 /// A pin with its ports.
 fn port_pin(pin: &Pin) -> PortPin
     ensures { result ≡ port_pin pin.now }
 {
     PortPin {
         place: place_of(pin),
-        enable: is_tri_state(pin),
-        outside: false,
+        enable: pin.is_switched(),
+        outside: has_outside(*pin),
     }
 }
 
@@ -49,8 +41,8 @@ fn port_pins_among(alloc: Global, pins: &[Pin]) -> Result<Vec<PortPin>, AllocErr
     Ok(ports)
 }
 
-/// The pins of a design, in its order, each with its place and whether it has an output enable: whether it is a tri-state output. Each pin
-/// of a design has a port.
+/// The pins of a design, in its order, each with its place, whether it has an output enable, and whether it has an input from outside.
+/// Each pin of a design has a port.
 ///
 /// # Errors
 /// `AllocError` if memory is out, and for no other cause.

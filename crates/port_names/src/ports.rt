@@ -20,8 +20,8 @@ use vlog_module::Module;
 /// gives for the design. `named` are the names that `pin_file::pin_names` reads from a pin file, for the pins that [`crate::port_pins`]
 /// gives for the same design.
 ///
-/// The port of a pin gets the name that the pin file gives to the pin, and its output enable that name with `_en` after it. All other names
-/// stay. The module runs as the fabric that the database and the image configure: at the start and after each event the two
+/// The port of a pin gets the name that the pin file gives to the pin, its output enable that name with `_en` after it, and its input from
+/// outside that name with `_in` after it. All other names stay. The module runs as the fabric that the database and the image configure: at the start and after each event the two
 /// hold the same values.
 ///
 /// # Errors
@@ -41,11 +41,11 @@ pub fn name_ports(
     written: Module,
     named: &[PinName],
 ) -> Result<Module, AllocError>
-    requires written { (db : Database) (image : Configuration) → IsDesignOf db image design.now → written ≡ module_of (fabric_with design.now.parts.lut_inputs db image) design.now.order written.name }
+    requires written { (db : Database) (image : Configuration) → IsDesignOf db image design.now → written ≡ module_of (fabric_with design.now.parts.options db image) design.now.order written.name }
     requires name { IsName written.name }
     requires accepted { AreAccepted design.now.parts.pins.items named.now }
-    ensures made { IfOk result (λ made. (db : Database) (image : Configuration) → IsDesignOf db image design.now → made ≡ named_module named.now (fabric_with design.now.parts.lut_inputs db image) design.now.order written.name) }
-    ensures runs { IfOk result (λ made. (db : Database) (image : Configuration) → IsDesignOf db image design.now → RunsNamed named.now db image made) }
+    ensures made { IfOk result (λ made. (db : Database) (image : Configuration) → IsDesignOf db image design.now → made ≡ named_module named.now (fabric_with design.now.parts.options db image) design.now.order written.name) }
+    ensures runs { IfOk result (λ made. (db : Database) (image : Configuration) → IsDesignOf db image design.now → RunsNamed named.now design.now.parts.options db image made) }
 {
     let names = port_renaming(alloc, design.pins(), named)?;
     rename_ports(alloc, written, &names)

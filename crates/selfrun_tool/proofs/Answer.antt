@@ -5,9 +5,8 @@ use Rattle.plane_map.specs.declared.device.DeviceName.{DeviceName}
 use Rattle.chipdb_reader.specs.Database.{Database}
 use Rattle.chipdb_reader.specs.Fit.{IsFit}
 use Rattle.ice_gen.specs.Database.{generated_database}
-use Rattle.fabric_model.specs.declared.lut_inputs.LutInputs.TheVariants as luts
 use Rattle.fabric_model.specs.Faults.{Fault, design_fault}
-use Rattle.fabric_model.specs.Fabric.{Fabric, fabric_of}
+use Rattle.fabric_model.specs.Fabric.{Fabric, fabric_of, no_options}
 use Rattle.fabric_model.specs.Steps.{Event, Entry, IsRun}
 use Rattle.fabric_model.specs.Unique.{ExactlyOne}
 use Rattle.fabric_model.proofs.Alike.{design-run}
@@ -30,22 +29,22 @@ use Rattle.selfrun_tool.specs.Selfrun.{IsAnswerBy, IsAnswerFor, IsAnswerWith, Is
 abbrev told_by : Request → Database → List Entry → Answer
 told_by request db entries = Done (counts_text request.device (counts_of db (image_for request) (run_events request db) entries))
 
-one-counted : (request : Request) (db : Database) → IsFit db → design_fault luts.All db (image_for request) ≡ None → ExactlyOne (IsCounted request db)
+one-counted : (request : Request) (db : Database) → IsFit db → design_fault no_options db (image_for request) ≡ None → ExactlyOne (IsCounted request db)
 one-counted request db fit none =
-    let run = design-run luts.All db (image_for request) fit none (run_events request db) in
+    let run = design-run no_options db (image_for request) fit none (run_events request db) in
     record {
       it = told_by request db run.it;
       is = record { entries = run.it; run = run.is; answer_is = refl };
       only = λ other counted. counted.answer_is ∙ ap (told_by request db) (run.only counted.entries counted.run);
     }
 
-one-with : (request : Request) (db : Database) → IsFit db → (fault : Option Fault) → design_fault luts.All db (image_for request) ≡ fault → ExactlyOne (IsAnswerWith request db fault)
+one-with : (request : Request) (db : Database) → IsFit db → (fault : Option Fault) → design_fault no_options db (image_for request) ≡ fault → ExactlyOne (IsAnswerWith request db fault)
 one-with request db fit None is = one-counted request db fit is
 one-with request db fit (Some fault) is = record { it = Refused (design_fault_text fault); is = refl; only = λ other same. same }
 
 one-by : (request : Request) (read : Result Database (List ℕ)) → database_read (generated_database request.device) ≡ read → ExactlyOne (IsAnswerBy request read)
 one-by request (Err text) is = record { it = Refused text; is = refl; only = λ other same. same }
-one-by request (Ok db) is = one-with request db (read-fit (generated_database request.device) db is) (design_fault luts.All db (image_for request)) refl
+one-by request (Ok db) is = one-with request db (read-fit (generated_database request.device) db is) (design_fault no_options db (image_for request)) refl
 
 pub one-answer : (request : Option Request) → ExactlyOne (IsAnswerFor request)
 one-answer None = record { it = UsageError (usage_text selfrun_usage); is = refl; only = λ other same. same }
@@ -59,10 +58,10 @@ same-answer request one other first second =
 -- ---- what the parts give
 
 -- what is told if there is a design
-pub counted-answer : (request : Request) (db : Database) (answer : Answer) → design_fault luts.All db (image_for request) ≡ None
+pub counted-answer : (request : Request) (db : Database) (answer : Answer) → design_fault no_options db (image_for request) ≡ None
     → ((events : List Event) → ExactlyOne (IsRun (fabric_of db (image_for request)) events))
     → ((entries : List Entry) → IsRun (fabric_of db (image_for request)) (run_events request db) entries → IsCounted request db answer)
-    → IsAnswerWith request db (design_fault luts.All db (image_for request)) answer
+    → IsAnswerWith request db (design_fault no_options db (image_for request)) answer
 counted-answer request db answer none runs counted =
     let run = runs (run_events request db) in
     subst (λ (fault : Option Fault). IsAnswerWith request db fault answer) (sym none) (counted run.it run.is)

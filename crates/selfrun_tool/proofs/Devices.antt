@@ -6,7 +6,7 @@ use Rattle.plane_map.specs.Devices.{is_same_device}
 use Rattle.plane_map.proofs.Devices.{one-device, same-device}
 use Rattle.ice_image.specs.Configuration.{Configuration}
 use Rattle.chipdb_reader.specs.Database.{Database}
-use Rattle.fabric_model.specs.declared.lut_inputs.LutInputs.{LutInputs}
+use Rattle.fabric_model.specs.declared.options.FabricOptions.{FabricOptions}
 use Rattle.fabric_model.specs.Faults.{Fault, design_fault, device_faults}
 use Rattle.fabric_model.proofs.Taken.{design-taken}
 use Rattle.image_explain.specs.Explained.{explain_fault_of}
@@ -22,6 +22,6 @@ passes false none = absurd cc
 no-other : (one other : DeviceName) → (if is_same_device one other then [] else Fault.other_device ∷ []) ≡ [] → one ≡ other
 no-other one other none = one-device one other (passes (is_same_device one other) none)
 
-pub taken-device : (inputs : LutInputs) (db : Database) (image : Configuration) → design_fault inputs db image ≡ None → db.chip.device ≡ image.layout.device
+pub taken-device : (options : FabricOptions) (db : Database) (image : Configuration) → design_fault options db image ≡ None → db.chip.device ≡ image.layout.device
 unfolding device_faults
-taken-device inputs db image none = no-other db.chip.device image.layout.device (design-taken inputs db image none).device
+taken-device options db image none = no-other db.chip.device image.layout.device (design-taken options db image none).device

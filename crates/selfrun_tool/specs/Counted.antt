@@ -1,5 +1,5 @@
 -- The counts of a generated design and of its run, and their text.
-use Rattle.std.specs.Prelude.{ℕ, ◌+◌, Bool, ◌&&◌, ◌==◌, List, [], ◌∷◌, ◌++◌, length, filter, flat_map, position, codes, decimal, if◌then◌else◌, Option, None, Some}
+use Rattle.std.specs.Prelude.{ℕ, ◌+◌, Bool, false, ◌&&◌, ◌==◌, List, [], ◌∷◌, ◌++◌, length, filter, flat_map, position, codes, decimal, if◌then◌else◌, Option, None, Some}
 use Rattle.text_lines.specs.Lines.{lines_of}
 use Rattle.text_lines.specs.Written.{text_of}
 use Rattle.plane_map.specs.declared.device.DeviceName.{DeviceName}
@@ -10,10 +10,9 @@ use Rattle.bin_stream.specs.CanonicalBytes.{canonical_bytes}
 use Rattle.chipdb_reader.specs.Database.{Database}
 use Rattle.image_explain.specs.Explained.{explained}
 use Rattle.ice_gen.specs.declared.event.PinEvent.{PinEvent}
-use Rattle.fabric_model.specs.declared.pin.Pin.{Pin}
-use Rattle.fabric_model.specs.declared.lut_inputs.LutInputs.{LutInputs}
-use Rattle.fabric_model.specs.declared.lut_inputs.LutInputs.TheVariants as read
-use Rattle.fabric_model.specs.Fabric.{fabric_with}
+use Rattle.fabric_model.specs.declared.input_port.InputPort.{InputPort}
+use Rattle.fabric_model.specs.declared.input_port.InputPort.TheVariants.{Pad, Outside}
+use Rattle.fabric_model.specs.Fabric.{fabric_of}
 use Rattle.fabric_model.specs.Cells.{cells_of}
 use Rattle.fabric_model.specs.Rams.{rams_of}
 use Rattle.fabric_model.specs.Wiring.{wiring_of}
@@ -27,20 +26,21 @@ use Rattle.selfrun_tool.specs.declared.counts.Counts.{Counts}
 abbrev pub pin_row : PinEvent → ℕ
 pin_row event = if event.second then 2 else 1
 
--- whether a pin is the one that gets the bit: `io_0_2_0`, or `io_0_1_0`
-abbrev pub is_pin_of : PinEvent → Pin → Bool
-is_pin_of event pin = (pin.x == 0) && ((pin.y == pin_row event) && (pin.n == 0))
+-- whether an input port is the one that gets the bit: `io_0_2_0`, or `io_0_1_0`
+abbrev pub is_port_of : PinEvent → InputPort → Bool
+is_port_of event (Pad x y n) = (x == 0) && ((y == pin_row event) && (n == 0))
+is_port_of event (Outside x y n) = false
 
--- the event of a pin by its index among the input pins; none if it isn't one of them
+-- the event of a port by its index among the input ports; none if it isn't one of them
 abbrev pub event_at : Bool → Option ℕ → List Event
 event_at bit None = []
 event_at bit (Some place) = record { pin = place; bit = bit } ∷ []
 
-abbrev pub event_for : List Pin → PinEvent → List Event
-event_for inputs event = event_at event.bit (position (is_pin_of event) inputs)
+abbrev pub event_for : List InputPort → PinEvent → List Event
+event_for inputs event = event_at event.bit (position (is_port_of event) inputs)
 
--- the events whose pin is among the input pins; the others are left out
-unfoldable pub events_for : List Pin → List PinEvent → List Event
+-- the events whose port is among the input ports; the others are left out
+unfoldable pub events_for : List InputPort → List PinEvent → List Event
 events_for inputs events = flat_map (event_for inputs) events
 
 -- ---- counts
@@ -53,22 +53,18 @@ ones_in bits = length (filter (λ bit. bit) bits)
 abbrev pub output_bits : List Entry → List Bool
 output_bits entries = flat_map (λ entry. entry.outputs) entries
 
--- the counts of a database, an image whose LUTs read these inputs, events and the entries of their run
-unfoldable pub counts_with : LutInputs → Database → Configuration → List Event → List Entry → Counts
-counts_with inputs db image events entries = record {
+-- the counts of a database, an image, events and the entries of their run
+unfoldable pub counts_of : Database → Configuration → List Event → List Entry → Counts
+counts_of db image events entries = record {
   bin = length (canonical_bytes image);
   nets = db.chip.nets;
   cells = length (cells_of db image);
   rams = length (rams_of db image);
-  wires = length (write_order (wiring_of (fabric_with inputs db image)));
+  wires = length (write_order (wiring_of (fabric_of db image)));
   events = length events;
   explained = length (lines_of (explained db image None));
   ones = ones_in (output_bits entries);
 }
-
--- the counts if LUTs read all of their inputs
-abbrev pub counts_of : Database → Configuration → List Event → List Entry → Counts
-counts_of db image events entries = counts_with read.All db image events entries
 
 -- ---- the text
 

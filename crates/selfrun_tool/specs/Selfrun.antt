@@ -11,8 +11,7 @@ use Rattle.chipdb_reader.specs.Database.{Database}
 use Rattle.ice_gen.specs.Database.{generated_database}
 use Rattle.ice_gen.specs.Image.{generated_image}
 use Rattle.ice_gen.specs.Events.{generated_events}
-use Rattle.fabric_model.specs.Fabric.{fabric_of, inputs_of}
-use Rattle.fabric_model.specs.declared.lut_inputs.LutInputs.TheVariants as read
+use Rattle.fabric_model.specs.Fabric.{fabric_of, inputs_of, no_options}
 use Rattle.fabric_model.specs.Faults.{Fault, design_fault}
 use Rattle.fabric_model.specs.Steps.{Event, Entry, IsRun}
 use Rattle.tool_run.specs.Lines.{usage_text}
@@ -47,7 +46,7 @@ IsAnswerWith request db (Some fault) answer = answer ≡ Refused (design_fault_t
 -- a fault of the database goes before one of the design
 abbrev pub IsAnswerBy : Request → Result Database (List ℕ) → Answer → Type 0
 IsAnswerBy request (Err text) answer = answer ≡ Refused text
-IsAnswerBy request (Ok db) answer = IsAnswerWith request db (design_fault read.All db (image_for request)) answer
+IsAnswerBy request (Ok db) answer = IsAnswerWith request db (design_fault no_options db (image_for request)) answer
 
 -- whether this is the answer to a request
 abbrev pub IsAnswer : Request → Answer → Type 0

@@ -101,8 +101,8 @@ pub(crate) fn explained_lines(
 /// The module of a design, after it was printed and parsed again.
 #[tactic(auto, unfolding(vlog_module::specs::Names::is_name, vlog_module::specs::Names::reserved_words))]
 fn module_of(alloc: Global, design: &Design) -> Result<Module, AllocError>
-    ensures made { IfOk result (λ made. (db : Database) (image : Configuration) → IsDesignOf db image design.now → made ≡ module_of (fabric_with design.now.parts.lut_inputs db image) design.now.order (codes "selfrun")) }
-    ensures runs { IfOk result (λ made. (db : Database) (image : Configuration) → IsDesignOf db image design.now → RunsAs db image made) }
+    ensures made { IfOk result (λ made. (db : Database) (image : Configuration) → IsDesignOf db image design.now → made ≡ module_of (fabric_with design.now.parts.options db image) design.now.order (codes "selfrun")) }
+    ensures runs { IfOk result (λ made. (db : Database) (image : Configuration) → IsDesignOf db image design.now → RunsAs design.now.parts.options db image made) }
 {
     let module = emit(alloc, design, b"selfrun")?;
     from_own_text(alloc, &module)

@@ -1,9 +1,9 @@
 // The generated events, as events of the module that runs.
 ghost use Rattle.std.specs.Prelude.{◌≡◌, ◌<◌, ◌++◌, All, IfOk, OnOk, length, map, position};
 ghost use Rattle.fabric_module.specs.Matching.{module_event};
-ghost use Rattle.selfrun_tool.specs.Counted.{event_for, events_for, is_pin_of, pin_row};
+ghost use Rattle.selfrun_tool.specs.Counted.{event_for, events_for, is_port_of, pin_row};
 
-use fabric_model::Pin;
+use fabric_model::InputPort;
 use ice_gen::PinEvent;
 use std::alloc::{AllocError, Global};
 use vlog_run::Event;
@@ -15,22 +15,29 @@ fn pin_row(event: PinEvent) -> u8
     if event.second { 2 } else { 1 }
 }
 
-/// Whether a pin is the one that gets the bit.
-fn is_pin_of(event: PinEvent, pin: &Pin) -> bool
-    ensures { result ≡ is_pin_of event pin.now }
+/// Whether an input port is the one that gets the bit.
+fn is_port_of(event: PinEvent, port: InputPort) -> bool
+    ensures { result ≡ is_port_of event port }
 {
-    pin.x == 0 && pin.y == pin_row(event) && pin.n == 0
+    match port {
+        InputPort::Pad { x, y, n } => x == 0 && y == pin_row(event) && n == 0,
+        InputPort::Outside { .. } => false,
+    }
 }
 
-/// The index of the pin among the input pins, if it is one of them.
-fn place_of(event: PinEvent, inputs: &[Pin]) -> Option<usize>
-    ensures { result ≡ position (is_pin_of event) inputs.now }
+/// The index of the port among the input ports, if it is one of them.
+fn place_of(event: PinEvent, inputs: &[InputPort]) -> Option<usize>
+    ensures { result ≡ position (is_port_of event) inputs.now }
 {
-    inputs.iter().position(|pin| is_pin_of(event, pin))
+    inputs.iter().position(|port| is_port_of(event, *port))
 }
 
-/// Appends an event, if its pin is among the input pins.
-fn push_event(events: &mut Vec<Event>, inputs: &[Pin], event: PinEvent) -> Result<(), AllocError>
+/// Appends an event, if its port is among the input ports.
+fn push_event(
+    events: &mut Vec<Event>,
+    inputs: &[InputPort],
+    event: PinEvent,
+) -> Result<(), AllocError>
     ensures { OnOk result (events.new.items ≡ events.old.items ++ map module_event (event_for inputs.now event)) }
 {
     if let Some(pin) = place_of(event, inputs) {
@@ -42,11 +49,11 @@ fn push_event(events: &mut Vec<Event>, inputs: &[Pin], event: PinEvent) -> Resul
     Ok(())
 }
 
-/// The events whose pin is among the input pins, for the module. The others are left out.
+/// The events whose port is among the input ports, for the module. The others are left out.
 #[tactic(auto, unfolding(crate::specs::Counted::events_for))]
 pub(crate) fn events_for(
     alloc: Global,
-    inputs: &[Pin],
+    inputs: &[InputPort],
     made: &[PinEvent],
 ) -> Result<Vec<Event>, AllocError>
     ensures { IfOk result (λ events. events.items ≡ map module_event (events_for inputs.now made.now)) }

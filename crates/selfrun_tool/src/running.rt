@@ -4,8 +4,7 @@ ghost use Rattle.plane_map.specs.Devices.{has_database};
 ghost use Rattle.ice_image.specs.Either.{configuration_of};
 ghost use Rattle.chipdb_reader.specs.Kept.{database_in};
 ghost use Rattle.bin_stream.specs.CanonicalBytes.{canonical_bytes};
-ghost use Rattle.fabric_model.specs.Fabric.{fabric_of};
-ghost use Rattle.fabric_model.specs.declared.lut_inputs.LutInputs.TheVariants as read;
+ghost use Rattle.fabric_model.specs.Fabric.{fabric_of, no_options};
 ghost use Rattle.fabric_model.specs.Faults.{design_fault};
 ghost use Rattle.fabric_model.specs.Steps.{Entry, IsRun};
 ghost use Rattle.fabric_model.specs.Unique.{ExactlyOne};
@@ -13,7 +12,7 @@ ghost use Rattle.fabric.specs.Design.{IsDesignOf};
 ghost use Rattle.tool_run.specs.Runs.{Does};
 ghost use Rattle.tool_run.specs.Tasks.{Answer, Done, at_once};
 ghost use Rattle.tool_inputs.specs.Databases.{database_read};
-ghost use Rattle.selfrun_tool.specs.Counted.{counts_text, counts_with};
+ghost use Rattle.selfrun_tool.specs.Counted.{counts_of, counts_text};
 ghost use Rattle.selfrun_tool.specs.Inside.{StopsAs};
 ghost use Rattle.selfrun_tool.specs.Selfrun.{IsAnswer, IsAnswerBy, IsAnswerWith, IsSelfrunAnswer, image_for, run_events, selfrun_name, selfrun_outcome};
 
@@ -56,10 +55,11 @@ fn counted(
     design: &Design,
 ) -> Result<Counts, AllocError>
     requires design { IsDesignOf (database_in db.now) (image_for request) design.now }
+    requires options { design.now.parts.options ≡ no_options }
     requires image { configuration_of packed.now.image ≡ image_for request }
     requires bytes { packed.now.bytes ≡ length (canonical_bytes (image_for request)) }
     ensures { IfOk result (λ counts. (entries : List Entry) → IsRun (fabric_of (database_in db.now) (image_for request)) (run_events request (database_in db.now)) entries
-        → counts ≡ counts_with design.now.parts.lut_inputs (database_in db.now) (image_for request) (run_events request (database_in db.now)) entries) }
+        → counts ≡ counts_of (database_in db.now) (image_for request) (run_events request (database_in db.now)) entries) }
 {
     let explained = explained_lines(alloc, db, &packed.image)?;
     let ran = run(alloc, design, request)?;
@@ -84,10 +84,11 @@ fn design_text(
     design: &Design,
 ) -> Result<Vec<u8>, AllocError>
     requires design { IsDesignOf (database_in db.now) (image_for request) design.now }
+    requires options { design.now.parts.options ≡ no_options }
     requires image { configuration_of packed.now.image ≡ image_for request }
     requires bytes { packed.now.bytes ≡ length (canonical_bytes (image_for request)) }
     ensures { IfOk result (λ text. (entries : List Entry) → IsRun (fabric_of (database_in db.now) (image_for request)) (run_events request (database_in db.now)) entries
-        → text.items ≡ counts_text request.device (counts_with design.now.parts.lut_inputs (database_in db.now) (image_for request) (run_events request (database_in db.now)) entries)) }
+        → text.items ≡ counts_text request.device (counts_of (database_in db.now) (image_for request) (run_events request (database_in db.now)) entries)) }
 {
     let counts = counted(alloc, request, db, packed, design)?;
     text_of(alloc, request.device, &counts)
@@ -102,8 +103,8 @@ fn told_by(
 ) -> Result<Vec<u8>, Stop<'static>>
     requires image { configuration_of packed.now.image ≡ image_for request }
     requires bytes { packed.now.bytes ≡ length (canonical_bytes (image_for request)) }
-    ensures bytes { IfOk result (λ bytes. IsAnswerWith request (database_in db.now) (design_fault read.All (database_in db.now) (image_for request)) (Done bytes.items)) }
-    ensures stops { IfErr result (StopsAs (IsAnswerWith request (database_in db.now) (design_fault read.All (database_in db.now) (image_for request)))) }
+    ensures bytes { IfOk result (λ bytes. IsAnswerWith request (database_in db.now) (design_fault no_options (database_in db.now) (image_for request)) (Done bytes.items)) }
+    ensures stops { IfErr result (StopsAs (IsAnswerWith request (database_in db.now) (design_fault no_options (database_in db.now) (image_for request)))) }
 {
     match design(alloc, db, &packed.image) {
         Ok(design) => Ok(design_text(alloc, request, db, packed, &design)?),
@@ -119,8 +120,8 @@ fn told_of(
     image: &AnyImage,
 ) -> Result<Vec<u8>, Stop<'static>>
     requires { configuration_of image.now ≡ image_for request }
-    ensures bytes { IfOk result (λ bytes. IsAnswerWith request (database_in db.now) (design_fault read.All (database_in db.now) (image_for request)) (Done bytes.items)) }
-    ensures stops { IfErr result (StopsAs (IsAnswerWith request (database_in db.now) (design_fault read.All (database_in db.now) (image_for request)))) }
+    ensures bytes { IfOk result (λ bytes. IsAnswerWith request (database_in db.now) (design_fault no_options (database_in db.now) (image_for request)) (Done bytes.items)) }
+    ensures stops { IfErr result (StopsAs (IsAnswerWith request (database_in db.now) (design_fault no_options (database_in db.now) (image_for request)))) }
 {
     let packed = pack(alloc, image)?;
     told_by(alloc, request, db, &packed)

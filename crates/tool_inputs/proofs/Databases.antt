@@ -1,5 +1,5 @@
 -- What holds of a database that is read: it is fit, and has few nets.
-use Rattle.std.proofs.Common.{◌≡◌, ℕ, zero, suc, ◌^◌, ◌≤◌, Bool, true, false, List, [], ◌∷◌, length, refl, inl, inr, arith, subst, sym}
+use Rattle.std.proofs.Common.{◌≡◌, ℕ, zero, suc, ◌≤◌, Bool, true, false, List, [], ◌∷◌, length, refl, inl, inr, subst, sym}
 use Rattle.std.specs.Prelude.{◌&&◌, ◌==◌, nat_le, IfSome, Option, Some, None, Ok, if◌then◌else◌, get_or, drop}
 use Rattle.std.proofs.lemmas.Bool.{cases_Bool, leb-true}
 use Rattle.shared_lemmas.proofs.Tests.{second_true}
@@ -99,8 +99,7 @@ read-means bytes db is = means-by bytes (db_fault_of bytes) db refl is
 pub read-fit : (bytes : List ℕ) (db : Database) → database_read bytes ≡ Ok db → IsFit db
 read-fit bytes db is = let means = read-means bytes db is in subst IsFit (sym means.lines) (database-fit db.chip (lines_of bytes) means.device)
 
-pub read-few : (bytes : List ℕ) (db : Database) → database_read bytes ≡ Ok db → db.chip.nets ≤ 2 ^ 64
+pub read-few : (bytes : List ℕ) (db : Database) → database_read bytes ≡ Ok db → db.chip.nets ≤ 16777216
 read-few bytes db is =
     let means = read-means bytes db is in
-    let few : IfSome (Some db.chip) HasFew = subst (λ (chip : Option Chip). IfSome chip HasFew) means.device (few-before (lines_of bytes) (length (lines_of bytes))) in
-    omega (arith, few)
+    subst (λ (chip : Option Chip). IfSome chip HasFew) means.device (few-before (lines_of bytes) (length (lines_of bytes)))

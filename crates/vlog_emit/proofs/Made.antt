@@ -5,7 +5,7 @@ use Rattle.chipdb_reader.specs.Database.{Database}
 use Rattle.vlog_module.specs.Names.{IsName}
 use Rattle.vlog_module.specs.Parts.{Parts}
 use Rattle.vlog_module.specs.WellFormed.{IsModule}
-use Rattle.fabric_model.specs.declared.lut_inputs.LutInputs.{LutInputs}
+use Rattle.fabric_model.specs.declared.options.FabricOptions.{FabricOptions}
 use Rattle.fabric_model.specs.Fabric.{Fabric, fabric_with}
 use Rattle.fabric.specs.Kept.{Kept, IsKeptOf}
 use Rattle.fabric.specs.Design.{IsDesign, IsDesignOf}
@@ -20,7 +20,7 @@ parts-same one two of_name of_ports of_items =
     ∙ (ap (λ p. record { name = two.name; ports = p; items = one.items }) of_ports
     ∙ ap (λ i. record { name = two.name; ports = two.ports; items = i }) of_items)
 
-module _ (law : (inputs : LutInputs) (db : Database) (image : Configuration) → ModuleIsFabric inputs db image) (design : Kept) (name : List ℕ) (is_name : IsName name) (made : Parts)
+module _ (law : (options : FabricOptions) (db : Database) (image : Configuration) → ModuleIsFabric options db image) (design : Kept) (name : List ℕ) (is_name : IsName name) (made : Parts)
     (of_name : made.name ≡ name) (of_ports : made.ports ≡ flat_map pin_ports design.parts.pins.items)
     (of_items : EachFabric design (λ fabric. made.items ≡ items_of fabric design.order)) where
   -- the module of each fabric whose design is kept
@@ -30,15 +30,15 @@ module _ (law : (inputs : LutInputs) (db : Database) (image : Configuration) →
       parts-same made (record { name = name; ports = flat_map pin_ports fabric.pins; items = items_of fabric design.order }) of_name
       (of_ports ∙ ap (flat_map pin_ports) kept.parts.pins) (of_items fabric kept)
 
-  pub made-is : (db : Database) (image : Configuration) → IsDesignOf db image design → made ≡ module_of (fabric_with design.parts.lut_inputs db image) design.order name
-  made-is db image of = made-each (fabric_with design.parts.lut_inputs db image) of.kept
+  pub made-is : (db : Database) (image : Configuration) → IsDesignOf db image design → made ≡ module_of (fabric_with design.parts.options db image) design.order name
+  made-is db image of = made-each (fabric_with design.parts.options db image) of.kept
 
   pub made-well_formed : IsDesign design → IsModule made
   made-well_formed is =
       subst IsModule (sym (made-is is.0 is.1 is.2))
-      (law design.parts.lut_inputs is.0 is.1 is.2.fit is.2.few is.2.taken design.order name is.2.kept.order is_name).0
+      (law design.parts.options is.0 is.1 is.2.fit is.2.few is.2.taken design.order name is.2.kept.order is_name).0
 
-  pub made-runs : (db : Database) (image : Configuration) → IsDesignOf db image design → RunsAs db image made
+  pub made-runs : (db : Database) (image : Configuration) → IsDesignOf db image design → RunsAs design.parts.options db image made
   made-runs db image of =
-      let runs = (law design.parts.lut_inputs db image of.fit of.few of.taken design.order name of.kept.order is_name).1 in
-      subst (RunsAs db image) (sym (made-is db image of)) (record { one_run = runs.one_run; alike = runs.alike })
+      let runs = (law design.parts.options db image of.fit of.few of.taken design.order name of.kept.order is_name).1 in
+      subst (RunsAs design.parts.options db image) (sym (made-is db image of)) (record { one_run = runs.one_run; alike = runs.alike })

@@ -66,13 +66,13 @@ all-unmapped P change (item ∷ list) all =
 
 module _ (design : Kept) (is : IsDesign design) where
   abbrev fabric : Fabric
-  fabric = fabric_with design.parts.lut_inputs is.0 is.1
+  fabric = fabric_with design.parts.options is.0 is.1
 
   count : nets_in design ≡ fabric.nets
   count = is.2.kept.drivers.classes
 
   writable : IsWritable fabric
-  writable = fabric-writable design.parts.lut_inputs is.0 is.1 is.2.fit is.2.few is.2.taken
+  writable = fabric-writable design.parts.options is.0 is.1 is.2.fit is.2.few is.2.taken
 
   -- what an input reads is there
   signal-in : (source : Signal) → IsNetSignalIn (nets_in design) source → IsSignalThere fabric source → IsSignalIn design source
@@ -107,7 +107,7 @@ module _ (design : Kept) (is : IsDesign design) where
       (subst (All (IsRamIn fabric.nets)) (sym is.2.kept.parts.rams) is.2.kept.parts.within.rams)
 
   ported : All IsPorted design.parts.rams.items
-  ported = subst (All IsPorted) (sym is.2.kept.parts.rams) (fabric-started is.0 is.1 design.parts.lut_inputs).each_port
+  ported = subst (All IsPorted) (sym is.2.kept.parts.rams) (fabric-started is.0 is.1 design.parts.options).each_port
 
   -- the modes of RAMs are 0 to 3
   pub reads-moded : All (λ ram. ram.read ≤ 3) design.parts.rams.items
@@ -182,7 +182,7 @@ module _ (design : Kept) (is : IsDesign design) where
             let same : found.0 ≡ drive_of drive = cc in
             let there : Contains (drives_of fabric) (drive_of drive) = subst (Contains (drives_of fabric)) same found.2.there in
             rule-in drive.rule (writable.places (drive_of drive) there)
-            (λ net reads. let below : net < fabric.nets = (fabric-within is.0 is.1 is.2.fit design.parts.lut_inputs).reads (drive_of drive) there net reads in let nets = count in omega arith)
+            (λ net reads. let below : net < fabric.nets = (fabric-within is.0 is.1 is.2.fit design.parts.options).reads (drive_of drive) there net reads in let nets = count in omega arith)
         | inr away ↦ let none : drivers_of fabric class ≡ [] = none-driven fabric class away in absurd cc
       ]
 
@@ -194,4 +194,4 @@ module _ (design : Kept) (is : IsDesign design) where
       let ends : clock_end fabric net ≡ at_pin place turned = sym (end-is fabric design is.2.kept net below) ∙ at in
       subst (λ pins. place < length pins) (sym is.2.kept.inputs)
       (leads-place fabric writable
-      (clock_end-leads fabric (fabric-within is.0 is.1 is.2.fit design.parts.lut_inputs) design.order is.2.kept.order net) place turned ends)
+      (clock_end-leads fabric (fabric-within is.0 is.1 is.2.fit design.parts.options) design.order is.2.kept.order net) place turned ends)

@@ -18,7 +18,7 @@ EachFabric design Holds = (fabric : Fabric) → IsKeptOf fabric design → Holds
 abbrev pub nets_in : Kept → ℕ
 nets_in design = length design.drivers.places
 
--- the net, the input pin or the register that an input reads exists
+-- the net, the input port or the register that an input reads exists
 abbrev pub IsSignalIn : Kept → Signal → Type 0
 IsSignalIn design (signal.Net net otherwise) = IsNetIn (nets_in design) net
 IsSignalIn design (signal.Input place) = place < length design.inputs
@@ -35,7 +35,7 @@ pub record IsRegisterIn (design : Kept) (register : Register) : Type 0 where
   pub sr : IsNetIn (nets_in design) register.sr
   pub table : IsTableIn design register.table
 
--- the pins, registers, RAMs and nets of a rule exist
+-- the input ports, registers, RAMs and nets of a rule exist
 abbrev pub IsRuleIn : Kept → Rule → Type 0
 IsRuleIn design (PinBit place) = place < length design.inputs
 IsRuleIn design (Constant bit) = Unit {0}

@@ -11,7 +11,7 @@ ghost use Rattle.vlog_emit.specs.Each.{EachFabric, IsSignalIn, IsTableIn, nets_i
 
 use fabric::Design;
 use fabric_model::{LutTable, Register, Signal};
-use fabric_module::{port_name, register_name, wire_name};
+use fabric_module::{input_port_name, register_name, wire_name};
 use std::alloc::{AllocError, Global};
 use vlog_module::{Atom, Atoms, Lut, Name};
 
@@ -161,13 +161,13 @@ pub(crate) fn pattern_of(mode: u8) -> u16
     }
 }
 
-/// The name of the port of the input pin with that index.
+/// The name of the input port with that index.
 pub(crate) fn input_name(alloc: Global, design: &Design, place: usize) -> Result<Name, AllocError>
     requires { place < length design.now.inputs }
     ensures { IfOk result (λ name. EachFabric design.now (λ fabric. name ≡ input_name fabric place)) }
 {
     let inputs = design.inputs();
-    port_name(alloc, &inputs[place])
+    input_port_name(alloc, &inputs[place])
 }
 
 /// The name of the register with an index.

@@ -80,8 +80,8 @@ fn items_of(alloc: Global, design: &Design) -> Result<Vec<Item>, AllocError>
 pub fn emit(alloc: Global, design: &Design, name: &[u8]) -> Result<Module, AllocError>
     requires { IsName name.now }
     ensures name { IfOk result (λ made. made.name ≡ name.now) }
-    ensures made { IfOk result (λ made. (db : Database) (image : Configuration) → IsDesignOf db image design.now → made ≡ module_of (fabric_with design.now.parts.lut_inputs db image) design.now.order name.now) }
-    ensures runs { IfOk result (λ made. (db : Database) (image : Configuration) → IsDesignOf db image design.now → RunsAs db image made) }
+    ensures made { IfOk result (λ made. (db : Database) (image : Configuration) → IsDesignOf db image design.now → made ≡ module_of (fabric_with design.now.parts.options db image) design.now.order name.now) }
+    ensures runs { IfOk result (λ made. (db : Database) (image : Configuration) → IsDesignOf db image design.now → RunsAs design.now.parts.options db image made) }
 {
     // Its clause says that the module is well-formed and runs as the fabric.
     module_is_fabric();

@@ -1,11 +1,13 @@
 // Items.
-ghost use Rattle.std.specs.Prelude.{◌≡◌, ◌<◌, ◌≤◌, ◌==◌, ◌++◌, false, option_to_list, IfOk, OnOk};
+ghost use Rattle.std.specs.Prelude.{◌≡◌, ◌<◌, ◌≤◌, ◌==◌, ◌++◌, false, map, option_to_list, IfOk, OnOk};
 ghost use Rattle.fabric_model.specs.Within.{IsNetIn, IsRamIn};
-ghost use Rattle.fabric_model.specs.Pins.{is_tri_state};
+ghost use Rattle.fabric_model.specs.Tiles.{item_if};
+ghost use Rattle.fabric_model.specs.Pins.{drives, is_switched, has_input, has_outside};
+ghost use Rattle.fabric_model.specs.declared.input_port.InputPort.TheVariants.{Pad as PadPort, Outside as OutsidePort};
 ghost use Rattle.fabric_wiring.specs.Outputs.{output_of};
 ghost use Rattle.fabric.specs.Design.{IsDesign};
-ghost use Rattle.fabric_module.specs.Names.{output_name, register_name};
-ghost use Rattle.fabric_module.specs.Written.{clock_name, is_falling, port_of, pin_ports, register_item, read_register, ram_memory, class_wire, output_assign, flip_item, at_once_item, items_by, register_items, read_item, read_items, write_item, write_items};
+ghost use Rattle.fabric_module.specs.Names.{port_name, enable_name, output_name, register_name};
+ghost use Rattle.fabric_module.specs.Written.{clock_name, is_falling, output_port, input_port, pin_ports, register_item, read_register, ram_memory, class_wire, output_assign, flip_item, at_once_item, items_by, register_items, read_item, read_items, write_item, write_items};
 ghost use Rattle.vlog_emit.specs.Each.{EachFabric, IsRegisterIn, IsSignalIn, nets_in};
 
 use crate::atoms::{
@@ -14,8 +16,10 @@ use crate::atoms::{
 };
 use crate::rights::class_right;
 use fabric::Design;
-use fabric_model::{Pin, PinKind, RamCell, Register};
-use fabric_module::{enable_name, memory_name, port_name, read_name, register_name, wire_name};
+use fabric_model::{InputPort, Pin, RamCell, Register, has_input, has_outside};
+use fabric_module::{
+    enable_name, input_port_name, memory_name, port_name, read_name, register_name, wire_name,
+};
 use fabric_wiring::{ClockEnd, Output};
 use std::alloc::{AllocError, Global};
 use vlog_module::{Item, Name, Port};
@@ -31,15 +35,52 @@ fn output_name(alloc: Global, output: &Output) -> Result<Name, AllocError>
     }
 }
 
-/// The port of a pin's value.
-fn port_of(alloc: Global, pin: &Pin) -> Result<Port, AllocError>
-    ensures { IfOk result (λ port. port ≡ port_of pin.now) }
+/// Appends the output ports of a pin: what it drives its pad with, and when it does.
+fn append_outputs(alloc: Global, pin: &Pin, ports: &mut Vec<Port>) -> Result<(), AllocError>
+    ensures { OnOk result (ports.new.items ≡ ports.old.items ++ (item_if (drives pin.now) (output_port (port_name pin.now)) ++ item_if (is_switched pin.now) (output_port (enable_name pin.now)))) }
 {
-    let name = port_name(alloc, pin)?;
-    Ok(Port {
-        name,
-        output: pin.output,
-    })
+    if pin.drives() {
+        let name = port_name(alloc, pin)?;
+        ports.push(Port { name, output: true })?;
+    }
+    if pin.is_switched() {
+        let name = enable_name(alloc, pin)?;
+        ports.push(Port { name, output: true })?;
+    }
+    Ok(())
+}
+
+/// Appends an input port, if a pin has it.
+fn append_input(
+    alloc: Global,
+    is_there: bool,
+    port: InputPort,
+    ports: &mut Vec<Port>,
+) -> Result<(), AllocError>
+    ensures { OnOk result (ports.new.items ≡ ports.old.items ++ map input_port (item_if is_there port)) }
+{
+    if is_there {
+        let name = input_port_name(alloc, &port)?;
+        ports.push(Port {
+            name,
+            output: false,
+        })?;
+    }
+    Ok(())
+}
+
+/// Appends the input ports of a pin.
+fn append_inputs(alloc: Global, pin: &Pin, ports: &mut Vec<Port>) -> Result<(), AllocError>
+    ensures { OnOk result (ports.new.items ≡ ports.old.items ++ (map input_port (item_if (has_input pin.now) (PadPort pin.now.x pin.now.y pin.now.n)) ++ map input_port (item_if (has_outside pin.now) (OutsidePort pin.now.x pin.now.y pin.now.n)))) }
+{
+    let (x, y, n) = (pin.x, pin.y, pin.n);
+    append_input(alloc, has_input(*pin), InputPort::Pad { x, y, n }, ports)?;
+    append_input(
+        alloc,
+        has_outside(*pin),
+        InputPort::Outside { x, y, n },
+        ports,
+    )
 }
 
 /// Appends the ports of a pin.
@@ -50,20 +91,8 @@ pub(crate) fn append_ports(
 ) -> Result<(), AllocError>
     ensures { OnOk result (ports.new.items ≡ ports.old.items ++ pin_ports pin.now) }
 {
-    let port = port_of(alloc, pin)?;
-    ports.push(port)?;
-    if is_tri_state(pin) {
-        let name = enable_name(alloc, pin)?;
-        ports.push(Port { name, output: true })?;
-    }
-    Ok(())
-}
-
-/// Whether a pin is a tri-state output.
-fn is_tri_state(pin: &Pin) -> bool
-    ensures { result ≡ is_tri_state pin.now }
-{
-    pin.output && pin.kind == PinKind::TriState
+    append_outputs(alloc, pin, ports)?;
+    append_inputs(alloc, pin, ports)
 }
 
 /// The declaration of a register.

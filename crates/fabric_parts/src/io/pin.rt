@@ -1,15 +1,20 @@
 // Pins.
-ghost use Rattle.std.specs.Prelude.{◌≡◌, ◌≤◌, ◌&&◌, ◌||◌, length};
+ghost use Rattle.std.specs.Prelude.{◌≡◌, ◌≤◌, ◌+◌, ◌*◌, ◌++◌, codes, length, if◌then◌else◌, Some, None, IfOk};
+ghost use Rattle.plane_map.specs.declared.tile.TileKind.TheVariants.{Io};
+ghost use Rattle.ice_image.specs.Either.{configuration_of};
 ghost use Rattle.chipdb_reader.specs.Kept.{database_in};
 ghost use Rattle.chipdb_reader.specs.Fit.{IsFit};
-ghost use Rattle.fabric_model.specs.Pins.{io_net, pin_with, has_plain_output, has_registered_output, has_plain_input};
-ghost use Rattle.fabric_model.specs.BelongTogether.{is_some_read_in};
+ghost use Rattle.fabric_model.specs.Pins.{io_net, io_shared_net, pin_with};
+ghost use Rattle.fabric_model.specs.TilesOfKind.{HasTile};
+ghost use Rattle.fabric_model.specs.BelongTogether.{BelongTogether, is_some_read_in};
 
-use crate::io::pintype::{
-    has_plain_input, has_plain_output, has_registered_output, is_output_pin, kind_of,
-};
+use crate::io::pads::is_global_pad;
+use crate::io::pintype::{drive_of, pintype, sends_of, takes_of};
 use chipdb_reader::ChipDb;
-use fabric_model::{GlobalNet, Links, Pin, ShortText, is_some_read};
+use fabric_model::{GlobalNet, Links, Pin, ShortText, is_on, is_some_read, place_of};
+use ice_image::AnyImage;
+use plane_map::TileKind;
+use std::alloc::AllocError;
 
 /// The pins that are ports, by tile and number, and the nets of global networks 0 to 7, by network and net. Tiles are ordered by row, then
 /// by column.
@@ -19,45 +24,113 @@ pub struct PinSet {
     pub globals: Vec<GlobalNet>,
 }
 
+/// Pin `n` of the io tile at (x, y), whose number among all pins of io tiles is `number`.
+#[derive(Clone, Copy)]
+pub(crate) struct NumberedPlace {
+    pub(crate) number: usize,
+    pub(crate) x: u8,
+    pub(crate) y: u8,
+    pub(crate) n: u8,
+}
+
+/// The inner nets of a pin.
+#[derive(Clone, Copy)]
+struct InnerNets {
+    /// That of what it drives its pad with.
+    data_net: Option<u32>,
+    /// That of its pad.
+    pad_net: Option<u32>,
+}
+
 /// The net of a port of pin `n`. The port is the part of the name after the pin, such as `/D_IN_0`.
-pub(crate) fn io_net(db: &ChipDb, x: u8, y: u8, n: u8, port: &[u8]) -> Option<u32>
+fn io_net(db: &ChipDb, x: u8, y: u8, n: u8, port: &[u8]) -> Option<u32>
     requires { length port.now ≤ 20 }
     ensures { result ≡ io_net (database_in db.now) x y n port.now }
 {
     db.net_of(x, y, ShortText::with_number(b"io_", n, port).bytes())
 }
 
+/// The net of a port that the pins of a tile share, such as `inclk`.
+fn io_shared_net(db: &ChipDb, x: u8, y: u8, port: &[u8]) -> Option<u32>
+    requires { length port.now ≤ 20 }
+    ensures { result ≡ io_shared_net (database_in db.now) x y port.now }
+{
+    let mut name = ShortText::of(b"io_global/");
+    name.push(port);
+    db.net_of(x, y, name.bytes())
+}
+
 /// Whether the net of a port of pin `n` is read.
-pub(crate) fn is_net_read(db: &ChipDb, links: &Links, x: u8, y: u8, n: u8, port: &[u8]) -> bool
+fn is_net_read(db: &ChipDb, links: &Links, x: u8, y: u8, n: u8, port: &[u8]) -> bool
     requires fit { IsFit (database_in db.now) }
-    requires nets { length links.now.classes ≡ db.now.chip.nets }
+    requires nets { db.now.chip.nets ≤ length links.now.classes }
     requires short { length port.now ≤ 20 }
     ensures { result ≡ is_some_read_in links.now (io_net (database_in db.now) x y n port.now) }
 {
     is_some_read(links, io_net(db, x, y, n, port))
 }
 
-/// Whether an output pin of a type has a readback: the fabric can read its value.
-fn can_be_read(pintype: u8) -> bool
-    ensures { result ≡ ((has_plain_output pintype || has_registered_output pintype) && has_plain_input pintype) }
+/// The inner nets of the pin with that number, if pins of every kind are taken. They are after the nets of the database.
+///
+/// # Errors
+/// `AllocError` if their numbers need more than 32 bits.
+fn inner_nets(db: &ChipDb, all_pins: bool, number: usize) -> Result<InnerNets, AllocError>
+    ensures data { IfOk result (λ inner. inner.data_net ≡ (if all_pins then Some (db.now.chip.nets + 2 * number) else None)) }
+    ensures pad { IfOk result (λ inner. inner.pad_net ≡ (if all_pins then Some (db.now.chip.nets + 2 * number + 1) else None)) }
 {
-    (has_plain_output(pintype) || has_registered_output(pintype)) && has_plain_input(pintype)
+    if !all_pins {
+        return Ok(InnerNets {
+            data_net: None,
+            pad_net: None,
+        });
+    }
+    let before = place_of(number)?.checked_mul(2).ok_or(AllocError)?;
+    let data_net = db.net_count().checked_add(before).ok_or(AllocError)?;
+    let pad_net = data_net.checked_add(1).ok_or(AllocError)?;
+    Ok(InnerNets {
+        data_net: Some(data_net),
+        pad_net: Some(pad_net),
+    })
 }
 
-/// Pin `n` of the tile at (x, y), which has that type.
-#[tactic(auto, unfolding(fabric_model::specs::Pins::pin_with))]
-pub(crate) fn pin(db: &ChipDb, x: u8, y: u8, n: u8, pintype: u8) -> Pin
-    ensures { result ≡ pin_with (database_in db.now) x y n pintype }
+/// The pin at a place.
+///
+/// # Errors
+/// `AllocError` if the numbers of its inner nets need more than 32 bits.
+pub(crate) fn pin(
+    db: &ChipDb,
+    image: &AnyImage,
+    links: &Links,
+    all_pins: bool,
+    place: NumberedPlace,
+) -> Result<Pin, AllocError>
+    requires together { BelongTogether db.now image.now links.now }
+    requires tile { HasTile image.now Io place.x place.y }
+    ensures { IfOk result (λ pin. pin ≡ pin_with all_pins (database_in db.now) (configuration_of image.now) place.number place.x place.y place.n) }
 {
-    Pin {
+    let NumberedPlace { number, x, y, n } = place;
+    let pintype = pintype(db, image, x, y, n);
+    let inner = inner_nets(db, all_pins, number)?;
+    Ok(Pin {
         x,
         y,
         n,
-        kind: kind_of(pintype),
-        output: is_output_pin(pintype),
-        back: can_be_read(pintype),
-        din: io_net(db, x, y, n, b"/D_IN_0"),
-        dout: io_net(db, x, y, n, b"/D_OUT_0"),
+        drive: drive_of(pintype),
+        sends: sends_of(pintype),
+        takes: takes_of(pintype),
+        reads_0: is_net_read(db, links, x, y, n, b"/D_IN_0"),
+        reads_1: is_net_read(db, links, x, y, n, b"/D_IN_1"),
+        is_global: is_global_pad(db, image, x, y, n),
+        neg: is_on(db, image, TileKind::Io, x, y, b"NegClk"),
+        inclk: io_shared_net(db, x, y, b"inclk"),
+        outclk: io_shared_net(db, x, y, b"outclk"),
+        cen: io_shared_net(db, x, y, b"cen"),
+        din_0: io_net(db, x, y, n, b"/D_IN_0"),
+        din_1: io_net(db, x, y, n, b"/D_IN_1"),
+        dout_0: io_net(db, x, y, n, b"/D_OUT_0"),
+        dout_1: io_net(db, x, y, n, b"/D_OUT_1"),
         enable: io_net(db, x, y, n, b"/OUT_ENB"),
-    }
+        data_net: inner.data_net,
+        pad_net: inner.pad_net,
+    })
 }

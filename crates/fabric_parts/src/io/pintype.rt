@@ -3,11 +3,12 @@ ghost use Rattle.std.specs.Prelude.{◌≡◌, ◌<◌};
 ghost use Rattle.plane_map.specs.declared.tile.TileKind.TheVariants.{Io};
 ghost use Rattle.ice_image.specs.Either.{configuration_of};
 ghost use Rattle.chipdb_reader.specs.Kept.{database_in};
-ghost use Rattle.fabric_model.specs.Pins.{pintype_of, pintype_bit, has_no_output, has_plain_output, has_registered_output, has_tri_state_output, has_plain_input, has_registered_input, is_plain_input, is_registered_input, is_output_pin, is_port, kind_of};
+ghost use Rattle.fabric_model.specs.PinTypes.{pintype_of, pintype_bit, type_bit, drive_of, sends_of, takes_of};
+ghost use Rattle.fabric_model.specs.Pins.{has_no_output, has_plain_output, has_registered_output, has_tri_state_output, has_plain_input, has_registered_input, is_plain_input, is_registered_input, is_output_pin};
 ghost use Rattle.fabric_model.specs.TilesOfKind.{HasTile};
 
 use chipdb_reader::ChipDb;
-use fabric_model::{PinKind, ShortText, is_on};
+use fabric_model::{PadData, PadDrive, PadInput, ShortText, is_on};
 use ice_image::AnyImage;
 use plane_map::TileKind;
 
@@ -40,6 +41,61 @@ fn pintype_bit(db: &ChipDb, image: &AnyImage, x: u8, y: u8, n: u8, k: u8) -> boo
     )
 }
 
+/// Bit `k` of a type.
+fn type_bit(pintype: u8, k: u8) -> bool
+    requires { k < 8 }
+    ensures { result ≡ type_bit pintype k }
+{
+    (pintype >> k) % 2 == 1
+}
+
+/// When a pin of a type drives its pad.
+pub(crate) fn drive_of(pintype: u8) -> PadDrive
+    ensures { result ≡ drive_of pintype }
+{
+    if type_bit(pintype, 5) {
+        if type_bit(pintype, 4) {
+            PadDrive::ByRegister
+        } else {
+            PadDrive::ByNet
+        }
+    } else if type_bit(pintype, 4) {
+        PadDrive::Always
+    } else {
+        PadDrive::Never
+    }
+}
+
+/// What a pin of a type drives its pad with.
+pub(crate) fn sends_of(pintype: u8) -> PadData
+    ensures { result ≡ sends_of pintype }
+{
+    if type_bit(pintype, 3) {
+        if type_bit(pintype, 2) {
+            PadData::Inverted
+        } else {
+            PadData::Plain
+        }
+    } else if type_bit(pintype, 2) {
+        PadData::Registered
+    } else {
+        PadData::Double
+    }
+}
+
+/// What `D_IN_0` of a pin of a type is of the pad.
+pub(crate) fn takes_of(pintype: u8) -> PadInput
+    ensures { result ≡ takes_of pintype }
+{
+    if type_bit(pintype, 1) {
+        PadInput::Latched
+    } else if type_bit(pintype, 0) {
+        PadInput::Plain
+    } else {
+        PadInput::Registered
+    }
+}
+
 /// Whether a type has no output.
 pub(crate) fn has_no_output(pintype: u8) -> bool
     ensures { result ≡ has_no_output pintype }
@@ -48,14 +104,14 @@ pub(crate) fn has_no_output(pintype: u8) -> bool
 }
 
 /// Whether a type has an output that is neither registered nor tri-state.
-pub(crate) fn has_plain_output(pintype: u8) -> bool
+fn has_plain_output(pintype: u8) -> bool
     ensures { result ≡ has_plain_output pintype }
 {
     pintype / 4 == 0b0110
 }
 
 /// Whether a type has a registered output.
-pub(crate) fn has_registered_output(pintype: u8) -> bool
+fn has_registered_output(pintype: u8) -> bool
     ensures { result ≡ has_registered_output pintype }
 {
     pintype / 4 == 0b0101
@@ -101,24 +157,4 @@ pub(crate) fn is_output_pin(pintype: u8) -> bool
     ensures { result ≡ is_output_pin pintype }
 {
     has_plain_output(pintype) || (has_registered_output(pintype) || has_tri_state_output(pintype))
-}
-
-/// Whether a pin of a type is a port: an input pin or an output pin. `read` says whether its input is read.
-pub(crate) fn is_port(pintype: u8, read: bool) -> bool
-    ensures { result ≡ is_port pintype read }
-{
-    is_plain_input(pintype) || ((is_registered_input(pintype) && read) || is_output_pin(pintype))
-}
-
-/// The kind of a pin of a type.
-pub(crate) fn kind_of(pintype: u8) -> PinKind
-    ensures { result ≡ kind_of pintype }
-{
-    if has_registered_output(pintype) || is_registered_input(pintype) {
-        PinKind::Registered
-    } else if has_tri_state_output(pintype) {
-        PinKind::TriState
-    } else {
-        PinKind::Plain
-    }
 }

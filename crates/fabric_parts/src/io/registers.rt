@@ -1,138 +1,185 @@
 // Registers of pins.
-ghost use Rattle.std.specs.Prelude.{◌≡◌, ◌++◌, filter, codes, not, All, IfOk, OnOk, if◌then◌else◌};
-ghost use Rattle.plane_map.specs.declared.tile.TileKind.TheVariants.{Io};
-ghost use Rattle.ice_image.specs.Either.{configuration_of};
-ghost use Rattle.chipdb_reader.specs.Kept.{database_in};
-ghost use Rattle.fabric_model.specs.Tiles.{item_if};
-ghost use Rattle.fabric_model.specs.TilesOfKind.{HasTile};
-ghost use Rattle.fabric_model.specs.Pins.{is_registered};
-ghost use Rattle.fabric_model.specs.Registers.{io_shared_net, pin_register, pin_registers_of, pin_source};
-ghost use Rattle.fabric_model.specs.declared.driver.ClockUser.TheVariants.{Input, Output};
+ghost use Rattle.std.specs.Prelude.{◌≡◌, ◌++◌, not, map, flat_map, IfOk, OnOk, if◌then◌else◌};
+ghost use Rattle.fabric_model.specs.Registers.{registers_in, is_of_inputs, is_at_other_edge, driven_net, clock_enable, taken_by, table_as, pin_register, pin_registers_of};
 
-use chipdb_reader::ChipDb;
 use fabric_model::{
-    ClockUser, LutTable, Pin, Register, Signal, inputs, is_on, net_or_0, net_or_1, place_among,
-    place_of,
+    LutTable, Pin, PinRegister, PinSignals, Register, RegisterKind, Signal, net_or_0, net_or_1,
+    registers_in,
 };
-use ice_image::AnyImage;
-use plane_map::TileKind;
 use std::alloc::{AllocError, Global};
 
 /// The entries of the LUT whose value is that of its input in_0.
 const SAME: u16 = 0xAAAA;
 
-/// The registers of the pins that are registered, in the order of the pins.
+/// The registers of pins, by pin. `flips` is the number of flip-flops of cells, which come before them.
 ///
 /// # Errors
-/// `AllocError` if memory is out, and for no other cause.
-pub fn pin_registers(
-    alloc: Global,
-    db: &ChipDb,
-    image: &AnyImage,
-    pins: &[Pin],
-) -> Result<Vec<Register>, AllocError>
-    requires { All (λ pin. HasTile image.now Io pin.x pin.y) pins.now }
-    ensures { IfOk result (λ registers. registers.items ≡ pin_registers_of (database_in db.now) (configuration_of image.now) pins.now) }
+/// `AllocError` if memory is out, or if there are so many registers or input ports that an index needs more than 32 bits.
+pub fn pin_registers(alloc: Global, flips: usize, pins: &[Pin]) -> Result<Vec<Register>, AllocError>
+    ensures { IfOk result (λ registers. registers.items ≡ pin_registers_of flips pins.now) }
 {
-    let inputs = inputs(alloc, pins)?;
-    registers(alloc, db, image, &inputs, pins)
+    let signals = PinSignals::new(alloc, flips, pins)?;
+    registers(alloc, &signals, pins)
 }
 
-/// The registers of the pins that are registered. `inputs` are the input pins among them.
+/// The registers of these pins.
 fn registers(
     alloc: Global,
-    db: &ChipDb,
-    image: &AnyImage,
-    inputs: &[Pin],
+    signals: &PinSignals<'_>,
     pins: &[Pin],
 ) -> Result<Vec<Register>, AllocError>
-    requires inputs { inputs.now ≡ filter (λ pin. not pin.output) pins.now }
-    requires each { All (λ pin. HasTile image.now Io pin.x pin.y) pins.now }
-    ensures { IfOk result (λ registers. registers.items ≡ pin_registers_of (database_in db.now) (configuration_of image.now) pins.now) }
+    ensures { IfOk result (λ registers. registers.items ≡ flat_map (λ pin. map (pin_register signals.now.flips signals.now.pins pin) (registers_in pin)) pins.now) }
 {
     let mut registers = Vec::new(alloc);
     for pin in pins {
-        append_register(&mut registers, db, image, inputs, *pin)?;
+        append_registers(&mut registers, alloc, signals, *pin)?;
     }
     Ok(registers)
 }
 
-/// Appends the register of a pin that is registered.
-fn append_register(
+/// Appends the registers of a pin.
+fn append_registers(
     registers: &mut Vec<Register>,
-    db: &ChipDb,
-    image: &AnyImage,
-    inputs: &[Pin],
+    alloc: Global,
+    signals: &PinSignals<'_>,
     pin: Pin,
 ) -> Result<(), AllocError>
-    requires { HasTile image.now Io pin.x pin.y }
-    ensures { OnOk result (registers.new.items ≡ registers.old.items ++ item_if (is_registered pin) (pin_register (database_in db.now) (configuration_of image.now) inputs.now pin)) }
+    ensures { OnOk result (registers.new.items ≡ registers.old.items ++ map (pin_register signals.now.flips signals.now.pins pin) (registers_in pin)) }
 {
-    if pin.is_registered() {
-        registers.push(pin_register(db, image, inputs, pin)?)?;
+    let of_pin = registers_in(alloc, pin)?;
+    for register in &of_pin {
+        registers.push(pin_register(signals, pin, *register)?)?;
     }
     Ok(())
 }
 
-/// The register of a pin. `inputs` are the input pins.
+/// A register of a pin.
 #[tactic(auto, unfolding(fabric_model::specs::Registers::pin_register))]
 fn pin_register(
-    db: &ChipDb,
-    image: &AnyImage,
-    inputs: &[Pin],
+    signals: &PinSignals<'_>,
     pin: Pin,
+    register: PinRegister,
 ) -> Result<Register, AllocError>
-    requires { HasTile image.now Io pin.x pin.y }
-    ensures { IfOk result (λ register. register ≡ pin_register (database_in db.now) (configuration_of image.now) inputs.now pin) }
+    ensures { IfOk result (λ made. made ≡ pin_register signals.now.flips signals.now.pins pin register) }
 {
-    let source = source(inputs, pin)?;
+    let enable = clock_enable(signals, pin, register)?;
+    let taken = taken_by(signals, pin, register)?;
     Ok(Register {
         x: pin.x,
         y: pin.y,
-        user: user(pin),
-        out: if pin.output { None } else { pin.din },
-        clk: clock(db, pin),
-        neg: is_on(db, image, TileKind::Io, pin.x, pin.y, b"NegClk"),
-        enable: net_or_1(db.net_of(pin.x, pin.y, b"io_global/cen")),
+        kind: RegisterKind::OfPin { n: pin.n, register },
+        out: driven_net(pin, register),
+        clk: clock(pin, register),
+        neg: is_falling(pin, register),
+        enable,
         sr: None,
         set: false,
         is_async: false,
-        table: LutTable {
-            word: SAME,
-            ins: [source, net_or_0(None), net_or_0(None), net_or_0(None)],
-        },
+        table: table_as(taken),
     })
 }
 
-/// Which user of a clock the register of a pin is.
-fn user(pin: Pin) -> ClockUser
-    ensures { result ≡ (if pin.output then Output pin.n else Input pin.n) }
+/// Whether a register is clocked by `io_global/inclk`; the others are by `io_global/outclk`.
+fn is_of_inputs(register: PinRegister) -> bool
+    ensures { result ≡ is_of_inputs register }
 {
-    if pin.output {
-        ClockUser::Output { n: pin.n }
-    } else {
-        ClockUser::Input { n: pin.n }
+    match register {
+        PinRegister::Input | PinRegister::SecondInput | PinRegister::InputClockEnable => true,
+        PinRegister::Output
+        | PinRegister::SecondOutput
+        | PinRegister::OutputClockEnable
+        | PinRegister::OutputEnable => false,
     }
 }
 
-/// The net of the clock of a pin's register.
-fn clock(db: &ChipDb, pin: Pin) -> Option<u32>
-    ensures { result ≡ io_shared_net (database_in db.now) pin (if pin.output then codes "outclk" else codes "inclk") }
+/// The net of the clock of a register.
+fn clock(pin: Pin, register: PinRegister) -> Option<u32>
+    ensures { result ≡ (if is_of_inputs register then pin.inclk else pin.outclk) }
 {
-    if pin.output {
-        db.net_of(pin.x, pin.y, b"io_global/outclk")
+    if is_of_inputs(register) {
+        pin.inclk
     } else {
-        db.net_of(pin.x, pin.y, b"io_global/inclk")
+        pin.outclk
     }
 }
 
-/// What the register of a pin takes: `io_n/D_OUT_0` for an output pin, and the pin's value for an input pin.
-fn source(inputs: &[Pin], pin: Pin) -> Result<Signal, AllocError>
-    ensures { IfOk result (λ source. source ≡ pin_source inputs.now pin) }
+/// Whether a register takes its value at the other edge of the clock.
+fn is_at_other_edge(register: PinRegister) -> bool
+    ensures { result ≡ is_at_other_edge register }
 {
-    if pin.output {
-        return Ok(net_or_0(pin.dout));
+    match register {
+        PinRegister::SecondInput | PinRegister::SecondOutput => true,
+        PinRegister::Input
+        | PinRegister::InputClockEnable
+        | PinRegister::Output
+        | PinRegister::OutputClockEnable
+        | PinRegister::OutputEnable => false,
     }
-    let place = place_of(place_among(inputs, pin.x, pin.y, pin.n))?;
-    Ok(Signal::Input(place))
+}
+
+/// Whether a register takes its value at falling clock edges.
+fn is_falling(pin: Pin, register: PinRegister) -> bool
+    ensures { result ≡ (if is_at_other_edge register then not pin.neg else pin.neg) }
+{
+    if is_at_other_edge(register) {
+        !pin.neg
+    } else {
+        pin.neg
+    }
+}
+
+/// The net that a register drives.
+fn driven_net(pin: Pin, register: PinRegister) -> Option<u32>
+    ensures { result ≡ driven_net pin register }
+{
+    match register {
+        PinRegister::Input => pin.din_0,
+        PinRegister::SecondInput => pin.din_1,
+        PinRegister::InputClockEnable
+        | PinRegister::Output
+        | PinRegister::SecondOutput
+        | PinRegister::OutputClockEnable
+        | PinRegister::OutputEnable => None,
+    }
+}
+
+/// The clock enable of a register.
+fn clock_enable(
+    signals: &PinSignals<'_>,
+    pin: Pin,
+    register: PinRegister,
+) -> Result<Signal, AllocError>
+    ensures { IfOk result (λ signal. signal ≡ clock_enable signals.now.flips signals.now.pins pin register) }
+{
+    match register {
+        PinRegister::SecondInput => signals.register_in(pin, PinRegister::InputClockEnable),
+        PinRegister::SecondOutput => signals.register_in(pin, PinRegister::OutputClockEnable),
+        PinRegister::InputClockEnable | PinRegister::OutputClockEnable => Ok(net_or_1(None)),
+        PinRegister::Input | PinRegister::Output | PinRegister::OutputEnable => {
+            Ok(net_or_1(pin.cen))
+        }
+    }
+}
+
+/// What a register becomes.
+fn taken_by(signals: &PinSignals<'_>, pin: Pin, register: PinRegister) -> Result<Signal, AllocError>
+    ensures { IfOk result (λ signal. signal ≡ taken_by signals.now.flips signals.now.pins pin register) }
+{
+    match register {
+        PinRegister::Input | PinRegister::SecondInput => signals.pad_signal(pin),
+        PinRegister::InputClockEnable | PinRegister::OutputClockEnable => Ok(net_or_1(pin.cen)),
+        PinRegister::Output => Ok(net_or_0(pin.dout_0)),
+        PinRegister::SecondOutput => Ok(net_or_0(pin.dout_1)),
+        PinRegister::OutputEnable => Ok(net_or_1(pin.enable)),
+    }
+}
+
+/// The LUT whose value is that of its input in_0.
+fn table_as(source: Signal) -> LutTable
+    ensures { result ≡ table_as source }
+{
+    LutTable {
+        word: SAME,
+        ins: [source, net_or_0(None), net_or_0(None), net_or_0(None)],
+    }
 }

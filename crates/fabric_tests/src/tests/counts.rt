@@ -21,7 +21,7 @@ extra 0
 /// Whether these are the counts of an image, by the database of a text.
 fn counts(alloc: Global, text: &[u8], image: &AnyImage, counted: &[u8]) -> bool {
     match database(alloc, text) {
-        Some(db) => match stat(alloc, &db, image) {
+        Some(db) => match stat(alloc, &db, image, false) {
             Ok(lines) => lines.as_slice() == counted,
             Err(_) => false,
         },

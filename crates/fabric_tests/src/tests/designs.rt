@@ -1,7 +1,7 @@
 // Designs of a clocked inverter, and of one that is fed back.
 
-use super::{Case, Gives, is_so};
-use fabric_model::{ClockUser, LutInputs, LutTable, Register, Signal};
+use super::{Case, Gives, NO_OPTIONS, is_so};
+use fabric_model::{FabricOptions, LutInputs, LutTable, Register, RegisterKind, Signal};
 use sample_images::{INVERTER, SampleBit};
 use std::alloc::Global;
 
@@ -99,7 +99,7 @@ const ZERO: Signal = Signal::Net {
 const REGISTER: Register = Register {
     x: 1,
     y: 1,
-    user: ClockUser::Cell { i: 0 },
+    kind: RegisterKind::FlipFlop { i: 0 },
     out: Some(2),
     clk: Some(4),
     neg: true,
@@ -147,7 +147,10 @@ fn is_design_by<'a>(
         alloc,
         Case {
             more,
-            lut_inputs,
+            options: FabricOptions {
+                lut_inputs,
+                ..NO_OPTIONS
+            },
             ..Case::of(text, &INVERTER, gives)
         },
     )

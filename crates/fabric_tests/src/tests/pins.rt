@@ -1,8 +1,8 @@
 // Pins and global networks.
 
 use super::{Case, Gives, is_so};
-use fabric_model::{GlobalFrom, GlobalNet, Pin, PinKind, net_or_0, net_or_1};
-use fabric_wiring::{Output, Rule};
+use fabric_model::{GlobalFrom, GlobalNet, PadData, PadDrive, PadInput, Pin, Signal};
+use fabric_wiring::Output;
 use sample_images::SampleBit;
 use std::alloc::Global;
 
@@ -37,30 +37,42 @@ padin_glb_netwk.2 0 330 143
 /// The bits of an input pin, and of an output pin with a readback.
 const TWO_PINS: [SampleBit; 4] = [(0, 1, 0, 0), (0, 2, 0, 0), (0, 2, 3, 0), (0, 2, 4, 0)];
 
-/// What these bits give.
+/// A pin that drives its pad with a net, and isn't read.
+const DRIVING: Pin = Pin {
+    x: 0,
+    y: 2,
+    n: 0,
+    drive: PadDrive::Always,
+    sends: PadData::Plain,
+    takes: PadInput::Plain,
+    reads_0: false,
+    reads_1: false,
+    is_global: false,
+    neg: false,
+    inclk: None,
+    outclk: None,
+    cen: None,
+    din_0: None,
+    din_1: None,
+    dout_0: Some(3),
+    dout_1: None,
+    enable: None,
+    data_net: None,
+    pad_net: None,
+};
+
+/// What these bits give. What a pin that never drives its pad would drive it with means nothing.
 const FOUND: [Pin; 2] = [
     Pin {
-        x: 0,
         y: 1,
-        n: 0,
-        kind: PinKind::Plain,
-        output: false,
-        back: false,
-        din: Some(0),
-        dout: None,
-        enable: None,
+        drive: PadDrive::Never,
+        sends: PadData::Double,
+        is_global: true,
+        din_0: Some(0),
+        dout_0: None,
+        ..DRIVING
     },
-    Pin {
-        x: 0,
-        y: 2,
-        n: 0,
-        kind: PinKind::Plain,
-        output: true,
-        back: true,
-        din: None,
-        dout: Some(3),
-        enable: None,
-    },
+    DRIVING,
 ];
 
 /// The two nets of global network 2.
@@ -93,15 +105,8 @@ const SWITCHED_PINS: [SampleBit; 4] = [(0, 1, 0, 0), (0, 2, 0, 0), (0, 2, 3, 0),
 
 /// The output pin.
 const SWITCHED: Pin = Pin {
-    x: 0,
-    y: 2,
-    n: 0,
-    kind: PinKind::TriState,
-    output: true,
-    back: false,
-    din: None,
-    dout: Some(3),
-    enable: None,
+    drive: PadDrive::ByNet,
+    ..DRIVING
 };
 
 /// Whether the pins have these outputs.
@@ -118,12 +123,18 @@ fn a_pin_that_can_be_switched_off_has_two_outputs(rt: HostRuntime) {
         Output {
             pin: SWITCHED,
             enable: false,
-            source: net_or_0(Some(3)),
+            source: Signal::Net {
+                net: Some(3),
+                otherwise: false,
+            },
         },
         Output {
             pin: SWITCHED,
             enable: true,
-            source: net_or_1(None),
+            source: Signal::Net {
+                net: None,
+                otherwise: true,
+            },
         },
     ];
     assert!(rt; are_outputs(rt.alloc(), &outputs));

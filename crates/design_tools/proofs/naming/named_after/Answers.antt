@@ -15,7 +15,7 @@ returns-in-Ok-clause-bytes c =
     IfOk-weaker c.named_text_of.result _ _
     (λ bytes is package_name layout texts taken.
     let all = all-taken package_name layout texts c.args.intake c.args.intake.next taken in
-    let answer : Database → Configuration → Answer = written_named c.args.inputs c.args.name.now (package_of package_name (database_text texts)) (pin_text texts) in
+    let answer : Database → Configuration → Answer = written_named c.args.options c.args.name.now (package_of package_name (database_text texts)) (pin_text texts) in
     c.in-Ok.ensures.read layout (texts_without_pins texts) answer all.input ∙ is package_name (database_text texts) (pin_text texts) all.pins all.file)
     c.named_text_of.ensures.bytes
 
@@ -24,7 +24,7 @@ returns-in-Ok-clause-stops c =
     IfErr-weaker c.named_text_of.result _ _
     (λ stop stops package_name layout texts taken.
     let all = all-taken package_name layout texts c.args.intake c.args.intake.next taken in
-    let answer : Database → Configuration → Answer = written_named c.args.inputs c.args.name.now (package_of package_name (database_text texts)) (pin_text texts) in
+    let answer : Database → Configuration → Answer = written_named c.args.options c.args.name.now (package_of package_name (database_text texts)) (pin_text texts) in
     subst (λ (told : Answer). StopsWith told stop) (sym (c.in-Ok.ensures.read layout (texts_without_pins texts) answer all.input))
     (stops package_name (database_text texts) (pin_text texts) all.pins all.file))
     c.named_text_of.ensures.stops
@@ -32,4 +32,4 @@ returns-in-Ok-clause-stops c =
 pub returns-clause-stops : goal.returns-clause-stops
 returns-clause-stops c = λ package_name layout texts taken.
     let all = all-taken package_name layout texts c.args.intake c.args.intake.next taken in
-    c.in-Err.ensures.stops layout (texts_without_pins texts) (written_named c.args.inputs c.args.name.now (package_of package_name (database_text texts)) (pin_text texts)) all.input
+    c.in-Err.ensures.stops layout (texts_without_pins texts) (written_named c.args.options c.args.name.now (package_of package_name (database_text texts)) (pin_text texts)) all.input

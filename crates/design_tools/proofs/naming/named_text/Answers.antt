@@ -9,7 +9,7 @@ use Rattle.design_tools.proofs.naming.named_text.Goals as goal
 pub name_ports-requires-clause-written : goal.name_ports-requires-clause-written
 name_ports-requires-clause-written c = λ db image of.
     c.in_ok-written.ensures.made db image of
-    ∙ ap (module_of (fabric_with c.args.design.now.parts.lut_inputs db image) c.args.design.now.order) (sym c.in_ok-written.ensures.name)
+    ∙ ap (module_of (fabric_with c.args.design.now.parts.options db image) c.args.design.now.order) (sym c.in_ok-written.ensures.name)
 
 pub name_ports-requires-clause-name : goal.name_ports-requires-clause-name
 name_ports-requires-clause-name c = subst IsName (sym c.in_ok-written.ensures.name) c.requires.name

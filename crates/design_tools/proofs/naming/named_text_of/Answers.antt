@@ -15,7 +15,7 @@ returns-in-Ok-clause-bytes c =
     let image = configuration_of c.args.image.now in
     IfOk-weaker c.named_design_text.result _ _
     (λ bytes is package_name text pin_text has collects.
-    subst (λ inputs. written_named inputs c.args.name.now (package_of package_name text) pin_text db image ≡ Done bytes.items) c.in-Ok.ensures.inputs
+    subst (λ options. written_named options c.args.name.now (package_of package_name text) pin_text db image ≡ Done bytes.items) c.in-Ok.ensures.options
     (is package_name text pin_text db image has collects c.in-Ok.ensures.design))
     c.named_design_text.ensures.bytes
 
@@ -25,11 +25,11 @@ returns-in-Ok-clause-stops c =
     let image = configuration_of c.args.image.now in
     IfErr-weaker c.named_design_text.result _ _
     (λ stop stops package_name text pin_text has collects.
-    subst (λ inputs. StopsWith (written_named inputs c.args.name.now (package_of package_name text) pin_text db image) stop) c.in-Ok.ensures.inputs
+    subst (λ options. StopsWith (written_named options c.args.name.now (package_of package_name text) pin_text db image) stop) c.in-Ok.ensures.options
     (stops package_name text pin_text db image has collects c.in-Ok.ensures.design))
     c.named_design_text.ensures.stops
 
 pub returns-in-Err-clause-stops : goal.returns-in-Err-clause-stops
 returns-in-Err-clause-stops c = λ package_name text pin_text has collects.
-    stops_named c.args.inputs c.args.name.now (package_of package_name text) pin_text (database_in c.args.db.now) (configuration_of c.args.image.now) _ _ _ _ _
+    stops_named c.args.options c.args.name.now (package_of package_name text) pin_text (database_in c.args.db.now) (configuration_of c.args.image.now) _ _ _ _ _
     c.in-Err.ensures.refused c.design_stop.ensures

@@ -2,22 +2,22 @@ use Rattle.std.proofs.Common.{◌≡◌, ◌∙◌, sym, ap, ap₂}
 use Rattle.std.specs.Prelude.{Option, codes}
 use Rattle.std.specs.Option.{option_map}
 use Rattle.clap.specs.Words.{Text, first_of, found_of, rows_of}
+use Rattle.fabric_model.specs.declared.options.FabricOptions.{FabricOptions}
 use Rattle.tool_run.specs.Needs.{text_of}
-use Rattle.tool_inputs.specs.Commands.{has_flag}
 use Rattle.design_tools.specs.Names.{name_given}
-use Rattle.design_tools.specs.Vlog.{Named, name_text, named_by, pins_in, pins_of_request, vlog_task_of}
+use Rattle.design_tools.specs.Vlog.{Named, name_text, named_by, options_in, options_wanted, pins_in, pins_of_request, vlog_task_of}
 use Rattle.design_tools.proofs.CommandLines.{name_text-map}
 use Rattle.design_tools.proofs.request.request_in.Goals as goal
 
 pub returns : goal.returns
 returns c =
     let rows = rows_of (found_of c.args.matches.now) in
+    let options : c.options_wanted-options.result ≡ options_in rows = c.options_wanted-options.ensures ∙ ap₂ options_wanted c.has_flag-used.ensures c.has_flag-all.ensures in
     let name = sym (name_text-map c.name_given-name.result) ∙ c.name_given-name.ensures ∙ ap name_given c.value-given.ensures in
     let pins : option_map pins_of_request c.pins_wanted-pins.result ≡ pins_in rows = c.pins_wanted-pins.ensures ∙ ap₂ named_by c.value-file.ensures c.value-package_name.ensures in
-    let used = has_flag (codes "used-inputs") rows in
     let given = name_given (first_of (codes "name") rows) in
     c.wanted.ensures
-    ∙ ap (λ one. vlog_task_of one (name_text c.name_given-name.result) (option_map pins_of_request c.pins_wanted-pins.result) (text_of c.value-layout.result) (text_of c.value-db.result) (text_of c.value-image.result)) c.has_flag-used.ensures
-    ∙ ap₂ (λ (n : Option Text) (p : Option (Option Named)). vlog_task_of used n p (text_of c.value-layout.result) (text_of c.value-db.result) (text_of c.value-image.result)) name pins
-    ∙ ap (λ (l : Option Text). vlog_task_of used given (pins_in rows) l (text_of c.value-db.result) (text_of c.value-image.result)) c.value-layout.ensures
-    ∙ ap₂ (vlog_task_of used given (pins_in rows) (first_of (codes "layout") rows)) c.value-db.ensures c.value-image.ensures
+    ∙ ap (λ (one : FabricOptions). vlog_task_of one (name_text c.name_given-name.result) (option_map pins_of_request c.pins_wanted-pins.result) (text_of c.value-layout.result) (text_of c.value-db.result) (text_of c.value-image.result)) options
+    ∙ ap₂ (λ (n : Option Text) (p : Option (Option Named)). vlog_task_of (options_in rows) n p (text_of c.value-layout.result) (text_of c.value-db.result) (text_of c.value-image.result)) name pins
+    ∙ ap (λ (l : Option Text). vlog_task_of (options_in rows) given (pins_in rows) l (text_of c.value-db.result) (text_of c.value-image.result)) c.value-layout.ensures
+    ∙ ap₂ (vlog_task_of (options_in rows) given (pins_in rows) (first_of (codes "layout") rows)) c.value-db.ensures c.value-image.ensures

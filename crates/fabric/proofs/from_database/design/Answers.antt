@@ -3,8 +3,8 @@ use Rattle.fabric.proofs.from_database.design.Goals as goal
 pub returns-clause-design : goal.returns-clause-design
 returns-clause-design c = c.design_with.ensures.design
 
-pub returns-clause-inputs : goal.returns-clause-inputs
-returns-clause-inputs c = c.design_with.ensures.inputs
+pub returns-clause-options : goal.returns-clause-options
+returns-clause-options c = c.design_with.ensures.options
 
 pub returns-clause-taken : goal.returns-clause-taken
 returns-clause-taken c = c.design_with.ensures.taken

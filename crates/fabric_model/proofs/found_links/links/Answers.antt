@@ -9,4 +9,4 @@ use Rattle.fabric_model.proofs.found_links.links.Goals as goal
 pub returns-in_ok-found-clause-classes : goal.returns-in_ok-found-clause-classes
 returns-in_ok-found-clause-classes c = λ net.
     let joins = joins_of (database_in c.args.db.now) (configuration_of c.args.image.now) in
-    subst (IsClassOf joins net) (sym (c.in_ok-found.ensures.classes net)) (class_of-is joins net)
+    subst (IsClassOf joins net) (sym (c.in_ok-found.ensures.links.classes net)) (class_of-is joins net)

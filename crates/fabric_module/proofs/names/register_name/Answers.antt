@@ -8,5 +8,5 @@ pub new-requires : goal.new-requires
 new-requires c =
     register-bytes c.args.register.now c.bytes.result.now
     (c.bytes.ensures ∙ (c.three_numbers-text.ensures.text
-    ∙ ap₂ (λ prefix n. prefix ++ three_numbers c.args.register.now.x c.args.register.now.y n) c.user_prefix.ensures c.user_number-n.ensures))
-    (omega arith) (omega arith) (subst IsSmall c.user_number-n.ensures (omega arith))
+    ∙ ap₂ (λ prefix n. prefix ++ three_numbers c.args.register.now.x c.args.register.now.y n) c.register_prefix.ensures c.register_number-n.ensures))
+    (omega arith) (omega arith) (subst IsSmall c.register_number-n.ensures (omega arith))

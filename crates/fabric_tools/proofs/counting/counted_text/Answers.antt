@@ -7,12 +7,12 @@ use Rattle.fabric_tools.proofs.counting.counted_text.Goals as goal
 
 pub returns-in-Ok-clause-bytes : goal.returns-in-Ok-clause-bytes
 returns-in-Ok-clause-bytes c =
-    IfOk-weaker c.count_text.result _ _ (λ bytes is layout texts taken. c.in-Ok.ensures.read layout texts counted taken ∙ is) c.count_text.ensures.bytes
+    IfOk-weaker c.count_text.result _ _ (λ bytes is layout texts taken. c.in-Ok.ensures.read layout texts (counted c.args.all_pins) taken ∙ is) c.count_text.ensures.bytes
 
 pub returns-in-Ok-clause-stops : goal.returns-in-Ok-clause-stops
 returns-in-Ok-clause-stops c =
     IfErr-weaker c.count_text.result _ _ (λ stop stops layout texts taken.
-    subst (λ (answer : Answer). StopsWith answer stop) (sym (c.in-Ok.ensures.read layout texts counted taken)) stops) c.count_text.ensures.stops
+    subst (λ (answer : Answer). StopsWith answer stop) (sym (c.in-Ok.ensures.read layout texts (counted c.args.all_pins) taken)) stops) c.count_text.ensures.stops
 
 pub returns-in-Err-clause-stops : goal.returns-in-Err-clause-stops
-returns-in-Err-clause-stops c = λ layout texts taken. c.in-Err.ensures.stops layout texts counted taken
+returns-in-Err-clause-stops c = λ layout texts taken. c.in-Err.ensures.stops layout texts (counted c.args.all_pins) taken

@@ -1,14 +1,19 @@
-use Rattle.std.proofs.Common.{List, length, ap, ◌∙◌}
-use Rattle.std.specs.Prelude.{filter}
+use Rattle.std.proofs.Common.{◌≡◌, List, length, map, ap, ap₂, ◌∙◌}
+use Rattle.std.specs.Prelude.{flat_map, filter}
 use Rattle.fabric_model.specs.declared.cell.LogicCell.{LogicCell}
-use Rattle.fabric_model.specs.Pins.{is_registered}
+use Rattle.fabric_model.specs.declared.pin.Pin.{Pin}
+use Rattle.fabric_model.specs.Pins.{drives}
+use Rattle.fabric_model.specs.Fabric.{flip_count}
 use Rattle.fabric_model.specs.Outputs.{outputs_of}
+use Rattle.fabric_wiring.specs.Outputs.{outputs_from}
 use Rattle.fabric_wiring.proofs.output_pins.outputs.Goals as goal
 
 pub returns : goal.returns
 unfolding outputs_of
 returns g c =
-    let flips = ap (λ (lcs : List LogicCell). length (filter (λ lc. lc.flip) lcs)) c.requires.lcs in
-    let registered = ap (filter is_registered) c.requires.pins in
-    let pins = c.deref.ensures.value ∙ c.requires.pins in
-    rw (c.in_ok-places.ensures.flips, c.in_ok-places.ensures.pins, flips, registered, pins) at c.outputs_among.ensures
+    let flips : c.flip_count.result ≡ flip_count g.fabric =
+    c.flip_count.ensures ∙ ap (λ (lcs : List LogicCell). length (filter (λ lc. lc.flip) lcs)) (c.deref.ensures.value ∙ c.requires.lcs) in
+    let pins = c.deref-2.ensures.value ∙ c.requires.pins in
+    let signals : c.in_ok-signals.signals ≡ record { flips = flip_count g.fabric; pins = g.fabric.pins } =
+    ap₂ (λ count found. record { flips = count; pins = found }) (c.in_ok-signals.ensures.flips ∙ flips) (c.in_ok-signals.ensures.pins ∙ pins) in
+    rw (signals, c.deref-3.ensures.value ∙ c.requires.pins) at c.outputs_among.ensures

@@ -11,26 +11,26 @@ use Rattle.image_stat.proofs.counting.counts.Goals as goal
 
 pub returns-in_err-links-clause-refused : goal.returns-in_err-links-clause-refused
 returns-in_err-links-clause-refused c =
-    let cause = links-cause (database_in c.args.db.now) (configuration_of c.args.image.now) c.in_err-links.field-0.0 c.in_err-links.ensures.refused in
+    let cause = links-cause c.args.all_pins (database_in c.args.db.now) (configuration_of c.args.image.now) c.in_err-links.field-0.0 c.in_err-links.ensures.refused in
     let told = err_from_is_err_and c.from_residual.result c.from_residual.ensures.1 in
     rw (told.1, told.2) cause
 
 pub returns-in_err-pins-clause-refused : goal.returns-in_err-pins-clause-refused
 returns-in_err-pins-clause-refused c =
-    let cause = pins-cause (database_in c.args.db.now) (configuration_of c.args.image.now) c.in_ok-links.ensures.taken c.in_err-pins.field-0.0 c.in_err-pins.ensures.refused in
+    let cause = pins-cause c.args.all_pins (database_in c.args.db.now) (configuration_of c.args.image.now) c.in_ok-links.ensures.taken c.in_err-pins.field-0.0 c.in_err-pins.ensures.refused in
     let told = err_from_is_err_and c.from_residual-in_err-pins.result c.from_residual-in_err-pins.ensures.1 in
     rw (told.1, told.2) cause
 
 pub returns-in_err-rams-clause-refused : goal.returns-in_err-rams-clause-refused
 returns-in_err-rams-clause-refused c =
-    let cause = rams-cause (database_in c.args.db.now) (configuration_of c.args.image.now) c.in_ok-links.ensures.taken c.in_ok-pins.ensures.taken
+    let cause = rams-cause c.args.all_pins (database_in c.args.db.now) (configuration_of c.args.image.now) c.in_ok-links.ensures.taken c.in_ok-pins.ensures.taken
     c.in_err-rams.field-0.0 c.in_err-rams.ensures.refused in
     let told = err_from_is_err_and c.from_residual-in_err-rams.result c.from_residual-in_err-rams.ensures.1 in
     rw (told.1, told.2) cause
 
 pub returns-clause-taken : goal.returns-clause-taken
 returns-clause-taken c =
-    all-taken (database_in c.args.db.now) (configuration_of c.args.image.now) c.in_ok-links.ensures.taken c.in_ok-pins.ensures.taken c.in_ok-rams.ensures.taken
+    all-taken c.args.all_pins (database_in c.args.db.now) (configuration_of c.args.image.now) c.in_ok-links.ensures.taken c.in_ok-pins.ensures.taken c.in_ok-rams.ensures.taken
 
 pub returns-clause-counts : goal.returns-clause-counts
 returns-clause-counts c =
@@ -40,7 +40,7 @@ returns-clause-counts c =
     let rams : c.len-2.result ≡ length c.in_ok-rams.rams.items = omega (arith, c.len-2.ensures, c.in_ok-rams.rams.ok.0) in
     let pins : c.len-3.result ≡ length c.in_ok-pins.pins.pins.items = omega (arith, c.len-3.ensures, c.in_ok-pins.pins.pins.ok.0) in
     let extra : c.len-4.result ≡ length c.in_ok-extras.extras.items = omega (arith, c.len-4.ensures, c.in_ok-extras.extras.ok.0) in
-    counts-are db image _ _ _ _ _ _ _ _ _ _
+    counts-are c.args.all_pins db image _ _ _ _ _ _ _ _ _ _
     (luts ∙ ap length c.in_ok-cells.ensures.cells)
     (c.flops.ensures ∙ ap (count_by (λ (cell : LogicCell). cell.flip)) (c.deref.ensures.value ∙ c.in_ok-cells.ensures.cells))
     (c.carries.ensures ∙ ap (count_by (λ (cell : LogicCell). cell.carry)) (c.deref-2.ensures.value ∙ c.in_ok-cells.ensures.cells))

@@ -9,5 +9,5 @@ returns-clause-stops c =
     IfErr-weaker c.begin.result _ _
     (λ stop stops texts.
     let tool = c.args.self.now in
-    stops (texts_without_pins texts) (written_named tool.inputs tool.name.text.now (package_of tool.package_name.now (database_text texts)) (pin_text texts)))
+    stops (texts_without_pins texts) (written_named tool.options tool.name.text.now (package_of tool.package_name.now (database_text texts)) (pin_text texts)))
     c.begin.ensures.stops

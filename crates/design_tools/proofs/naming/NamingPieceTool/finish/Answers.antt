@@ -10,7 +10,7 @@ returns-clause-bytes c =
     IfOk-weaker c.named_after.result _ _
     (λ bytes is layout texts taken.
     let tool = c.args.self.now in
-    subst (λ name. named_answer tool.inputs layout name tool.package_name.now texts ≡ Done bytes.items) c.as_bytes.ensures.value
+    subst (λ name. named_answer tool.options layout name tool.package_name.now texts ≡ Done bytes.items) c.as_bytes.ensures.value
     (is tool.package_name.now layout texts taken))
     c.named_after.ensures.bytes
 
@@ -19,6 +19,6 @@ returns-clause-stops c =
     IfErr-weaker c.named_after.result _ _
     (λ stop stops layout texts taken.
     let tool = c.args.self.now in
-    subst (λ name. StopsWith (named_answer tool.inputs layout name tool.package_name.now texts) stop) c.as_bytes.ensures.value
+    subst (λ name. StopsWith (named_answer tool.options layout name tool.package_name.now texts) stop) c.as_bytes.ensures.value
     (stops tool.package_name.now layout texts taken))
     c.named_after.ensures.stops

@@ -9,12 +9,12 @@ pub returns-clause-bytes : goal.returns-clause-bytes
 returns-clause-bytes c =
     IfOk-weaker c.written_after.result _ _
     (λ bytes is layout texts taken.
-    subst (λ name. vlog_answer c.args.self.now.inputs layout name texts ≡ Done bytes.items) c.as_bytes.ensures.value (is layout texts taken))
+    subst (λ name. vlog_answer c.args.self.now.options layout name texts ≡ Done bytes.items) c.as_bytes.ensures.value (is layout texts taken))
     c.written_after.ensures.bytes
 
 pub returns-clause-stops : goal.returns-clause-stops
 returns-clause-stops c =
     IfErr-weaker c.written_after.result _ _
     (λ stop stops layout texts taken.
-    subst (λ name. StopsWith (vlog_answer c.args.self.now.inputs layout name texts) stop) c.as_bytes.ensures.value (stops layout texts taken))
+    subst (λ name. StopsWith (vlog_answer c.args.self.now.options layout name texts) stop) c.as_bytes.ensures.value (stops layout texts taken))
     c.written_after.ensures.stops

@@ -4,7 +4,7 @@ use Rattle.bit_plane.specs.Rows.{row_from}
 use Rattle.ice_image.specs.Either.{configuration_of}
 use Rattle.ice_image.proofs.Made.{row_word-none, row_word-more, row_word-double, row_word-lt}
 use Rattle.chipdb_reader.specs.Kept.{database_in}
-use Rattle.fabric_model.specs.Pins.{pintype_of, pintype_bit}
+use Rattle.fabric_model.specs.PinTypes.{pintype_of, pintype_bit}
 use Rattle.fabric_parts.proofs.io.pintype.pintype.Goals as goal
 
 pub loop-k-init : goal.loop-k-init

@@ -5,20 +5,20 @@ use Rattle.index_search.proofs.Places.{any_below-more, any_below-at}
 use Rattle.ice_image.specs.Either.{configuration_of}
 use Rattle.chipdb_reader.specs.Kept.{database_in}
 use Rattle.fabric_model.specs.Nets.{is_some_read, ending_in}
-use Rattle.fabric_model.specs.Rams.{ram_net, port_net, is_ram_used}
+use Rattle.fabric_model.specs.Rams.{ram_net, is_ram_used}
 use Rattle.fabric_model.specs.BelongTogether.{is_some_read_in}
 use Rattle.fabric_model.proofs.Nets.{is_some_read-same}
+use Rattle.fabric_parts.proofs.Inside.{inside-more}
 use Rattle.fabric_parts.proofs.RamsListed.{port_net-inside}
 use Rattle.fabric_parts.proofs.ram.used.is_used.Goals as goal
 
 pub is_some_read-requires : goal.is_some_read-requires
 is_some_read-requires c =
     let db = database_in c.args.db.now in
-    let Inside : Option ℕ → ℕ → Type 0 = λ net nets. IfSome net (λ n. n < nets) in
-    let name = ending_in (codes "ram/RDATA_") c.loop-bit.bit in
-    let known = port_net-inside db c.args.x c.args.y name c.requires.together.fit in
-    let bounded = subst (Inside (port_net db c.args.x c.args.y name)) (sym c.requires.together.linked.nets) known in
-    subst (λ net. Inside net (length c.args.links.now.classes)) (sym c.numbered_net.ensures) bounded
+    let nets = length c.args.links.now.classes in
+    let Inside : Option ℕ → Type 0 = λ net. IfSome net (λ n. n < nets) in
+    let known = port_net-inside db c.args.x c.args.y (ending_in (codes "ram/RDATA_") c.loop-bit.bit) c.requires.together.fit in
+    subst Inside (sym c.numbered_net.ensures) (inside-more _ db.chip.nets nets c.requires.together.linked.nets known)
 
 pub loop-bit-init : goal.loop-bit-init
 unfolding any_below

@@ -1,12 +1,12 @@
 #!/usr/bin/env python3
-"""Tries iceverify: designs that are equal to their files, files and netlists that are wrong, bits that can't matter, and bad input.
+"""Tries iceverify: designs that are equal to their files, files, netlists and modules that are wrong, bits that can't matter, and bad input.
 
 Usage: check/verify.py [--short] [-k FOLDER] [NAME ...]
 
 The designs are those of check/verify. Each is taken through yosys and nextpnr-ice40 for an HX1K and an HX8K with three seeds, and has
-to be equal. Then one thing is changed in a text, a bitstream or a netlist, and iceverify has to tell it by its name. With --short there
-are fewer of each, for about a minute. With NAMEs only what has one of them in its name is
-tried. With -k the files stay in FOLDER, and designs that are there aren't routed again.
+to be equal. Then one thing is changed in a text, a bitstream, a netlist or the module that icebox_vlog writes, and iceverify has to tell it by
+its name. With --short there are fewer of each, for about a minute. With NAMEs only what has one of them in its name is tried. With -k the
+files stay in FOLDER, and designs that are there aren't routed again.
 
 The program is that of modules/programs.py, which `./install` installs in a temporary folder. If yosys, yosys-abc, nextpnr-ice40 or the chip
 databases are missing, everything is skipped, with a line. One check needs iverilog and vvp, and is skipped without them.
@@ -32,14 +32,15 @@ sys.path.insert(0, str(TOP / "check" / "verify"))
 from device import ENTRIES, Database, Text  # noqa: E402
 from ram_forms import bench  # noqa: E402
 from routes import EQUAL, PACKAGES, Refused, database_path, output_of, package_pins, routed, synthesized  # noqa: E402
-from wrong import NETLISTS, TEXTS  # noqa: E402
+from wrong import MODULES, NETLISTS, TEXTS  # noqa: E402
 
 NEEDED = "yosys", "yosys-abc", "nextpnr-ice40", "chipdb"
 DEVICES, SEEDS = ("1k", "8k"), (1, 2, 3)
-SHORT_DESIGNS = ("crc", "1k", 1), ("servo", "1k", 1), ("rams", "1k", 1), ("pins", "1k", 1), ("globals", "1k", 1), ("passes", "1k", 1), \
-    ("clocks", "1k", 1), ("machine", "8k", 1)
+SHORT_DESIGNS = ("crc", "1k", 1), ("servo", "1k", 1), ("rams", "1k", 1), ("pins", "1k", 1), ("kinds", "1k", 1), ("buses", "1k", 1), \
+    ("globals", "1k", 1), ("passes", "1k", 1), ("clocks", "1k", 1), ("machine", "8k", 1)
 SHORT_WRONG = ("a bit of a LUT", "a table of zeros", "a link to a LUT", "an edge", "a carry's set bit", "an enable", "a RAM's contents",
-               "a RAM's write mode", "a pin that can't be switched off", "a clock", "a start at 1", "a port more")
+               "a RAM's write mode", "a pin that can't be switched off", "a clock", "a start at 1", "a port more", "data that aren't inverted",
+               "an enable of the other edge", "what comes to two buses")
 WORKERS = min(4, os.cpu_count() or 1)
 
 
@@ -92,9 +93,9 @@ class Checks:
             fault = "%s: %s" % (type(error).__name__, error)
         return fault, time.perf_counter() - start
 
-    def tool(self, name, words, work, **more):
+    def tool(self, name, words, work, prefix=None, **more):
         """Runs an installed tool."""
-        command = [str(self.prefix / "bin" / name)] + [str(word) for word in words]
+        command = [str((prefix or self.prefix) / "bin" / name)] + [str(word) for word in words]
         return subprocess.run(command, cwd=work, capture_output=True, text=True, **more)
 
     def database(self, device):
@@ -127,12 +128,14 @@ def expect(run, status, *said):
 
 
 def check_equal(checks, design, device, seed):
-    """A design is equal to its text, and with the first seed to its bitstream."""
+    """A design is equal to its text, with the first seed to its bitstream, and with the last one without its pin file."""
     work = checks.folder_of(design, device, seed)
     expect(checks.tool("iceverify", ["-p", "top.pcf", "top.json", "top.asc"], work), 0, "equal: ")
     if seed == 1:
         checks.tool("icepack", ["top.asc", "top.bin"], work)
         expect(checks.tool("iceverify", ["top.json", "top.asc", "top.bin", "--log", "log", "-p", "top.pcf"], work), 0, "equal: ")
+    if seed == SEEDS[-1]:
+        expect(checks.tool("iceverify", ["top.json", "top.asc"], work), 0, "equal: ")
 
 
 def check_edges(checks, device):
@@ -160,6 +163,22 @@ def check_wrong(checks, wrong, by_bitstream=False):
             checks.tool("icepack", ["wrong.asc", "wrong.bin"], place)
             words = [work / "top.asc", place / "wrong.bin"]
         expect(checks.tool("iceverify", ["-p", work / "top.pcf", netlist, *words], work), 1, *wrong.said)
+
+
+def check_wrong_module(checks, wrong):
+    """Something wrong in the module that icebox_vlog writes is told by its name. In place of the program stands one that writes that module."""
+    work = checks.folder_of(wrong.design, "1k", 1)
+    module = checks.tool("icebox_vlog", ["top.asc"], work).stdout
+    places = {port: "%d_%d_%d" % place for port, place in checks.text_of(wrong.design).pins.items()}
+    with tempfile.TemporaryDirectory(dir=checks.folder) as folder:
+        prefix = pathlib.Path(folder)
+        (prefix / "wrong.v").write_text(wrong.change(module, places))
+        (prefix / "share").symlink_to(checks.prefix / "share")
+        (prefix / "bin").mkdir()
+        shutil.copy(checks.prefix / "bin/iceverify", prefix / "bin")
+        (prefix / "bin/icestorm").write_text("#!/bin/sh\nexec cat '%s'\n" % (prefix / "wrong.v"))
+        (prefix / "bin/icestorm").chmod(0o755)
+        expect(checks.tool("iceverify", ["-p", "top.pcf", "top.json", "top.asc"], work, prefix), 1, *wrong.said)
 
 
 def unreachable_entries(text):
@@ -244,12 +263,16 @@ def two_tops(text):
     return json.dumps(data)
 
 
-def other_cell(text):
-    """A netlist with a cell that isn't known."""
-    data = json.loads(text)
-    pll = {"type": "SB_PLL40_CORE", "parameters": {}, "connections": {}, "attributes": {"src": "top.v:3.1-3.5"}}
-    data["modules"]["crc"]["cells"]["pll"] = pll
-    return json.dumps(data)
+def other_cell(kind, **parameters):
+    """Adds a cell of a kind that isn't taken to a netlist."""
+    def change(text):
+        data = json.loads(text)
+        module = data["modules"]["crc"]
+        connections = {"PACKAGE_PIN": module["ports"]["clk"]["bits"], "D_IN_0": module["ports"]["rst"]["bits"]} if parameters else {}
+        cell = {"type": kind, "parameters": parameters, "connections": connections, "attributes": {"src": "top.v:3.1-3.5"}}
+        module["cells"]["other"] = cell
+        return json.dumps(data)
+    return change
 
 
 def add_bad(checks):
@@ -269,7 +292,16 @@ def add_bad(checks):
             ("the netlist isn't JSON", both, 1, "the netlist isn't JSON: line 1", {"top.json": lambda text: "module"}),
             ("the netlist has no modules", both, 1, "has no modules", {"top.json": lambda text: "{}"}),
             ("several tops", both, 1, "the netlist has the top modules again, crc", {"top.json": two_tops}),
-            ("an unknown cell", both, 1, "cell pll (top.v:3) has the type SB_PLL40_CORE, which isn't known", {"top.json": other_cell}),
+            ("an unknown cell", both, 1, "cell other (top.v:3) has the type SB_PLL40_CORE, which isn't known",
+             {"top.json": other_cell("SB_PLL40_CORE")}),
+            ("a latch", both, 1, "cell other (top.v:3) has the PIN_TYPE 000011 and a D_IN_0 that is used",
+             {"top.json": other_cell("SB_IO", PIN_TYPE="000011")}),
+            ("an output at the pin of a global net", both, 1, "the PIN_TYPE 011001, that of an output, and drives a global net",
+             {"top.json": other_cell("SB_GB_IO", PIN_TYPE="011001")}),
+            ("an output of a pair", both, 1, "the PIN_TYPE 011001, that of an output, and the IO_STANDARD SB_LVDS_INPUT",
+             {"top.json": other_cell("SB_IO", PIN_TYPE="011001", IO_STANDARD="SB_LVDS_INPUT")}),
+            ("another standard of a pin", both, 1, "the IO_STANDARD SB_SSTL2_CLASS_1",
+             {"top.json": other_cell("SB_IO", IO_STANDARD="SB_SSTL2_CLASS_1")}),
             ("an unknown pin", both, 1, "pin file line 1", {"top.pcf": lambda text: "set_io clk 9999\n"}),
             ("an unknown package", ["-d", "none"] + both, 1, "the device has no package none", {}),
             ("a folder that can't be", ["--log", "top.pcf/log"] + both, 4, "write failed: top.pcf/log", {})):
@@ -317,6 +349,9 @@ def add_all(checks, designs, is_short):
     for wrong in TEXTS + NETLISTS:
         if not is_short or wrong.what in SHORT_WRONG:
             checks.add("wrong: %s%s" % (wrong.what, " of the netlist" if wrong.is_netlist else ""), check_wrong, checks, wrong)
+    for wrong in MODULES:
+        if not is_short or wrong.what in SHORT_WRONG:
+            checks.add("wrong: %s of the module" % wrong.what, check_wrong_module, checks, wrong)
     for wrong in TEXTS[:1] if is_short else TEXTS:
         checks.add("wrong: %s of the bitstream" % wrong.what, check_wrong, checks, wrong, True)
     checks.add("a bit that can't matter", check_idle, checks)

@@ -1,15 +1,17 @@
 """The designs of the tests, and how they come to a routed text."""
 import json
 import pathlib
+import re
 import shutil
 
 from modules.programs import CHIPDB
 from modules.routing import PACKAGES, Refused, chosen_pins, output_of, package_pins, placed, write_pins
 
 HERE = pathlib.Path(__file__).resolve().parent
-EQUAL = "crc", "servo", "memories", "rams", "pins", "globals", "passes", "clocks", "machine"
-# a port that needs a pin which drives a global net, and one that no pin file names
-GLOBAL_PORT, FREE_PORT = "pad", "unused"
+EQUAL = "crc", "servo", "memories", "rams", "pins", "kinds", "buses", "globals", "passes", "clocks", "machine"
+APART = "pins", "kinds"  # the designs of whose pins no two are in one tile
+# a port that needs a pin which drives a global net, one that needs the first pin of a pair, and one that no pin file names
+GLOBAL_PORT, PAIR_PORT, FREE_PORT = "pad", "pair", "unused"
 
 
 def database_path(device):
@@ -49,10 +51,13 @@ def pinned(name, device, work):
     """Writes the pin file of a design."""
     pins = package_pins(database_path(device), PACKAGES[device])
     names = port_bits(work, name)
-    chosen = chosen_pins([port for port in names if port not in (GLOBAL_PORT, FREE_PORT)], pins, name == "pins")
-    if GLOBAL_PORT in names:
-        usable = global_pins(database_path(device))
-        chosen[GLOBAL_PORT] = next(pin for pin, place in pins.items() if place in usable and pin not in chosen.values())
+    usable = {GLOBAL_PORT: global_pins(database_path(device)), PAIR_PORT: [place for place in pins.values() if re.fullmatch(r"io_0_\d+_0", place)]}
+    chosen = {}
+    for port in [port for port in usable if port in names]:
+        chosen[port] = next(pin for pin, place in pins.items() if place in usable[port])
+        tile = pins[chosen[port]].rpartition("_")[0]
+        pins = {pin: place for pin, place in pins.items() if place.rpartition("_")[0] != tile}
+    chosen.update(chosen_pins([port for port in names if port not in chosen and port != FREE_PORT], pins, name in APART))
     write_pins(chosen, work)
 
 

@@ -1,5 +1,6 @@
-"""Wrong files and netlists: each with what iceverify has to say of it."""
+"""Wrong files, netlists and modules: each with what iceverify has to say of it."""
 import json
+import re
 from dataclasses import dataclass
 from typing import Callable
 
@@ -8,8 +9,9 @@ from device import AT_ONCE, CARRY, ENTRIES, SETS
 
 @dataclass
 class Wrong:
-    """Something that is wrong. what: in words. design: the name of the design. change: makes of a Text, or of a netlist as a dict, the
-    wrong one. said: words that a line about it has. is_netlist: whether the netlist is changed and not the text."""
+    """Something that is wrong. what: in words. design: the name of the design. change: makes of a Text, of a netlist as a dict, or of a module
+    and the places of the design's ports as X_Y_N, the wrong one. said: words that a line about it has. is_netlist: whether the netlist is changed
+    and not the text."""
 
     what: str
     design: str
@@ -99,6 +101,15 @@ def pin_function(port, function):
     return change
 
 
+def pin_link_off(port, name):
+    """Turns off the link to an input of the pin of a port, or to what its tile shares."""
+    def change(text):
+        tile = text.pins[port][:2]
+        link_tile, bits = text.link_on(text.net(tile, name))
+        return text.flip(link_tile, *bits)
+    return change
+
+
 def cell_of_type(netlist, design, *types):
     """A cell of a netlist of one of these types."""
     return next(cell for _, cell in sorted(netlist["modules"][design]["cells"].items()) if cell["type"] in types)
@@ -119,11 +130,38 @@ def netlist_cell(design, types, **changes):
     return change
 
 
-def pin_cell(name, **parameters):
+def pin_cell(design, name, **parameters):
     """Changes parameters of a pin's cell."""
     def change(netlist):
-        netlist["modules"]["pins"]["cells"][name]["parameters"].update(parameters)
+        netlist["modules"][design]["cells"][name]["parameters"].update(parameters)
         return netlist
+    return change
+
+
+def exchanged(design, *ends):
+    """Exchanges what is connected to two ports of cells, each of them named by the cell and the port."""
+    def change(netlist):
+        (one, first), (other, second) = [(netlist["modules"][design]["cells"][cell]["connections"], port) for cell, port in ends]
+        one[first], other[second] = other[second], one[first]
+        return netlist
+    return change
+
+
+def other_text(pattern, new):
+    """Changes what a pattern finds in a module. %(NAME)s is the place of the port NAME in both."""
+    def change(module, places):
+        wrong, count = re.subn(pattern % places, new % places, module)
+        if count != 1:
+            raise KeyError(pattern)
+        return wrong
+    return change
+
+
+def exchanged_inputs(one, other):
+    """Exchanges what comes from outside to two pins, all over a module."""
+    def change(module, places):
+        names = ["io_%s_in" % places[port] for port in (one, other)]
+        return re.sub("|".join(names), lambda match: names[match.group() == names[0]], module)
     return change
 
 
@@ -183,6 +221,15 @@ TEXTS = [
     Wrong("an input without its register", "pins", pin_type("i2", 0), ("register din_q_0 of the pin cell taken_2",)),
     Wrong("the edge of a pin", "pins", pin_function("o1", "NegClk"), ("register dout_q_0 of the pin cell shown_1", "edge of the clock")),
     Wrong("a pin that is no output", "crc", pin_type("parity", 4, 3), ("output parity", "no partner")),
+    Wrong("data that aren't inverted", "kinds", pin_type("inverted", 3), ("output inverted", "value")),
+    Wrong("inverted data taken plain", "kinds", pin_type("inverted", 2), ("register dout_q_0 of the pin cell turned", "no partner")),
+    Wrong("data of one rate", "kinds", pin_type("doubled", 2), ("register dout_q_1 of the pin cell twice", "no partner")),
+    Wrong("the edge of doubled data", "kinds", pin_function("doubled", "NegClk"), ("register dout_q_1 of the pin cell twice", "edge of the clock")),
+    Wrong("an enable of a pin", "kinds", pin_link_off("doubled", "io_global/cen"),
+          ("register clken_pulled_ro of the pin cell twice", "next value")),
+    Wrong("a switch by a net", "kinds", pin_type("switched", 4), ("register outena_q of the pin cell by_register", "no partner")),
+    Wrong("a bus that is always driven", "kinds", pin_type("b3", 5, 4), ("output b3", "switch that turns it off")),
+    Wrong("a bus without its register", "kinds", pin_type("b2", 0), ("register din_q_0 of the pin cell bus_2", "no partner")),
 ]
 NETLISTS = [
     Wrong("another table", "crc", netlist_cell("crc", ["SB_LUT4"], LUT_INIT="0" * 16), ("differs: ",), True),
@@ -193,11 +240,33 @@ NETLISTS = [
     Wrong("a RAM's mode", "rams", netlist_cell("rams", ["SB_RAM40_4K"], READ_MODE="01"), ("RAM ", "bits of a word at the read port"), True),
     Wrong("a RAM's edge", "rams", netlist_cell("rams", ["SB_RAM40_4KNRNW"], type="SB_RAM40_4KNW"), ("RAM ",), True),
     Wrong("a RAM's mask", "rams", netlist_cell("rams", ["SB_RAM40_4K"], WE=["1"]), ("RAM ", "write enable"), True),
-    Wrong("a pin's type", "pins", pin_cell("shown_0", PIN_TYPE="011001"), ("register po_", "the netlist has no partner"), True),
-    Wrong("a pin's edge", "pins", pin_cell("shown_0", NEG_TRIGGER="1"), ("register dout_q_0 of the pin cell shown_0", "edge of the clock"), True),
+    Wrong("a pin's type", "pins", pin_cell("pins", "shown_0", PIN_TYPE="011001"), ("register po_", "the netlist has no partner"), True),
+    Wrong("a pin's edge", "pins", pin_cell("pins", "shown_0", NEG_TRIGGER="1"),
+          ("register dout_q_0 of the pin cell shown_0", "edge of the clock"), True),
     Wrong("a start at 1", "servo", start_at_one("slow"), ("differs: ", "start"), True),
     Wrong("a port more", "crc", extra_port, ("output more", "no partner"), True),
     Wrong("a port less", "crc", no_port, ("of the file", "the netlist has no partner"), True),
+    Wrong("the two data of a pin", "kinds", exchanged("kinds", ("twice", "D_OUT_0"), ("twice", "D_OUT_1")),
+          ("register dout_q_1 of the pin cell twice", "next value"), True),
+    Wrong("the two inputs of a pin", "kinds", exchanged("kinds", ("both", "D_IN_0"), ("both", "D_IN_1")), ("output seen[6]", "value"), True),
+    Wrong("the inputs of two buses", "buses", exchanged("buses", ("data", "D_IN_0"), ("clock", "D_IN_0")), ("output line[0]", "value"), True),
+    Wrong("an inverse", "kinds", pin_cell("kinds", "turned", PIN_TYPE="010101"), ("output inverted", "value"), True),
+]
+MODULES = [
+    Wrong("the two data of a pin", "kinds", other_text(r"(po_%(doubled)s), (pq_%(doubled)s)(?=})", r"\2, \1"), ("output doubled", "value")),
+    Wrong("the half of the clock", "kinds", other_text(r"hacac(?= >> {1'b0, \w+, po_%(doubled_falling)s,)", "hcaca"),
+          ("output doubled_falling", "value")),
+    Wrong("the inverse of a register", "kinds", other_text(r"h5555(?= >> {1'b0, 1'b0, 1'b0, po_%(inverted)s})", "haaaa"),
+          ("output inverted", "value")),
+    Wrong("an enable of the other edge", "kinds", other_text(r"if \(ci_%(i0)s\)(?=.*\n.* ci_%(i0)s <= .*, (\w+)};)", r"if (\1)"),
+          ("register din_q_1 of the pin cell both", "next value")),
+    Wrong("an enable of the other data", "kinds", other_text(r"if \(co_%(b0)s\)(?=.*\n.* co_%(b0)s <= .*, (\w+)};)", r"if (\1)"),
+          ("register dout_q_1 of the pin cell bus_0", "next value")),
+    Wrong("a switch that waits for no clock", "kinds",
+          other_text(r"_en = pe_%(switched)s;(?=(?s:.*) pe_%(switched)s <= .*, (\w+)};)", r"_en = \1;"),
+          ("output switched", "switch that turns it off")),
+    Wrong("a bus that reads what comes from outside", "kinds", other_text(r"hcaca(?= >> .* io_%(b1)s_in})", "haaaa"), ("output seen[1]", "value")),
+    Wrong("what comes to two buses", "buses", exchanged_inputs("sda", "scl"), ("output line[1]", "value")),
 ]
 
 

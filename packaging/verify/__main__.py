@@ -82,10 +82,9 @@ def database_of(device: str, share: Path) -> str:
 
 
 def module_text(request: Request, database: str, share: Path, tools: Tools) -> str:
-    """The module that icebox_vlog writes of the configuration, without pins of every kind, which the modules that are read here don't have.
-    Raises Stop with what it says if it refuses it."""
+    """The module that icebox_vlog writes of the configuration. Raises Stop with what it says if it refuses it."""
     image = str(Path(request.bitstream or request.text).absolute())
-    words = [str(tools.here / "icestorm"), "icebox_vlog", "--used-inputs", "--layout", str((share / "silicon.layout").absolute())]
+    words = [str(tools.here / "icestorm"), "icebox_vlog", "--used-inputs", "--all-pins", "--layout", str((share / "silicon.layout").absolute())]
     ended = tools.run("icebox_vlog", words + ["--", str(Path(database).absolute()), image], "module.v")
     if ended.returncode != 0:
         said = ended.stderr.decode(errors="replace").strip().splitlines()
@@ -112,7 +111,7 @@ def verify(request: Request, tools: Tools) -> int:
     netlist = read_netlist(tools.read(request.netlist))
     for cell in netlist.cells:
         if cell.type != SWITCH:
-            check_kind(cell)
+            check_kind(cell, netlist.read)
     routed = read_routed(tools.read(request.text), request.text)
     share = tools.here.parent / "share" / "icestorm"
     database = database_of(routed.device, share)

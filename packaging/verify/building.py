@@ -2,7 +2,7 @@
 from dataclasses import dataclass, field
 from typing import Dict, List, Optional, Set
 
-from cells import PINS, RAMS, CellModel, Kind, kind_of
+from cells import PIN_REGISTERS, PINS, RAMS, CellModel, Kind, kind_of
 from circuit import ONE, ZERO, Circuit, Function, Memory, MemoryPort, Output, Register, constants, order
 from netlist import Bit, Cell, Netlist, Port
 from stopping import REFUSED, Stop
@@ -10,29 +10,30 @@ from stopping import REFUSED, Stop
 SWITCH = "$_TBUF_"
 GROUPS = (1, 0), (2, 0), (4, 1), (8, 3)  # of each mode of a block RAM: data bit D stands at bit G * D + O of its ports
 DEFAULTS = {"RCLKE": ONE, "WCLKE": ONE}  # of a block RAM's ports that aren't connected; all others are 0
+CHOICE = 0b11001010  # the table of: the second input where the third is 1, else the first
 
 
 @dataclass
 class Pin:
     """What the netlist says of a pin of the chip. port: the name of the port. cell: the cell SB_IO or SB_GB_IO, if there is one.
-    inputs, outputs: the names of the registers in that cell which take what the pin has, and which it shows."""
+    registers: the names of the registers in that cell, by what a written module calls them."""
 
     port: str
     cell: Optional[Cell] = None
-    inputs: List[str] = field(default_factory=list)
-    outputs: List[str] = field(default_factory=list)
+    registers: Dict[str, str] = field(default_factory=dict)
 
 
 @dataclass
 class Built:
     """The circuit of a netlist. registers, memories: the name of the one that drives a bit. pins: by the name of the port.
-    pin_bits: the ports that a bit belongs to: those of the top module, or those of a cell SB_IO at a pin."""
+    inputs_of, outputs_of: of a bit, the ports from whose pins it comes, and those whose pins show it."""
 
     circuit: Circuit
     registers: Dict[Bit, str]
     memories: Dict[Bit, str]
     pins: Dict[str, Pin]
-    pin_bits: Dict[Bit, List[str]]
+    inputs_of: Dict[Bit, List[str]]
+    outputs_of: Dict[Bit, List[str]]
 
 
 def net(bit: Bit) -> str:
@@ -47,14 +48,12 @@ class Builder:
         self.netlist = netlist
         self.models = models
         self.circuit = Circuit()
-        self.built = Built(self.circuit, {}, {}, {}, {})
+        self.built = Built(self.circuit, {}, {}, {}, {}, {})
         self.ports_at: Dict[Bit, Port] = {}
-        self.read: Set[Bit] = set()
         self.driven: Set[str] = set()
 
     def build(self) -> Built:
         """The circuit of the netlist."""
-        self.find_readers()
         self.add_ports()
         for cell in self.netlist.cells:
             if cell.type in RAMS:
@@ -67,21 +66,14 @@ class Builder:
             self.finish_port(port)
         return self.built
 
-    def find_readers(self):
-        """Notes which bits something reads."""
-        for cell in self.netlist.cells:
-            given = ("RDATA",) if cell.type in RAMS else ("Y",) if cell.type == SWITCH else self.models[kind_of(cell)].outputs
-            for port, bits in cell.connections.items():
-                if port not in given:
-                    self.read.update(bits)
-        self.read.update(port.bit for port in self.netlist.ports.values() if port.direction != "input")
-
     def add_ports(self):
         """Adds the inputs of the top module."""
         for port in self.netlist.ports.values():
             self.built.pins[port.name] = Pin(port.name)
-            self.built.pin_bits.setdefault(port.bit, []).append(port.name)
+            if port.direction != "input":
+                self.built.outputs_of.setdefault(port.bit, []).append(port.name)
             if port.direction != "output":
+                self.built.inputs_of.setdefault(port.bit, []).append(port.name)
                 self.ports_at.setdefault(port.bit, port)
             if port.direction == "input":
                 self.circuit.inputs[port.name] = net(port.bit)
@@ -114,9 +106,8 @@ class Builder:
 
     def add_cell(self, cell: Cell, model: CellModel):
         """Adds a cell that has a model."""
-        given = {port: function for port, function in model.outputs.items() if cell.connections[port][0] in self.read or port == "PACKAGE_PIN"}
-        if any(function is None for function in given.values()):
-            raise Stop(REFUSED, "the netlist reads the pin of %s, which can be switched off" % cell.name)
+        given = {port: function for port, function in model.outputs.items()
+                 if cell.connections[port][0] in self.netlist.read or port == "PACKAGE_PIN"}
         wanted = self.needed(given, model) if cell.type in PINS else set(model.registers)
         outputs = {name: "%s.%s" % (cell.name, name) for name in wanted}
         for name in wanted:
@@ -168,12 +159,10 @@ class Builder:
         if pin.cell:
             raise Stop(REFUSED, "the netlist has two cells at the port %s" % port.name)
         pin.cell = cell
-        shown = set(given["PACKAGE_PIN"].inputs) if "PACKAGE_PIN" in given else set()
-        pin.outputs = [own for name, own in outputs.items() if name in shown]
-        pin.inputs = [own for name, own in outputs.items() if name not in shown]
-        for name in ("D_IN_0", "D_OUT_0", "GLOBAL_BUFFER_OUTPUT"):
-            for other in cell.connections.get(name, []):
-                self.built.pin_bits.setdefault(other, []).append(port.name)
+        pin.registers = {PIN_REGISTERS.get(model.registers[name].name, name): own for name, own in outputs.items()}
+        for ports, names in (self.built.inputs_of, ("D_IN_0", "D_IN_1", "GLOBAL_BUFFER_OUTPUT")), (self.built.outputs_of, ("D_OUT_0", "D_OUT_1")):
+            for other in [other for name in names for other in cell.connections.get(name, [])]:
+                ports.setdefault(other, []).append(port.name)
         if "PACKAGE_PIN" not in given:
             self.add_input(port)
         elif "PACKAGE_PIN" in model.enables:
@@ -184,7 +173,7 @@ class Builder:
             self.give(net(bit), self.mapped(given["PACKAGE_PIN"], cell, outputs), cell)
 
     def add_input(self, port: Port):
-        """Makes an inout port that a cell only reads an input."""
+        """Makes an inout port that nothing drives an input."""
         if port.direction == "output":
             raise Stop(REFUSED, "the netlist has the output port %s at a pin that is an input" % port.name)
         if port.name not in self.circuit.inputs:
@@ -192,10 +181,13 @@ class Builder:
             self.drive(net(port.bit), "the port %s" % port.name)
 
     def add_switched(self, port: Port, value: str, enable: str, cell: Cell):
-        """Makes a port an output that can be switched off."""
-        self.drive(net(port.bit), "the cell %s" % cell.name)
+        """Makes a port an output that can be switched off. What reads its net has the value while it is on, and else what comes from outside,
+        an input."""
         if port.direction == "input" or port.name in self.circuit.outputs:
             raise Stop(REFUSED, "the netlist has no single output at the port %s" % port.name)
+        outside = "%s.outside" % net(port.bit)
+        self.give(net(port.bit), Function((outside, value, enable), CHOICE), cell)
+        self.circuit.inputs[port.name] = outside
         self.circuit.outputs[port.name] = Output(value, enable)
 
     def add_switch(self, cell: Cell):
@@ -204,16 +196,17 @@ class Builder:
         port = self.ports_at.get(pins["Y"])
         if port is None:
             raise Stop(REFUSED, "the netlist's tri-state buffer %s doesn't drive a port" % cell.name)
-        self.built.pin_bits.setdefault(pins["A"], []).append(port.name)
+        self.built.outputs_of.setdefault(pins["A"], []).append(port.name)
         self.add_switched(port, net(pins["A"]), net(pins["E"]), cell)
 
     def finish_port(self, port: Port):
-        """Adds an output, after all cells."""
+        """Adds an output, or an inout port that nothing drives, after all cells."""
         if port.direction == "input" or port.name in self.circuit.inputs or port.name in self.circuit.outputs:
             return
         if port.direction == "inout" and net(port.bit) not in self.driven:
-            raise Stop(REFUSED, "the netlist has the inout port %s, which no cell SB_IO and no tri-state buffer drives" % port.name)
-        self.circuit.outputs[port.name] = Output(net(port.bit))
+            self.add_input(port)
+        else:
+            self.circuit.outputs[port.name] = Output(net(port.bit))
 
     def bits(self, cell: Cell, port: str, count: int) -> List[str]:
         """The nets at a port of a block RAM."""

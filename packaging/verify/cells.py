@@ -5,10 +5,10 @@ yosys turns the model of each kind of cell that the netlist has into gates and f
 import json
 import re
 from dataclasses import dataclass, field
-from typing import Dict, List, Optional, Tuple
+from typing import Dict, List, Optional, Set, Tuple
 
 from circuit import FALLING, RISING, Function
-from netlist import Cell
+from netlist import Bit, Cell
 from programs import Tools
 from stopping import READING, REFUSED, Stop
 
@@ -17,16 +17,14 @@ RAMS = {"SB_RAM40_4K": (RISING, RISING), "SB_RAM40_4KNR": (FALLING, RISING), "SB
 PINS = "SB_IO", "SB_GB_IO"
 FLIP_FLOPS = tuple("SB_DFF" + edge + kind for edge in ("", "N") for kind in ("", "E", "SR", "R", "SS", "S", "ESR", "ER", "ESS", "ES"))
 KNOWN = ("SB_LUT4", "SB_CARRY", "SB_GB") + PINS + FLIP_FLOPS
-# the types of pins that icebox_vlog takes without --all-pins: the upper four bits of PIN_TYPE, and the lower two
-PIN_OUTPUTS, PIN_INPUTS = ("0000", "0110", "0101", "1010"), ("00", "01")
+# the registers of a pin's cell by their names in its model: what icebox_vlog calls those of a pin
+PIN_REGISTERS = {"din_q_0": "pi", "din_q_1": "pj", "clken_pulled_ri": "ci", "dout_q_0": "po", "dout_q_1": "pq", "clken_pulled_ro": "co",
+                 "outena_q": "pe"}
 
 GATES = {"$_BUF_": ("A", 0b10), "$_NOT_": ("A", 0b01), "$_AND_": ("AB", 0b1000), "$_NAND_": ("AB", 0b0111), "$_OR_": ("AB", 0b1110),
          "$_NOR_": ("AB", 0b0001), "$_XOR_": ("AB", 0b0110), "$_XNOR_": ("AB", 0b1001), "$_ANDNOT_": ("AB", 0b0010),
          "$_ORNOT_": ("AB", 0b1011), "$_MUX_": ("ABS", 0b11001010)}
-REGISTER_NAME = re.compile(r"_q(_\d)?$")
 FLIP_FLOP_GATE = re.compile(r"\$_DFF_([PN])([PN])?([01])?_")
-
-SWITCHED = "a pin that can be switched off"
 
 Kind = Tuple[str, tuple, tuple]
 
@@ -46,34 +44,53 @@ class RegisterModel:
 
 @dataclass
 class CellModel:
-    """What a kind of cell does. outputs: of each port that it drives, by its other ports and its registers, or None if that isn't known; of
-    a port that can be switched off also when it is on, in `enables`."""
+    """What a kind of cell does. outputs: of each port that it drives, by its other ports and its registers; of a port that can be switched off
+    also when it is on, in `enables`. Where such a port is read it stands for its pad."""
 
-    outputs: Dict[str, Optional[Function]] = field(default_factory=dict)
+    outputs: Dict[str, Function] = field(default_factory=dict)
     enables: Dict[str, Function] = field(default_factory=dict)
     registers: Dict[str, RegisterModel] = field(default_factory=dict)
 
 
 def kind_of(cell: Cell) -> Kind:
-    """What the meaning of a cell depends on: its type, its parameters, and which of its ports are connected."""
-    return cell.type, cell.parameters, tuple(sorted(cell.connections))
+    """What the meaning of a cell depends on: its type, its parameters, and which of its ports are connected. An input that a latch may hold is
+    left out, since nothing reads it."""
+    is_held = cell.type in PINS and pin_type(cell)[4] == "1"
+    return cell.type, cell.parameters, tuple(sorted(port for port in cell.connections if port != "D_IN_0" or not is_held))
 
 
-def check_kind(cell: Cell) -> None:
-    """Raises Stop if the cell isn't one whose meaning is known."""
+def pin_type(cell: Cell) -> str:
+    """The PIN_TYPE of a pin's cell, the highest of its six bits first."""
+    value = dict(cell.parameters).get("PIN_TYPE", 0)
+    return (format(value, "b") if isinstance(value, int) else str(value)).lstrip("0").zfill(6)
+
+
+def check_kind(cell: Cell, read: Set[Bit]) -> None:
+    """Raises Stop if the cell isn't one whose meaning is known. read: the bits that something reads."""
     if cell.type in RAMS:
         return
     where = " (%s)" % cell.source if cell.source else ""
     if cell.type not in KNOWN:
         raise Stop(REFUSED, "the netlist's cell %s%s has the type %s, which isn't known" % (cell.name, where, cell.type))
-    parameters = dict(cell.parameters)
-    if cell.type in PINS:
-        type_bits = str(parameters.get("PIN_TYPE", "000000"))
-        if type_bits[:4] not in PIN_OUTPUTS or type_bits[4:] not in PIN_INPUTS:
-            raise Stop(REFUSED, "the netlist's cell %s%s has the PIN_TYPE %s, which isn't taken" % (cell.name, where, type_bits))
-        if not str(parameters.get("IO_STANDARD", "SB_LVCMOS")).startswith(("SB_LVCMOS", "SB_LVTTL")):
-            raise Stop(REFUSED, "the netlist's cell %s%s has the IO_STANDARD %s, which isn't taken"
-                       % (cell.name, where, parameters["IO_STANDARD"]))
+    fault = pin_fault(cell, read) if cell.type in PINS else ""
+    if fault:
+        raise Stop(REFUSED, "the netlist's cell %s%s has %s, which isn't taken" % (cell.name, where, fault))
+
+
+def pin_fault(cell: Cell, read: Set[Bit]) -> str:
+    """What a pin's cell has that icebox_vlog doesn't take, or nothing."""
+    kind, standard = pin_type(cell), str(dict(cell.parameters).get("IO_STANDARD", "SB_LVCMOS"))
+    fault = "the PIN_TYPE " + kind
+    drives = kind[:2] != "00"
+    if not re.fullmatch("[01]{6}", kind):
+        return fault
+    if kind[4] == "1" and cell.connections.get("D_IN_0", [None])[0] in read:
+        return fault + " and a D_IN_0 that is used: a latch may hold it"
+    if drives and cell.type == "SB_GB_IO":
+        return fault + ", that of an output, and drives a global net"
+    if drives and standard == "SB_LVDS_INPUT":
+        return fault + ", that of an output, and the IO_STANDARD " + standard
+    return "" if standard.startswith(("SB_LVCMOS", "SB_LVTTL", "SB_LVDS_INPUT")) else "the IO_STANDARD " + standard
 
 
 def model_text(library: str, types) -> str:
@@ -143,20 +160,23 @@ class Extraction:
         self.registers: Dict[str, dict] = {}
         self.switches: Dict[int, dict] = {}
         self.variables: Dict[int, str] = {}
-        # of each bit the name to show: that of a register first, as dout_q_0, then a short one
-        self.names = {net["bits"][0]: name for name, net in sorted(
-            module["netnames"].items(), key=lambda item: (bool(REGISTER_NAME.search(item[0])), -len(item[0])))}
+        # of each bit the name to show: that of a pin's register first, then a short one
+        self.names = {net["bits"][0]: name.rsplit(".", 1)[-1] for name, net in sorted(
+            module["netnames"].items(), key=lambda item: (item[0].rsplit(".", 1)[-1] in PIN_REGISTERS, -len(item[0])))}
         self.starts = {bit: int(start) for net in module["netnames"].values()
                        for bit, start in zip(net["bits"], reversed(net.get("attributes", {}).get("init", ""))) if start in "01"}
         for cell in module["cells"].values():
             self.take(cell["type"], {port: bits[0] for port, bits in cell["connections"].items()})
-        driven = set(self.gates) | set(self.variables) | set(self.switches)
         for name, port in self.ports.items():
             if port["direction"] == "input":
                 self.variables.setdefault(port["bits"][0], name)
-                driven.add(port["bits"][0])
-        self.open = {name for name, port in self.ports.items() if port["direction"] == "inout" and port["bits"][0] not in driven}
-        self.variables.update({self.ports[name]["bits"][0]: name for name in self.open})
+        pads = {port["bits"][0]: name for name, port in self.ports.items() if port["direction"] == "inout"}
+        if not set(self.switches) <= set(pads):
+            raise Stop(REFUSED, "the model of %s has a tri-state buffer that drives no pin, which isn't taken" % type_name)
+        # pads that the cell doesn't always drive
+        free = {bit: name for bit, name in pads.items() if bit not in self.gates and bit not in self.variables}
+        self.open = {name for bit, name in free.items() if bit not in self.switches}
+        self.variables.update(free)
 
     def take(self, gate: str, pins: Dict[str, int]) -> None:
         """Takes a gate or a flip-flop. Raises Stop at any other cell."""
@@ -185,15 +205,11 @@ class Extraction:
                 found.add(self.variables[bit])
             elif bit in self.gates:
                 left += self.gates[bit][0]
-            elif bit in self.switches:
-                found.add(SWITCHED)
         return sorted(found)
 
-    def function(self, root) -> Optional[Function]:
-        """A bit as a truth table of the variables on which it depends; None if it depends on a pin that the cell itself switches off."""
+    def function(self, root) -> Function:
+        """A bit as a truth table of the variables on which it depends."""
         names = self.support(root)
-        if SWITCHED in names:
-            return None
         cases = 1 << len(names)
         full = (1 << cases) - 1
         values = {name: sum(1 << case for case in range(cases) if case >> place & 1) for place, name in enumerate(names)}
@@ -229,7 +245,7 @@ class Extraction:
         condition = self.function(pins["R"]) if level else None
         if level == "N":
             condition = Function(condition.inputs, condition.table ^ (1 << (1 << len(condition.inputs))) - 1)
-        shown = self.names.get(pins["Q"], name).rsplit(".", 1)[-1]
+        shown = self.names.get(pins["Q"], name)
         return RegisterModel(shown, RISING if edge == "P" else FALLING, self.function(pins["C"]), self.function(pins["D"]), condition,
                              int(value or 0), self.starts.get(pins["Q"], 0))
 
@@ -241,9 +257,7 @@ class Extraction:
             bit = port["bits"][0]
             if port["direction"] == "input" or name in self.open:
                 continue
-            if bit in self.switches and port["direction"] == "inout":
-                model.outputs[name] = self.function(self.switches[bit]["A"])
+            model.outputs[name] = self.function(self.switches[bit]["A"] if bit in self.switches else bit)
+            if bit in self.switches:
                 model.enables[name] = self.function(self.switches[bit]["E"])
-            elif bit not in self.switches:
-                model.outputs[name] = self.function(bit)
         return model

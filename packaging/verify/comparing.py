@@ -83,7 +83,7 @@ class Comparison:
     def collect(self) -> None:
         """Finds all that is to be compared."""
         for port, other in self.partners.inputs.items():
-            self.share(self.ours.inputs[port], self.theirs.inputs[other], port)
+            self.share(self.ours.inputs[port], self.theirs.inputs[other], port + (" from outside" if port in self.ours.outputs else ""))
         for port, other in self.partners.outputs.items():
             one, two = self.ours.outputs[port], self.theirs.outputs[other]
             self.add("output %s" % port, "", "value", one.value, two.value)

@@ -43,8 +43,8 @@ class Matcher:
 
     def match(self) -> Partners:
         """All partners that are found."""
-        self.match_inputs()
         self.match_outputs()
+        self.match_inputs()
         self.match_registers()
         self.match_memories()
         self.match_pin_registers()
@@ -72,15 +72,15 @@ class Matcher:
         self.taken.add((id(pairs), other))
         return True
 
-    def match_ports(self, pairs: Dict[str, str], ours: Dict[str, object], theirs: Dict[str, object], numbers) -> None:
-        """Pairs ports: by the pin file, and the others by the names of the nets at their pins. `numbers` gives these nets."""
+    def match_ports(self, pairs: Dict[str, str], ours: Dict[str, object], theirs: Dict[str, object], named_at) -> None:
+        """Pairs ports: by the pin file, and the others by the names of the nets at their pins. `named_at` gives the ports that these name."""
         for other in theirs:
             self.pair(pairs, self.pins.get(place_of(other)), other, ours, theirs)
         named = set(self.pins.values())
         for other in theirs:
             if (id(pairs), other) in self.taken or place_of(other) in self.pins:
                 continue
-            found = [port for port in self.named_ports(numbers(other)) if port not in named]
+            found = [port for port in named_at(other) if port not in named]
             # a net may be shown by several pins: those of one kind belong together
             for port in sorted(found, key=lambda port: self.kind_of(port) != kind_in(self.module.circuit, other)):
                 if self.pair(pairs, port, other, ours, theirs):
@@ -89,31 +89,36 @@ class Matcher:
     def kind_of(self, port: str):
         """Of a port of the netlist, whether it can be switched off, and whether it shows a register of its pin."""
         output = self.built.circuit.outputs.get(port)
-        return output and (output.enable is not None, bool(self.built.pins[port].outputs))
+        return output and (output.enable is not None, "po" in self.built.pins[port].registers)
 
-    def named_ports(self, numbers: List[int]) -> List[str]:
-        """The ports that nets are called after: the one with just that name first."""
+    def named_ports(self, numbers: List[int], ports_of: Dict[Bit, List[str]], other: str) -> List[str]:
+        """The ports that nets are called after: the one with just that name first, if it hasn't the other direction, then those of its bit."""
         exact = [ENDINGS.sub("", name) for number in numbers for name in self.names.get(number, [])]
         bits = [bit for number in numbers for bit in self.bits_of(number)]
-        return [name for name in exact if name in self.netlist.ports] + [port for bit in bits for port in self.built.pin_bits.get(bit, [])]
+        ports = self.netlist.ports
+        return [name for name in exact if name in ports and ports[name].direction != other] + [
+            port for bit in bits for port in ports_of.get(bit, [])]
+
+    def named_inputs(self, port: str) -> List[str]:
+        """The ports that are called as the nets which have the pad of a port of the module, or what registers of its pin take of it."""
+        numbers = [number for kind in ("io", "pi", "pj") for number in self.module.readers.get(kind + port[2:], [])]
+        return self.named_ports(numbers, self.built.inputs_of, "output")
+
+    def named_outputs(self, port: str) -> List[str]:
+        """The ports that are called as the nets which a port of the module shows, or a register of its pin takes, after those of its pad."""
+        numbers = [self.module.values[name] for name in (port, "po" + port[2:]) if name in self.module.values]
+        return self.named_inputs(port) + self.named_ports(numbers, self.built.outputs_of, "input")
 
     def match_inputs(self):
-        """Pairs the inputs."""
-        readers = self.module.readers
-
-        def numbers(port):
-            return readers.get(port, []) + readers.get("pi" + port[2:], [])
-
-        self.match_ports(self.partners.inputs, self.built.circuit.inputs, self.module.circuit.inputs, numbers)
+        """Pairs the inputs. What comes to a pin that can be switched off goes with its output."""
+        ours, theirs, pairs = self.built.circuit.inputs, self.module.circuit.inputs, self.partners.inputs
+        for port, other in self.partners.outputs.items():
+            self.pair(pairs, port, other, ours, theirs)
+        self.match_ports(pairs, ours, theirs, self.named_inputs)
 
     def match_outputs(self):
         """Pairs the outputs."""
-        values = self.module.values
-
-        def numbers(port):
-            return [values[name] for name in (port, "po" + port[2:]) if name in values]
-
-        self.match_ports(self.partners.outputs, self.built.circuit.outputs, self.module.circuit.outputs, numbers)
+        self.match_ports(self.partners.outputs, self.built.circuit.outputs, self.module.circuit.outputs, self.named_outputs)
 
     def match_registers(self):
         """Pairs registers by the names of the nets that they drive."""
@@ -149,9 +154,9 @@ class Matcher:
     def match_pin_registers(self):
         """Pairs the registers of cells at pins with those of the pins of the module."""
         for pin in self.built.pins.values():
-            for own, ports, kind in (pin.inputs, self.partners.inputs, "pi"), (pin.outputs, self.partners.outputs, "po"):
-                for one in own:
-                    self.pair_registers(one, kind + ports.get(pin.port, "io")[2:])
+            other = self.partners.outputs.get(pin.port) or self.partners.inputs.get(pin.port, "io")
+            for kind, one in pin.registers.items():
+                self.pair_registers(one, kind + other[2:])
 
     def match_moved(self):
         """Pairs registers that are in a pin on one side alone: one that an output shows, or that takes an input, as it is."""
@@ -182,7 +187,7 @@ class Matcher:
 def kind_in(circuit: Circuit, port: str):
     """The same of a port of the module."""
     output = circuit.outputs.get(port)
-    return output and (output.enable is not None, output.value.startswith("po_"))
+    return output and (output.enable is not None, "po" + port[2:] in circuit.registers)
 
 
 def passed_on(circuit: Circuit, name: str) -> str:

@@ -46,9 +46,10 @@ KINDS = {"input": ("port",), "output": ("port",), "reg": ("register", "word", "m
 
 @dataclass
 class Module:
-    """A written module: its circuit, and the wires that show what drives what.
+    """A written module: its circuit, and the wires that show what drives what. An input of a pin that can be switched off has the name of the
+    output in the circuit.
 
-    readers: the number of the net whose wire is just a register, an input, or a bit of a word that was read, by that name.
+    readers: the number of the net whose wire is just a register, an input, the pad of such a pin, or a bit of a word that was read, by that name.
     values: the number of the net whose wire an output, or the register of an output pin, takes, by the name of the output or register.
     """
 
@@ -74,6 +75,7 @@ class Reader:
         self.circuit = Circuit()
         self.module = Module(self.circuit, {}, {})
         self.outputs: List[str] = []
+        self.pads: Dict[str, str] = {}
         self.at_once: Dict[str, tuple] = {}
         self.words: Dict[str, List[int]] = {}
         self.reads: Dict[str, tuple] = {}
@@ -125,15 +127,17 @@ class Reader:
         return False
 
     def note(self, name, source):
-        """Notes that a wire is just that register, input or bit."""
+        """Notes that a wire is just that register, input, pad or bit."""
         if number(name) is not None:
-            self.module.readers.setdefault(source, []).append(number(name))
+            self.module.readers.setdefault(self.pads.get(source, source), []).append(number(name))
 
     def wire_alias(self, name, atom):
         self.note(name, atom)
         return Function((net(atom),), 2)
 
-    def wire_lut(self, _, word, *atoms):
+    def wire_lut(self, name, word, *atoms):
+        if atoms[-1].endswith("_in"):
+            self.pads[name] = atoms[-1][:-3]
         return self.lut(word, atoms)
 
     def wire_majority(self, _, *atoms):
@@ -254,12 +258,17 @@ class Reader:
             raise Stop(REFUSED, "the module reads %s, which nothing gives" % min(read - given))
 
     def join_switched(self):
-        """Makes an output and the one that says whether it is on a single output."""
-        if set(self.outputs) != set(self.circuit.outputs):
+        """Makes an output and the one that says whether it is on a single output. What comes to its pin gets its name too."""
+        circuit = self.circuit
+        if set(self.outputs) != set(circuit.outputs):
             raise Stop(REFUSED, "the module has an output that isn't assigned")
         for name in self.outputs:
             if name.endswith("_en"):
-                self.circuit.outputs[name[:-3]].enable = self.circuit.outputs.pop(name).value
+                circuit.outputs[name[:-3]].enable = circuit.outputs.pop(name).value
+        for name in [name for name in circuit.inputs if name.endswith("_in")]:
+            if name[:-3] in circuit.inputs or circuit.outputs[name[:-3]].enable is None:
+                raise Stop(REFUSED, "the module has an input %s at a pin that is never switched off" % name)
+            circuit.inputs[name[:-3]] = circuit.inputs.pop(name)
 
     def add_memory(self, word):
         """Adds the block RAM of a word that is read. Bits that a narrow read leaves out are 0."""

@@ -1,8 +1,9 @@
 """Reads the netlist that yosys wrote for nextpnr: the cells of the top module, its ports, and the names of its bits."""
 import json
 import re
+from collections import Counter
 from dataclasses import dataclass, field
-from typing import Dict, List, Tuple, Union
+from typing import Dict, List, Set, Tuple, Union
 
 from stopping import REFUSED, Stop
 
@@ -33,7 +34,7 @@ class Port:
 @dataclass
 class Netlist:
     """bits: of each name of a bit. names: of each bit, the one to show first. starts: of each bit with an `init`, 0 or 1.
-    sources: FILE:LINE of the declaration of each bit, where it has one."""
+    sources: FILE:LINE of the declaration of each bit, where it has one. read: the bits that something reads."""
 
     cells: List[Cell]
     ports: Dict[str, Port]
@@ -41,6 +42,7 @@ class Netlist:
     names: Dict[Bit, List[str]]
     starts: Dict[Bit, int]
     sources: Dict[Bit, str]
+    read: Set[Bit] = field(default_factory=set)
 
     def name(self, bit: Bit) -> str:
         """The name of a bit that tells most to a reader."""
@@ -122,6 +124,15 @@ def add_ports(netlist: Netlist, ports: dict) -> None:
             netlist.ports[port.name] = port
 
 
+def find_read(netlist: Netlist) -> None:
+    """Finds the bits that something reads: they stand at two places or more."""
+    places = Counter(port.bit for port in netlist.ports.values())
+    for cell in netlist.cells:
+        for bits in cell.connections.values():
+            places.update(bits)
+    netlist.read = {bit for bit, count in places.items() if count > 1}
+
+
 def read_netlist(text: str) -> Netlist:
     """The netlist of a text in the JSON form of yosys. Raises Stop if it isn't one, or hasn't exactly one top module."""
     try:
@@ -134,6 +145,7 @@ def read_netlist(text: str) -> Netlist:
                 netlist.cells.append(Cell(name, data["type"], tuple(sorted(data["parameters"].items())),
                                           {port: bits for port, bits in data["connections"].items() if bits},
                                           source_of(data.get("attributes", {}))))
+        find_read(netlist)
     except json.JSONDecodeError as error:
         raise Stop(REFUSED, "the netlist isn't JSON: line %d: %s" % (error.lineno, error.msg)) from None
     except (KeyError, TypeError, AttributeError, ValueError, RecursionError):

@@ -11,9 +11,9 @@ fpga-icestorm-chipdb. With -k the files stay in FOLDER, a folder for each design
 The cells have the model that yosys ships, with two changes: `always @*` is made `always_comb`, which is run at the start too, and its registers
 start at 0. A type whose last bit but one is 1 has a latch, and its D_IN_0 isn't used. All else is: two clocks, both inputs, what each type puts
 out, the output enable, and of some cells the clock enable. Around the module pads are joined to buses: a pin drives its bus where its port
-_en is 1, and the bus comes back at its port _in. From outside each bus is driven weakly, so that its pin decides where it drives. Designs and
-events are random, but always the same. After the start and after each event the pads, D_IN_0 and D_IN_1 are compared. Each type counts as one
-check.
+_en is 1, and the bus comes back at its port _in. From outside each bus is driven weakly, so that its pin decides where it drives. If all pins
+can be switched off, two instances share the buses, and one is on where the other is off. Designs and events are random, but always the same.
+After the start and after each event the pads, D_IN_0 and D_IN_1 are compared. Each type counts as one check.
 
 The last line is 'N passed, M failed'. Status 0: all passed; 1: something failed; 2: the arguments aren't taken; 127: a database or a program is
 missing.
@@ -69,15 +69,14 @@ class Cell:
         return "  SB_IO #(.PIN_TYPE(6'b%s), .NEG_TRIGGER(1'b%d)) %s (%s);" % (
             format(self.kind, "06b"), self.falling, self.name, ", ".join(".%s(%s)" % port for port in ports.items()))
 
-    def joined(self, place):
-        """What stands at the ports of its pin in the written module, and what joins these to the bus of the module."""
+    def joined(self, place, instance):
+        """What stands at the ports of its pin in an instance of the written module, and what joins these to the bus of the module."""
         wire = "other[%d]" % place
-        around = ["  assign (weak0, weak1) %s = outside[%d];" % (wire, place)]
         if not self.is_switched:
-            return {self.pad: wire}, around
-        value, enable = self.pad, self.pad + "_en"
-        around += ["  wire %s, %s;" % (value, enable), "  assign %s = %s ? %s : 1'bz;" % (wire, enable, value)]
-        return {value: value, enable: enable, self.pad + "_in": wire}, around
+            return {self.pad: wire}, []
+        value, enable = "%s_of_%s" % (self.pad, instance), "%s_en_of_%s" % (self.pad, instance)
+        around = ["  wire %s, %s;" % (value, enable), "  assign %s = %s ? %s : 1'bz;" % (wire, enable, value)]
+        return {self.pad: value, self.pad + "_en": enable, self.pad + "_in": wire}, around
 
 
 class Buses(Design):
@@ -92,6 +91,10 @@ class Buses(Design):
         self.inputs = ["iclk", "oclk", "ce", "oe", "d0", "d1"]
         self.shown = [name for cell in self.cells for name in cell.outputs]
         self.outputs = bus("bus", TYPES) + self.shown
+        # what comes to the inputs of each instance
+        self.instances = [dict(zip(self.inputs, self.inputs))]
+        if all(cell.is_switched for cell in self.cells):
+            self.instances.append({**self.instances[0], "oe": "~oe", "d0": "d1", "d1": "d0"})
         # each event is the change of an input or of what drives a bus from outside
         self.changed = draws.choices(self.inputs + ["outside[%d]" % place for place in range(TYPES)], [5, 5, 2, 3, 3, 3] + [2] * TYPES, k=EVENTS)
 
@@ -101,31 +104,41 @@ class Buses(Design):
         return "\n".join(lines + [cell.line() for cell in self.cells] + ["endmodule"]) + "\n"
 
     def compared(self, module):
-        """A module that runs the design beside its written module over the events, and writes a line for each: the pads and the outputs of the
-        design, and those of the module."""
-        last = len(self.shown) - 1
+        """A module that runs the instances of the design beside those of its written module over the events, and writes a line for each: the
+        pads and the outputs of the design, and those of the module."""
+        last = len(self.instances) * len(self.shown) - 1
         lines = ["module bench;", "  reg %s;" % ", ".join("%s = 0" % name for name in self.inputs), "  reg [0:%d] outside = 0;" % (TYPES - 1),
                  "  wire [0:%d] one, other;" % (TYPES - 1), "  wire [0:%d] shown, written;" % last]
-        lines += ["  assign (weak0, weak1) one[%d] = outside[%d];" % (place, place) for place in range(TYPES)]
-        given = [".%s(%s)" % (name, name) for name in self.inputs]
-        pads = [".%s(one[%d])" % (cell.pad, place) for place, cell in enumerate(self.cells)]
-        lines += ["  top top (%s);" % ", ".join(given + pads + [".%s(shown[%d])" % (name, place) for place, name in enumerate(self.shown)])]
-        for place, cell in enumerate(self.cells):
-            named, around = cell.joined(place)
-            given += [".%s(%s)" % port for port in named.items()]
-            lines += around
-        lines += ["  chip chip (%s);" % ", ".join(given + [".%s(written[%d])" % (name, place) for place, name in enumerate(self.shown)])]
+        lines += ["  assign (weak0, weak1) %s[%d] = outside[%d];" % (wire, place, place) for wire in ("one", "other") for place in range(TYPES)]
+        for number in range(len(self.instances)):
+            lines += self.instance(number)
         lines += ["  initial begin #1;"]
         # a pin that comes from x to 0 isn't an event, but may be an edge: the registers begin anew
-        lines += ["    top.count = 0;"] + ["    top.%s.%s = 0;" % (cell.name, register) for cell in self.cells for register in REGISTERS]
-        lines += ["    chip.%s = %s;" % start for start in re.findall(r"^  reg (\w+) = (1'b[01]);$", module, re.M)]
+        for number in range(len(self.instances)):
+            lines += ["    top%d.count = 0;" % number]
+            lines += ["    top%d.%s.%s = 0;" % (number, cell.name, register) for cell in self.cells for register in REGISTERS]
+            lines += ["    chip%d.%s = %s;" % (number, *start) for start in re.findall(r"^  reg (\w+) = (1'b[01]);$", module, re.M)]
         lines += ["    #1 $display(\"%b%b %b%b\", one, shown, other, written);"]
         lines += ["    %s = ~%s; #1 $display(\"%%b%%b %%b%%b\", one, shown, other, written);" % (name, name) for name in self.changed]
         return "\n".join(lines + ["  end", "endmodule"]) + "\n"
 
+    def instance(self, number):
+        """An instance of the design and one of its written module, joined to the buses of each."""
+        given = [".%s(%s)" % port for port in self.instances[number].items()]
+        outputs = {wire: [".%s(%s[%d])" % (name, wire, number * len(self.shown) + place) for place, name in enumerate(self.shown)]
+                   for wire in ("shown", "written")}
+        pads = [".%s(one[%d])" % (cell.pad, place) for place, cell in enumerate(self.cells)]
+        lines = ["  top top%d (%s);" % (number, ", ".join(given + pads + outputs["shown"]))]
+        for place, cell in enumerate(self.cells):
+            named, around = cell.joined(place, "chip%d" % number)
+            given += [".%s(%s)" % port for port in named.items()]
+            lines += around
+        return lines + ["  chip chip%d (%s);" % (number, ", ".join(given + outputs["written"]))]
+
     def places(self, cell):
         """The places of its pad and of its outputs in a line."""
-        return [self.outputs.index(name) for name in [cell.pad] + cell.outputs]
+        own = [self.outputs.index(name) for name in [cell.pad] + cell.outputs]
+        return own + [place + number * len(self.shown) for number in range(1, len(self.instances)) for place in own[1:]]
 
 
 def model():

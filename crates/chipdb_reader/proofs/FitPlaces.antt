@@ -7,7 +7,7 @@ use Rattle.std.specs.Result.{result_unwrap_or}
 use Rattle.std.proofs.lemmas.Bool.{cases_lt}
 use Rattle.std.proofs.lemmas.List.Elements.{All-nil, All-cons, All-head, All-tail}
 use Rattle.text_lines.specs.Lines.{line_at}
-use Rattle.text_lines.specs.Words.{numbers_of}
+use Rattle.text_lines.specs.Words.{number_of, numbers_of, with_number}
 use Rattle.index_search.specs.Places.{first_below}
 use Rattle.index_search.proofs.Places.{last_below-place}
 use Rattle.plane_map.specs.declared.tile.TileKind.{TileKind}
@@ -20,9 +20,11 @@ use Rattle.chipdb_lines.specs.Words.{has_none, is_statement, words_in}
 use Rattle.chipdb_lines.specs.Statements.{Block, LinkHead, passed, of_device, global_inputs, global_pins, functions, extra_bits, names, buffers, routings, pll, block_by, block_of, block_without, buffers_block, device_block, chip_of_words, is_kind_there, keyword_of, link_of_words, names_block, net_of_numbers, routings_block, statement_of, tile_bits_of_numbers, tile_of_numbers, extra_cell_of, pll_of_numbers}
 use Rattle.chipdb_lines.specs.Items.{NameLine, LinkChoice}
 use Rattle.chipdb_reader.specs.Blocks.{block_by as block_at_place, block_over, chip_before, chip_in, own_words_at, statement_at, statement_over}
-use Rattle.chipdb_reader.specs.Database.{Said, nothing, item, said_at, said_by, said_for, buffers_at, buffers_in, database_of, is_chosen_before, is_same_choice, link_of, new_choices, routings_at, routings_in}
-use Rattle.chipdb_reader.specs.Fit.{IsExtraLine, IsFit, IsFunctionLine, IsGlobalInput, IsGlobalPin, IsLink, IsNameLine}
+use Rattle.chipdb_reader.specs.Database.{begun_at, is_pll_before, pll_tile_at, tile_in, Said, nothing, item, said_at, said_by, said_for, buffers_at, buffers_in, database_of, is_chosen_before, is_same_choice, link_of, new_choices, routings_at, routings_in}
+use Rattle.chipdb_reader.specs.Fit.{IsPlacedPll, IsExtraLine, IsFit, IsFunctionLine, IsGlobalInput, IsGlobalPin, IsLink, IsNameLine}
 use Rattle.chipdb_reader.proofs.Holds.{buffers_at-nothing, routings_at-nothing}
+use Rattle.chipdb_reader.proofs.FewDigits.{FewIf, number-few}
+use Rattle.chipdb_reader.proofs.PllsApart.{plls-apart, plls-all}
 use Rattle.chipdb_reader.proofs.FitLines.{OkAll, ok-cond, IsHead, IsNameOf, choice-fit, extra-fit, function-fit, input-fit, link-fit, name-fit, net-fit, pin-fit}
 
 -- ---- blocks
@@ -32,6 +34,7 @@ abbrev BlockFits : Chip → Block → Type 0
 BlockFits chip (names net) = net < chip.nets
 BlockFits chip (buffers head) = IsHead chip head
 BlockFits chip (routings head) = IsHead chip head
+BlockFits chip (pll x y) = (x < 1000000000) × (y < 1000000000)
 BlockFits chip block = Unit {0}
 
 names-fit : (chip : Chip) (net : Result ℕ DbCause) → OkAll (λ n. n < chip.nets) net → OkAll (BlockFits chip) (names_block net)
@@ -60,23 +63,23 @@ tile_bits-fit chip kind (Some (x ∷ [])) = tt
 tile_bits-fit chip kind (Some (x ∷ y ∷ [])) = ok-cond (BlockFits chip) ((x == columns_of kind) && (y == 16)) (Ok (functions kind)) (Err KindCause) (λ same. tt) (λ other. tt)
 tile_bits-fit chip kind (Some (x ∷ y ∷ more ∷ numbers)) = tt
 
-pll-fit : (chip : Chip) (numbers : Option (List ℕ)) → BlockFits chip (pll_of_numbers numbers)
-pll-fit chip None = tt
-pll-fit chip (Some []) = tt
-pll-fit chip (Some (x ∷ [])) = tt
-pll-fit chip (Some (x ∷ y ∷ [])) = tt
-pll-fit chip (Some (x ∷ y ∷ more ∷ numbers)) = tt
+pll-fit : (chip : Chip) (x y : Option ℕ) → FewIf x → FewIf y → BlockFits chip (pll_of_numbers (with_number x (with_number y (Some []))))
+pll-fit chip None None of_x of_y = tt
+pll-fit chip None (Some y) of_x of_y = tt
+pll-fit chip (Some x) None of_x of_y = tt
+pll-fit chip (Some x) (Some y) of_x of_y = (of_x, of_y)
 
-kind-fit : (chip : Chip) (is_pll : Bool) (numbers : Option (List ℕ)) → BlockFits chip (cond is_pll (pll_of_numbers numbers) passed)
-kind-fit chip true numbers = pll-fit chip numbers
-kind-fit chip false numbers = tt
+kind-fit : (chip : Chip) (is_pll : Bool) (x y : List ℕ) → BlockFits chip (cond is_pll (pll_of_numbers (numbers_of (x ∷ y ∷ []))) passed)
+unfolding numbers_of
+kind-fit chip true x y = pll-fit chip (number_of x) (number_of y) (number-few x) (number-few y)
+kind-fit chip false x y = tt
 
 extra_cell-fit : (chip : Chip) (words : List (List ℕ)) → BlockFits chip (extra_cell_of words)
 unfolding extra_cell_of
 extra_cell-fit chip [] = tt
 extra_cell-fit chip (x ∷ []) = tt
 extra_cell-fit chip (x ∷ y ∷ []) = tt
-extra_cell-fit chip (x ∷ y ∷ kind ∷ []) = kind-fit chip (bytes_eq kind (codes "PLL")) (numbers_of (x ∷ y ∷ []))
+extra_cell-fit chip (x ∷ y ∷ kind ∷ []) = kind-fit chip (bytes_eq kind (codes "PLL")) x y
 extra_cell-fit chip (x ∷ y ∷ kind ∷ more ∷ words) = tt
 
 block-fit : (chip : Chip) (keyword : Keyword) (words : List (List ℕ)) → OkAll (BlockFits chip) (block_of chip keyword words)
@@ -170,13 +173,12 @@ later-fit (Some given) after block stays fits chip is =
     let same : given ≡ chip = cc in
     subst (λ c. BlockFits c block) same fits
 
-over-by : (lines : List (List ℕ)) (n : ℕ) (over : Option ℕ) (chip : Chip) → ((place : ℕ) → over ≡ Some place → place < n) → chip_before lines n ≡ Some chip → BlockFits chip (block_at_place lines over)
+-- what holds of a statement that comes before a device is known holds after it
+statement-at-fit : (lines : List (List ℕ)) (place n : ℕ) (chip : Chip) → place ≤ n → chip_before lines n ≡ Some chip → BlockFits chip (result_unwrap_or (statement_at lines place) passed)
 unfolding statement_at
-over-by lines n None chip before is = tt
-over-by lines n (Some place) chip before is =
-    let lt = before place refl in
+statement-at-fit lines place n chip le is =
     unwrapped-fit (BlockFits chip) (statement_at lines place) tt
-    (by-statement (chip_before lines place) (words_in (line_at lines place)) (λ given at. chip-stays lines place n given (omega arith) at))
+    (by-statement (chip_before lines place) (words_in (line_at lines place)) (λ given at. chip-stays lines place n given le at))
   where
     by-statement : (given : Option Chip) (words : List (List ℕ)) → ((c : Chip) → given ≡ Some c → chip_before lines n ≡ Some c) → OkAll (BlockFits chip) (statement_of given words)
     by-statement given words stays = ok-later given (statement_of given words) (statement-fit given words) stays
@@ -184,6 +186,10 @@ over-by lines n (Some place) chip before is =
         ok-later : (g : Option Chip) (said : Result Block DbCause) → OkAll (Fits g) said → ((c : Chip) → g ≡ Some c → chip_before lines n ≡ Some c) → OkAll (BlockFits chip) said
         ok-later g (Ok block) fits stays = later-fit g (chip_before lines n) block stays fits chip is
         ok-later g (Err cause) fits stays = tt
+
+over-by : (lines : List (List ℕ)) (n : ℕ) (over : Option ℕ) (chip : Chip) → ((place : ℕ) → over ≡ Some place → place < n) → chip_before lines n ≡ Some chip → BlockFits chip (block_at_place lines over)
+over-by lines n None chip before is = tt
+over-by lines n (Some place) chip before is = let lt = before place refl in statement-at-fit lines place n chip (omega arith) is
 
 over-fit : (lines : List (List ℕ)) (n : ℕ) (chip : Chip) → chip_before lines n ≡ Some chip → BlockFits chip (block_over lines n)
 unfolding block_over statement_over
@@ -295,6 +301,36 @@ links-by lines k n chip (Some c) le is at =
     let said = (said-at-fit lines k n chip le is).choices_fit in
     (buffers-in-fit chip (block_over lines k) (new_choices lines k (said_at lines k).choices) fits (new-fit lines k chip.nets (said_at lines k).choices said), routings-in-fit chip (block_over lines k) (said_at lines k).choices fits said)
 
+-- a place of few digits
+abbrev IsFewPlace : ℕ × ℕ → Type 0
+IsFewPlace tile = (tile.0 < 1000000000) × (tile.1 < 1000000000)
+
+-- the place of a PLL that is told
+placed-by : (lines : List (List ℕ)) (k : ℕ) (chip : Chip) (block : Block) → BlockFits chip block → All IsFewPlace (tile_in lines k block)
+placed-by lines k chip passed fits = All-nil _
+placed-by lines k chip (of_device given) fits = All-nil _
+placed-by lines k chip global_inputs fits = All-nil _
+placed-by lines k chip global_pins fits = All-nil _
+placed-by lines k chip (functions kind) fits = All-nil _
+placed-by lines k chip extra_bits fits = All-nil _
+placed-by lines k chip (names net) fits = All-nil _
+placed-by lines k chip (buffers head) fits = All-nil _
+placed-by lines k chip (routings head) fits = All-nil _
+placed-by lines k chip (pll x y) fits = by (is_pll_before lines k x y)
+  where
+    by : (before : Bool) → All IsFewPlace (cond before [] ((x, y) ∷ []))
+    by true = All-nil IsFewPlace
+    by false = All-cons IsFewPlace (x, y) [] fits (All-nil IsFewPlace)
+
+placed-at : (lines : List (List ℕ)) (k n : ℕ) (chip : Chip) → k ≤ n → chip_before lines n ≡ Some chip
+    → All IsFewPlace (pll_tile_at lines k)
+unfolding pll_tile_at begun_at
+placed-at lines k n chip le is = by (is_statement (line_at lines k))
+  where
+    by : (told : Bool) → All IsFewPlace (tile_in lines k (cond told (result_unwrap_or (statement_at lines k) passed) passed))
+    by true = placed-by lines k chip (result_unwrap_or (statement_at lines k) passed) (statement-at-fit lines k n chip le is)
+    by false = All-nil IsFewPlace
+
 -- ---- the whole
 
 pub database-fit : (chip : Chip) (lines : List (List ℕ)) → chip_before lines (length lines) ≡ Some chip → IsFit (database_of chip lines)
@@ -309,4 +345,6 @@ database-fit chip lines is =
       extras = All-gathered_below (IsExtraLine chip) n _ (λ k lt. (said-at-fit lines k n chip (omega arith) is).extras_fit);
       global_inputs = All-gathered_below (IsGlobalInput chip) n _ (λ k lt. (said-at-fit lines k n chip (omega arith) is).inputs_fit);
       global_pins = All-gathered_below (IsGlobalPin chip) n _ (λ k lt. (said-at-fit lines k n chip (omega arith) is).pins_fit);
+      plls = plls-all lines n (λ k lt. placed-at lines k n chip (omega arith) is);
+      plls_apart = plls-apart lines n;
     }

@@ -18,6 +18,10 @@ pub mod NetChanges
 pub mod PllChanges
 -- tiles of PLLs in their order
 pub mod PllTiles
+-- numbers of at most nine digits
+pub mod FewDigits
+-- no two PLLs are at one tile, and what holds of their places
+pub mod PllsApart
 -- PLLs, one line further
 pub mod PllSteps
 -- devices, statements and blocks, one line further

@@ -119,7 +119,7 @@ found-tile tile (entry ∷ entries) =
     by false rest = rest
 
 -- in their order
-put-has : (tiles : List (ℕ × ℕ)) (tile other : ℕ × ℕ) → has_tile (put_tile tiles tile) other ≡ (has_tile tiles other || is_same other tile)
+pub put-has : (tiles : List (ℕ × ℕ)) (tile other : ℕ × ℕ) → has_tile (put_tile tiles tile) other ≡ (has_tile tiles other || is_same other tile)
 put-has [] tile other = or-false (is_same other tile)
 put-has (first ∷ tiles) tile other = by (is_tile_before tile first) (put-has tiles tile other)
   where

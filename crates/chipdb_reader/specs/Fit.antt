@@ -1,5 +1,7 @@
--- What holds of every database: its lines name only tiles, bits and nets that the device has.
-use Rattle.std.specs.Prelude.{◌≡◌, ℕ, ◌<◌, ◌≤◌, true, length, All, Some}
+-- What holds of every database: its lines name only tiles, bits and nets that the device has, but those of PLLs, which may name others. And
+-- no two PLLs are at one tile.
+use Rattle.std.specs.Prelude.{◌≡◌, ℕ, ◌<◌, ◌≤◌, Bool, true, ◌&&◌, ◌==◌, length, All, Some}
+use Rattle.std.specs.List.{IsDistinct}
 use Rattle.plane_map.specs.Layout.{kind_of, columns_of, grid_width, grid_height, IsInCram}
 use Rattle.plane_map.specs.declared.tile.TileKind.{TileKind}
 use Rattle.plane_map.specs.declared.tile.TileKind.TheVariants.{Io}
@@ -8,7 +10,7 @@ use Rattle.chipdb_lines.specs.declared.chip.Chip.{Chip}
 use Rattle.chipdb_lines.specs.declared.globals.GlobalInput.{GlobalInput}
 use Rattle.chipdb_lines.specs.declared.globals.GlobalPin.{GlobalPin}
 use Rattle.chipdb_lines.specs.Items.{NameLine, FunctionLine, ExtraLine, is_cell}
-use Rattle.chipdb_reader.specs.Database.{Database, Link}
+use Rattle.chipdb_reader.specs.Database.{Database, Link, Pll}
 
 -- a bit of tiles with `columns` columns of bits
 pub record IsBitIn (columns : ℕ) (bit : RowCol) : Type 0 where
@@ -51,6 +53,15 @@ pub record IsGlobalPin (chip : Chip) (pin : GlobalPin) : Type 0 where
   pub pad_in : pin.pad ≤ 1
   pub global_in : pin.global ≤ 7
 
+-- the place of a PLL: two numbers of at most nine digits
+pub record IsPlacedPll (pll : Pll) : Type 0 where
+  pub x_few : pll.x < 1000000000
+  pub y_few : pll.y < 1000000000
+
+-- whether two PLLs are at one tile
+abbrev pub is_same_tile : Pll → Pll → Bool
+is_same_tile pll other = (other.x == pll.x) && (other.y == pll.y)
+
 -- all lines of a database are such lines
 pub record IsFit (database : Database) : Type 0 where
   pub names : All (IsNameLine database.chip) database.names
@@ -60,3 +71,5 @@ pub record IsFit (database : Database) : Type 0 where
   pub extras : All (IsExtraLine database.chip) database.extras
   pub global_inputs : All (IsGlobalInput database.chip) database.global_inputs
   pub global_pins : All (IsGlobalPin database.chip) database.global_pins
+  pub plls : All IsPlacedPll database.plls
+  pub plls_apart : IsDistinct is_same_tile database.plls

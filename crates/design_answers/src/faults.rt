@@ -8,8 +8,8 @@ use fabric_model::ClockUser;
 use tool_inputs::{refusal, whole};
 use tool_run::{Number, Phrase, Refusal, Stop, decimal, text};
 
-// A refusal at a tile: the part of the tile, and the cause.
-fn at_tile(x: u8, y: u8, part: Phrase<'static>, cause: Phrase<'static>) -> Refusal<'static>
+// A refusal at a place, in the grid or not: the part of it, and the cause.
+fn at_place(x: u32, y: u32, part: Phrase<'static>, cause: Phrase<'static>) -> Refusal<'static>
     ensures { refusal_text result ≡ tile_text x y ++ phrase_text part.entry ++ phrase_text cause.entry }
 {
     Refusal {
@@ -18,6 +18,13 @@ fn at_tile(x: u8, y: u8, part: Phrase<'static>, cause: Phrase<'static>) -> Refus
         third: part,
         fourth: cause,
     }
+}
+
+// A refusal at a tile: the part of the tile, and the cause.
+fn at_tile(x: u8, y: u8, part: Phrase<'static>, cause: Phrase<'static>) -> Refusal<'static>
+    ensures { refusal_text result ≡ tile_text x y ++ phrase_text part.entry ++ phrase_text cause.entry }
+{
+    at_place(u32::from(x), u32::from(y), part, cause)
 }
 
 // A refusal at a net, and the cause.
@@ -56,7 +63,7 @@ pub fn design_stop(fault: &FabricFault) -> Stop<'static>
 {
     match fault {
         FabricFault::Device => Stop::Refused(whole("Device")),
-        FabricFault::Pll { x, y } => Stop::Refused(at_tile(*x, *y, text(": Pll"), text(""))),
+        FabricFault::Pll { x, y } => Stop::Refused(at_place(*x, *y, text(": Pll"), text(""))),
         FabricFault::PinMode { x, y, pio, pintype } => {
             let pin = decimal(" pin ", u64::from(*pio));
             Stop::Refused(at_tile(*x, *y, pin, pintype_phrase(*pintype)))

@@ -34,8 +34,8 @@ use Rattle.design_tools.specs.Vlog.{options_in, vlog_command, vlog_outcome}
 pub record SpellsFabric (named : List PinName) (fabric : Fabric) (text : List ℕ) : Type 0 where
   -- it spells exactly one module
   pub one_module : ExactlyOne (IsSpelling text)
-  -- the module has the ports of the fabric's pins
-  pub ports : one_module.it.ports ≡ named_ports named fabric.pins
+  -- the module has the ports of the fabric
+  pub ports : one_module.it.ports ≡ named_ports named fabric
   -- the fabric has exactly one run for each list of events
   pub one_run : (events : List Event) → ExactlyOne (IsRun fabric events)
   -- the module runs as the fabric does: at the start and after each event the two have the same values
@@ -43,7 +43,7 @@ pub record SpellsFabric (named : List PinName) (fabric : Fabric) (text : List �
       → AllZip (MatchesNamed named fabric) entries (module_run one_module.it (map module_event events))
   -- the lines of the module's run over the events of a text are the lines of the fabric's run
   pub lines : (registers : Bool) (events : List ℕ) (entries : List Entry)
-      → IsRun fabric (fabric_events (named_ports named fabric.pins) events) entries
+      → IsRun fabric (fabric_events (named_ports named fabric) events) entries
       → run_text one_module.it (events_of one_module.it.ports events) registers ≡ fabric_text registers entries
 
 -- ---- what was appended

@@ -31,7 +31,8 @@ Usage: icebox_vlog [-n NAME] [-p PCF -d PACKAGE] [--used-inputs] [--all-pins]
   --used-inputs
             LUTs read only the inputs that they use, so more designs are taken
   --all-pins
-            takes pins of every kind, apart from the few that PinMode names
+            takes pins of every kind, apart from the few that PinMode names,
+            and PLLs
   --layout FILE
             the layout file; the standard layout if it is missing
 
@@ -61,6 +62,10 @@ of a pin are pj_X_Y_N of its second input, pq_X_Y_N of its second output,
 pe_X_Y_N of its output enable, and ci_X_Y_N and co_X_Y_N, which keep the clock
 enable for the second input and the second output.
 
+With --all-pins an output of a PLL that is used is an input of the module behind
+all pins: pll_X_Y_a, pll_X_Y_b, pll_X_Y_lock or pll_X_Y_sdo. It may be a clock.
+What the PLL makes of its reference isn't in the module: events say it.
+
 A LUT uses an input where two of its entries differ whose numbers differ in the
 bit of that input alone: another input can't change its value. With
 --used-inputs a LUT doesn't depend on what a router led to an input that it
@@ -87,19 +92,22 @@ A layout, a database or an image with a fault is refused, and told by the first
 fault. A design is refused for these causes, looked for in this order:
 
   Device        the database is for another device: take the one for yours
-  Pll           a PLL is used; modules have none. Feed the clock to a pin
+  Pll           a PLL is used: --all-pins takes it, its outputs are inputs of
+                the module. With it: the database doesn't describe the PLL
   PinMode       a pin of a kind that isn't taken; the six digits are the bits of
                 its type, PIN_TYPE. Without --all-pins that is a pin that is
                 neither a plain nor a registered input, nor an output that is
                 plain, registered or can be switched off, as one with two data
                 rates; or an output that can be switched off and is read: then
-                --all-pins takes the design. With it there are three such kinds.
+                --all-pins takes the design. With it there are four such kinds.
                 The last digit but one is 1, and D_IN_0 is used: a latch may
                 hold it; make the digit 0. Or the pin is the pad of a global
                 network, as of SB_GB_IO, and drives that pad too, so the first
                 two digits aren't 00: use SB_IO, and SB_GB for the network. Or
                 its tile has LVDS, and it isn't pin 0 as an input: keep LVDS
-                outputs, and other pins of the tile, out of the design
+                outputs, and other pins of the tile, out of the design. Or a
+                PLL comes in at the pin, and the last two digits aren't 01,
+                or D_IN_1 is used: make them 01, and don't use D_IN_1
   Cascade       block RAMs that are chained: take single ones
   TwoDrivers    two outputs drive one net: the image wasn't made by a router, or
                 the database is for another device

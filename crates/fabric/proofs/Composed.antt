@@ -6,7 +6,7 @@ use Rattle.fabric_model.specs.declared.lut_inputs.LutInputs.{LutInputs}
 use Rattle.plane_map.specs.Layout.{kind_of}
 use Rattle.plane_map.specs.declared.device.DeviceName.{DeviceName}
 use Rattle.plane_map.specs.declared.tile.TileKind.TheVariants.{RamB}
-use Rattle.std.proofs.Common.{arith, ◌≡◌, ◌++◌, ℕ, ◌≤◌, ◌^◌, List, length, map, refl, sym, ap, subst, ◌∙◌}
+use Rattle.std.proofs.Common.{arith, ◌≡◌, ◌++◌, ℕ, ◌≤◌, ◌^◌, List, length, map, refl, sym, ap, ap₂, subst, ◌∙◌}
 use Rattle.ice_image.specs.Configuration.{Configuration}
 use Rattle.chipdb_reader.specs.Database.{Database}
 use Rattle.chipdb_reader.specs.Fit.{IsFit}
@@ -14,7 +14,8 @@ use Rattle.fabric_model.specs.Links.{AreLinks}
 use Rattle.fabric_model.specs.Cells.{cells_of, sets_of}
 use Rattle.fabric_model.specs.Registers.{register_of, registers_of, flips_among, pin_registers_of}
 use Rattle.fabric_model.specs.declared.input_port.InputPort.{InputPort}
-use Rattle.fabric_model.specs.InputPorts.{inputs_among}
+use Rattle.fabric_model.specs.PllPorts.{pll_ports}
+use Rattle.fabric_model.specs.InputPorts.{inputs_with}
 use Rattle.fabric_model.specs.Rams.{rams_of}
 use Rattle.fabric_model.specs.Pins.{net_count, pins_of, globals_of}
 use Rattle.ice_image.specs.Bits.{ram_word_of}
@@ -48,18 +49,20 @@ flips-counted inputs lcs = length-map (filter (λ lc. lc.flip) lcs) (register_of
 module _ (options : FabricOptions) (db : Database) (image : Configuration) where
   pub parts-of : IsFit db → (parts : Parts) → length parts.links.classes ≡ net_count options.all_pins db image → AreLinks db image parts.links
       → map buffer_of parts.buffers.items ≡ buffers_of db image
-      → parts.pins.items ≡ pins_of options.all_pins db image → parts.globals.items ≡ globals_of db image
+      → parts.pins.items ≡ pins_of options.all_pins db image → parts.plls.items ≡ pll_ports options.all_pins db image
+      → parts.globals.items ≡ globals_of options.all_pins db image
       → parts.options ≡ options → parts.lcs.items ≡ cells_of db image
       → parts.registers.items ≡ registers_of options.lut_inputs parts.lcs.items ++ pin_registers_of (flips_among parts.lcs.items) parts.pins.items
       → parts.sets.items ≡ sets_of db image → parts.rams.items ≡ rams_of db image
       → ArePartsOf (fabric_with options db image) parts
   unfolding fabric_with
-  parts-of fit parts nets linked buffers pins globals told lcs registers sets rams = record {
+  parts-of fit parts nets linked buffers pins plls globals told lcs registers sets rams = record {
     within = fabric-in db image fit options;
     nets = nets;
     classes = linked.classes;
     buffers = buffers;
     pins = pins;
+    plls = plls;
     globals = globals;
     lut_inputs = ap (λ (it : FabricOptions). it.lut_inputs) told;
     lcs = lcs;
@@ -95,7 +98,7 @@ module _ (options : FabricOptions) (db : Database) (image : Configuration) where
   -- what is found is a design
   pub designed : IsFit db → (fabric_with options db image).nets ≤ 4294967295 → AreTaken options.all_pins db image → fabric_fault db.chip.device (fabric_with options db image) ≡ None
       → (device : DeviceName) → image.layout.device ≡ device → (parts : Parts) → parts.options ≡ options → ArePartsOf (fabric_with options db image) parts
-      → (inputs : List InputPort) → inputs ≡ inputs_among parts.pins.items
+      → (inputs : List InputPort) → inputs ≡ inputs_with parts.pins.items parts.plls.items
       → (outputs : List Output) → map output_of outputs ≡ outputs_of (fabric_with options db image)
       → (drivers : DriverSet) → AreDriversOf (fabric_with options db image) drivers → (order : List ℕ) → IsWriteOrder (wiring_of (fabric_with options db image)) order
       → (ends : List ClockEnd) → AreEndsOf (fabric_with options db image) ends
@@ -104,7 +107,7 @@ module _ (options : FabricOptions) (db : Database) (image : Configuration) where
   designed fit few taken none device same parts told are inputs inputs-are outputs outputs-are drivers drivers-are order ordered ends ends-are words words-read =
       design-of fit few taken (subst (λ d. fabric_fault d (fabric_with options db image) ≡ None) taken.device none) _ told (record {
         parts = are;
-        inputs = inputs-are ∙ ap inputs_among are.pins;
+        inputs = inputs-are ∙ ap₂ inputs_with are.pins are.plls;
         outputs = outputs-are;
         drivers = drivers-are;
         order = ordered;

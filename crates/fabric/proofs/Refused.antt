@@ -1,5 +1,5 @@
 -- A cause of the parts is the cause of the whole, if nothing before it is wrong.
-use Rattle.std.proofs.Common.{◌≡◌, [], refl, sym, subst, ◌∙◌}
+use Rattle.std.proofs.Common.{◌≡◌, ℕ, [], refl, sym, ap, subst, ◌∙◌}
 use Rattle.std.specs.Prelude.{◌↔◌, Option, Some, None, Result, Ok, Err, IfErr, OnOk}
 use Rattle.std.specs.Result.{IsErrAnd}
 use Rattle.plane_map.proofs.Devices.{same-device, other-device}
@@ -8,7 +8,12 @@ use Rattle.chipdb_reader.specs.Database.{Database}
 use Rattle.index_search.specs.Places.{or_else}
 use Rattle.fabric_model.specs.declared.options.FabricOptions.{FabricOptions}
 use Rattle.fabric_model.specs.Fabric.{fabric_with}
-use Rattle.fabric_model.specs.Faults.{Fault, device_faults, pins_fault, rams_fault, fabric_fault, design_fault}
+use Rattle.fabric_model.specs.Tiles.{first_of}
+use Rattle.fabric_model.specs.Plls.{pll_tile}
+use Rattle.fabric_model.specs.Faults.{Fault, device_faults, pin_faults, pins_fault, rams_fault, fabric_fault, design_fault}
+use Rattle.fabric_plls.specs.declared.fault.PllFault.{PllFault}
+use Rattle.fabric_plls.specs.declared.fault.PllFault.TheVariants as plls
+use Rattle.fabric_plls.specs.Tiles.{IsCause as IsPllCause}
 use Rattle.fabric_model.specs.declared.fault.LinkFault.{LinkFault}
 use Rattle.fabric_model.specs.declared.fault.LinkFault.TheVariants as links
 use Rattle.fabric_parts.specs.declared.io.fault.PinFault.{PinFault}
@@ -19,7 +24,8 @@ use Rattle.fabric_parts.specs.declared.ram.fault.RamFault.TheVariants as rams
 use Rattle.fabric_parts.specs.RamFaults.{IsCause as IsRamCause}
 use Rattle.fabric.specs.declared.fault.FabricFault.{FabricFault}
 use Rattle.fabric.specs.Faults.{IsCause, AreTaken}
-use Rattle.fabric.specs.Causes.{of_links, of_pins, of_rams}
+use Rattle.fabric_model.proofs.PinsFault.{plls-first, pins-left}
+use Rattle.fabric.specs.Causes.{of_links, of_plls, of_pins, of_rams}
 use Rattle.fabric.proofs.Evidence.{same-cause}
 
 module _ (options : FabricOptions) (db : Database) (image : Configuration) where
@@ -73,10 +79,14 @@ module _ (options : FabricOptions) (db : Database) (image : Configuration) where
   links-cause links.Device tells = with-device (tells.0 refl)
   links-cause (links.Memory failed) tells = tt
 
-  pub pins-cause : (same : db.chip.device ≡ image.layout.device) (fault : PinFault) → IsPinCause (pins_fault options.all_pins db image) fault → IsRefusal (of_pins fault)
-  pins-cause same (pins.Pll x y) is = pins-refuse same _ is
-  pins-cause same (pins.PinMode x y pio pintype) is = pins-refuse same _ is
-  pins-cause same (pins.Memory failed) is = tt
+  pub plls-cause : (same : db.chip.device ≡ image.layout.device) (fault : PllFault) → IsPllCause (pll_tile options.all_pins db image) fault → IsRefusal (of_plls fault)
+  plls-cause same (plls.Pll x y) is = pins-refuse same _ (plls-first options.all_pins db image x y is)
+  plls-cause same (plls.Memory failed) is = tt
+
+  pub pins-cause : (same : db.chip.device ≡ image.layout.device) → pll_tile options.all_pins db image ≡ None → (fault : PinFault)
+      → IsPinCause (first_of (pin_faults options.all_pins db image)) fault → IsRefusal (of_pins fault)
+  pins-cause same taken (pins.PinMode x y pio pintype) is = pins-refuse same _ (pins-left options.all_pins db image taken ∙ is)
+  pins-cause same taken (pins.Memory failed) is = tt
 
   pub rams-cause : (same : db.chip.device ≡ image.layout.device) → pins_fault options.all_pins db image ≡ None → (fault : RamFault) → IsRamCause (rams_fault db image) fault → IsRefusal (of_rams fault)
   rams-cause same taken (rams.Cascade x y) is = rams-refuse same taken _ is

@@ -1,11 +1,11 @@
 -- When a design is the design of a database and an image.
-use Rattle.std.specs.Prelude.{◌≡◌, ℕ, ◌^◌, ◌≤◌, ◌==◌, List, find, slice_get, option_map, Option, None}
+use Rattle.std.specs.Prelude.{◌≡◌, ℕ, ◌^◌, ◌≤◌, ◌==◌, List, find, slice_get, option_map, option_and_then, Option, Some, None}
 use Rattle.ice_image.specs.Configuration.{Configuration}
 use Rattle.chipdb_reader.specs.Database.{Database}
 use Rattle.chipdb_reader.specs.Fit.{IsFit}
 use Rattle.chipdb_reader.specs.declared.items.PinXy.{PinXy}
 use Rattle.fabric_model.specs.declared.input_port.InputPort.{InputPort}
-use Rattle.fabric_model.specs.declared.input_port.InputPort.TheVariants.{Pad, Outside}
+use Rattle.fabric_model.specs.declared.input_port.InputPort.TheVariants.{Pad, Outside, Pll}
 use Rattle.fabric_model.specs.Fabric.{fabric_with}
 use Rattle.fabric_model.specs.Clocks.{ClockEnd}
 use Rattle.fabric_model.specs.Clocks.ClockEnd.{at_pin, still, logic}
@@ -26,14 +26,21 @@ pub record IsDesignOf (db : Database) (image : Configuration) (design : Kept) : 
 abbrev pub IsDesign : Kept → Type 0
 IsDesign design = (db : Database) × (image : Configuration) × IsDesignOf db image design
 
--- the pin of an input port
-abbrev pub pin_of : InputPort → PinXy
-pin_of (Pad x y n) = record { x = x; y = y; n = n }
-pin_of (Outside x y n) = record { x = x; y = y; n = n }
+-- the pin of an input port, if it is that of a pin
+abbrev pub pin_of : InputPort → Option PinXy
+pin_of (Pad x y n) = Some (record { x = x; y = y; n = n })
+pin_of (Outside x y n) = Some (record { x = x; y = y; n = n })
+pin_of (Pll x y output) = None
+
+-- the input port at which a clock chain ends, if it ends at one
+abbrev pub end_input : ClockEnd → Option ℕ
+end_input (at_pin place turned) = Some place
+end_input (still bit) = None
+end_input logic = None
 
 -- the pin at whose input port a clock chain ends, if it ends at one
 abbrev pub end_pin : List InputPort → ClockEnd → Option PinXy
-end_pin inputs (at_pin place turned) = option_map pin_of (slice_get inputs place)
+end_pin inputs (at_pin place turned) = option_and_then pin_of (slice_get inputs place)
 end_pin inputs (still bit) = None
 end_pin inputs logic = None
 

@@ -61,7 +61,7 @@ IsCause device fabric fault (Memory failed) = Unit {0}
 
 -- ---- what is taken
 
--- the devices are the same, and pins, of every kind or not, and RAMs have no fault
+-- the devices are the same, and PLLs, pins, of every kind or not, and RAMs have no fault
 pub record AreTaken (all : Bool) (db : Database) (image : Configuration) : Type 0 where
   pub device : db.chip.device ≡ image.layout.device
   pub pins : pins_fault all db image ≡ None

@@ -9,11 +9,12 @@ ghost use Rattle.fabric_model.specs.Links.{class_in};
 ghost use Rattle.fabric_wiring.specs.DriverLists.{driver_in};
 ghost use Rattle.fabric_wiring.specs.Ends.{end_in, end_of};
 ghost use Rattle.fabric.specs.Kept.{word_in, IsKeptOf};
-ghost use Rattle.fabric.specs.Design.{IsDesign, pin_of, end_pin, ends_of, link_in};
+ghost use Rattle.fabric.specs.Design.{IsDesign, pin_of, end_input, end_pin, ends_of, link_in};
 
 use chipdb_reader::PinXy;
 use fabric_model::{
-    CarrySet, Driver, FabricOptions, GlobalNet, InputPort, LogicCell, Pin, RamCell, Register,
+    CarrySet, Driver, FabricOptions, GlobalNet, InputPort, LogicCell, Pin, PllSource, RamCell,
+    Register,
 };
 use fabric_wiring::{Buffer, ClockEnd, Drive, Drivers, Output, Parts, Rule};
 use std::marker::Model;
@@ -64,12 +65,13 @@ fn ends_of_line(buffers: &[Buffer], line: u32) -> Option<LinkEnds>
     }
 }
 
-/// The pin of an input port.
-fn pin_of(port: InputPort) -> PinXy
+/// The pin of an input port, or `None` if that is an output of a PLL.
+fn pin_of(port: InputPort) -> Option<PinXy>
     ensures { result ≡ pin_of port }
 {
     match port {
-        InputPort::Pad { x, y, n } | InputPort::Outside { x, y, n } => PinXy { x, y, n },
+        InputPort::Pad { x, y, n } | InputPort::Outside { x, y, n } => Some(PinXy { x, y, n }),
+        InputPort::Pll { .. } => None,
     }
 }
 
@@ -106,7 +108,14 @@ impl Design {
         &self.parts.pins
     }
 
-    /// The input ports, in the order of the pins.
+    /// The outputs of PLLs that are ports, by PLL. No tool of this project needs it: it is for users of the library.
+    pub fn plls(&self) -> &[PllSource]
+        ensures { result.now ≡ self.now.parts.plls.items }
+    {
+        &self.parts.plls
+    }
+
+    /// The input ports: those of pins, in the order of the pins, then those of PLLs.
     pub fn inputs(&self) -> &[InputPort]
         ensures inputs { result.now ≡ self.now.inputs }
         ensures design { IsDesign self.now }
@@ -225,22 +234,35 @@ impl Design {
             .unwrap_or(ClockEnd::Still(false))
     }
 
-    /// The pin at whose input port the clock chain from a net of the database ends, or `None` if it ends elsewhere. No tool of this project needs it:
-    /// it is for users of the library.
+    /// The pin at whose input port the clock chain from a net of the database ends, or `None` if it ends elsewhere, as at an output of a PLL. No
+    /// tool of this project needs it: it is for users of the library.
     pub fn clock(&self, net: u32) -> Option<PinXy>
         requires { net < length self.now.drivers.places }
         ensures { result ≡ end_pin self.now.inputs (end_in self.now.ends (class_in self.now.parts.links net)) }
     {
         match self.clock_end(net) {
-            ClockEnd::Pin { place, .. } => {
-                self.inputs.get(place as usize).map(|port| pin_of(*port))
-            }
+            ClockEnd::Pin { place, .. } => match self.inputs.get(place as usize) {
+                None => None,
+                Some(port) => pin_of(*port),
+            },
             ClockEnd::Still(_) | ClockEnd::Logic => None,
         }
     }
 
-    /// Whether the clock chain from a net of the database ends at a pin and inverts its clock on the way, so that the net has the inverse of
-    /// the pin's value.
+    /// The index of the input port, of a pin or a PLL, at which the clock chain from a net of the database ends, or `None` if it ends elsewhere.
+    /// No tool of this project needs it: it is for users of the library.
+    pub fn clock_input(&self, net: u32) -> Option<u32>
+        requires { net < length self.now.drivers.places }
+        ensures { result ≡ end_input (end_in self.now.ends (class_in self.now.parts.links net)) }
+    {
+        match self.clock_end(net) {
+            ClockEnd::Pin { place, .. } => Some(place),
+            ClockEnd::Still(_) | ClockEnd::Logic => None,
+        }
+    }
+
+    /// Whether the clock chain from a net of the database ends at an input port and inverts its clock on the way, so that the net has the inverse
+    /// of the port's value.
     pub fn turned(&self, net: u32) -> bool
         requires { net < length self.now.drivers.places }
         ensures { result ≡ is_turned (end_in self.now.ends (class_in self.now.parts.links net)) }

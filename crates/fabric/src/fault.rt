@@ -4,6 +4,7 @@ ghost use Rattle.std.specs.Prelude.{◌≡◌};
 use crate::cycle::Cycle;
 use fabric_model::{ClockUser, Driver, LinkFault};
 use fabric_parts::{PinFault, RamFault};
+use fabric_plls::PllFault;
 use fabric_wiring::DriverFault;
 use std::alloc::AllocError;
 
@@ -14,10 +15,10 @@ use std::alloc::AllocError;
 pub enum FabricFault {
     /// They are for different devices.
     Device,
-    /// The io tile at (x, y) has a PLL that is on.
+    /// The PLLs aren't taken. The tile is that of a PLL, which may be outside of the grid, or of a function of PLLs.
     Pll {
-        x: u8,
-        y: u8,
+        x: u32,
+        y: u32,
     },
     /// Pin `pio` of the io tile at (x, y) isn't taken. Its PIN_TYPE is `pintype`.
     PinMode {
@@ -76,6 +77,19 @@ impl From<LinkFault> for FabricFault {
     }
 }
 
+impl From<PllFault> for FabricFault {
+    ghost use Rattle.fabric.specs.Causes.{of_plls};
+
+    ghost from_gives = { λ e fault. fault ≡ of_plls e };
+
+    fn from(e: PllFault) -> FabricFault {
+        match e {
+            PllFault::Pll { x, y } => FabricFault::Pll { x, y },
+            PllFault::Memory(e) => FabricFault::Memory(e),
+        }
+    }
+}
+
 impl From<PinFault> for FabricFault {
     ghost use Rattle.fabric.specs.Causes.{of_pins};
 
@@ -83,7 +97,6 @@ impl From<PinFault> for FabricFault {
 
     fn from(e: PinFault) -> FabricFault {
         match e {
-            PinFault::Pll { x, y } => FabricFault::Pll { x, y },
             PinFault::PinMode { x, y, pio, pintype } => FabricFault::PinMode { x, y, pio, pintype },
             PinFault::Memory(e) => FabricFault::Memory(e),
         }

@@ -18,7 +18,7 @@ use crate::fault::FabricFault;
 use crate::parts::parts;
 use crate::wire::wire;
 use chipdb_reader::ChipDb;
-use fabric_model::{FabricOptions, LutInputs, inputs};
+use fabric_model::{FabricOptions, LutInputs, inputs_with};
 use ice_image::AnyImage;
 use std::alloc::Global;
 
@@ -26,7 +26,7 @@ use std::alloc::Global;
 ///
 /// For each state and all values of the input pins there is exactly one list of net values that is consistent with them, and for each
 /// list of events exactly one run. With all consistent values, and so in each entry of a run, the clock of a register or RAM port has the
-/// value of its pin, or the inverse of it, or a bit that is always the same.
+/// value of its input port, or the inverse of it, or a bit that is always the same.
 ///
 /// # Errors
 /// The first cause why the two aren't taken, in the order of [`FabricFault`], with the first tile, pin, class of joined nets or clock user
@@ -61,8 +61,8 @@ pub fn design(alloc: Global, db: &ChipDb, image: &AnyImage) -> Result<Design, Fa
 
 /// Finds the design of a database and an image with these options.
 ///
-/// Without pins of every kind only those are taken that the fabric can read and write as they are; with them the others have registers and
-/// inner nets.
+/// Without pins of every kind only those are taken that the fabric can read and write as they are, and no PLL; with them the others have
+/// registers and inner nets, and the outputs of PLLs are input ports.
 ///
 /// If LUTs read only the inputs that they use, a LUT doesn't depend on its other inputs. So more designs are taken, since an input that
 /// isn't used closes no cycle. The values of nets, the runs and the clocks are still those of the fabric whose LUTs read all inputs.
@@ -98,7 +98,7 @@ pub fn design_with(
     let parts = parts(alloc, db, image, options)?;
     prove!(db.device().is_same(image.device()));
     let wired = wire(alloc, db, image, &parts)?;
-    let inputs = inputs(alloc, &parts.pins)?;
+    let inputs = inputs_with(alloc, &parts.pins, &parts.plls)?;
     Ok(Design::of(
         parts,
         inputs,

@@ -14,6 +14,7 @@ use crate::fault::FabricFault;
 use chipdb_reader::{ChipDb, LinkLine};
 use fabric_model::{FabricOptions, LogicCell, LutInputs, Pin, Register, links};
 use fabric_parts::{cells, pin_registers, pins, rams};
+use fabric_plls::plls;
 use fabric_wiring::{Buffer, Parts, registers_of};
 use ice_image::AnyImage;
 use std::alloc::{AllocError, Global};
@@ -78,7 +79,8 @@ pub(crate) fn parts(
     ensures refused { IfErr result (IsCause (configuration_of image.now).layout.device (fabric_with options (database_in db.now) (configuration_of image.now)) (design_fault options (database_in db.now) (configuration_of image.now))) }
 {
     let links = links(alloc, db, image, options.all_pins)?;
-    let pins = pins(alloc, db, image, &links, options.all_pins)?;
+    let sources = plls(alloc, db, image, options.all_pins)?;
+    let pins = pins(alloc, db, image, &links, options.all_pins, &sources)?;
     let rams = rams(alloc, db, image, &links)?;
     let cells = cells(alloc, db, image)?;
     let registers = registers(alloc, options.lut_inputs, &cells.lcs, &pins.pins)?;
@@ -87,6 +89,7 @@ pub(crate) fn parts(
         links,
         buffers,
         pins: pins.pins,
+        plls: pins.plls,
         globals: pins.globals,
         options,
         lcs: cells.lcs,

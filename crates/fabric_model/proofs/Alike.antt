@@ -22,7 +22,7 @@ use Rattle.fabric_model.specs.Pins.{pins_of}
 use Rattle.fabric_model.specs.Registers.{table_of, register_of, flips_among, registers_of, pin_registers_of}
 use Rattle.fabric_model.specs.Fabric.{Fabric, numbered, inputs_of, fabric_with, reading_all}
 use Rattle.fabric_model.specs.Outputs.{outputs_of}
-use Rattle.fabric_model.specs.Drivers.{Rule, Drive, drives_if, drives_by, pin_drives, back_drives, lut_drives, flip_driver, lout_drives, carry_drives, set_drives, ram_drives, global_drives, buffer_drives, input_driver, second_driver, data_drives, pad_drives, drives_of, is_driver_of, drivers_of, is_driven}
+use Rattle.fabric_model.specs.Drivers.{Rule, Drive, drives_if, drives_by, pin_drives, back_drives, lut_drives, flip_driver, lout_drives, carry_drives, set_drives, ram_drives, global_drives, buffer_drives, input_driver, second_driver, data_drives, pad_drives, pll_drives, drives_of, is_driver_of, drivers_of, is_driven}
 use Rattle.fabric_model.specs.Drivers.Rule.{table_entry, register_bit}
 use Rattle.fabric_model.specs.Values.{State, signal_value, lut_value, settled_bit, value_of, bit_in, is_connected, IsConsistent}
 use Rattle.fabric_model.specs.Steps.{next_bit, bit_after, words_after, read_after, has_edge, state_after, settled_state, start_state, output_values, Event, Entry, IsEntry, Follows, FollowEach, IsFirst, IsRun}
@@ -159,12 +159,13 @@ module _ (fabric : Fabric) (inputs : LutInputs) (registers : List Register) (ali
       (join _ _ _ _ (same (flat_map carry_drives (filter (λ lc. lc.carry) fabric.lcs)))
       (join _ _ _ _ (same (flat_map set_drives fabric.sets))
       (join _ _ _ _ (same (flat_map ram_drives (numbered fabric.rams)))
-      (join _ _ _ _ (same (flat_map (global_drives fabric.pins) fabric.globals))
+      (join _ _ _ _ (same (flat_map (global_drives fabric.pins fabric.plls) fabric.globals))
       (join _ _ _ _ (same (flat_map buffer_drives fabric.buffers))
       (join _ _ _ _ (registers-drive input_driver input-kept fabric.registers registers alike)
       (join _ _ _ _ (registers-drive second_driver second-kept fabric.registers registers alike)
       (join _ _ _ _ (same (flat_map (data_drives fabric) fabric.pins))
-      (same (flat_map (pad_drives fabric) fabric.pins))))))))))))))
+      (join _ _ _ _ (same (flat_map (pad_drives fabric) fabric.pins))
+      (same (flat_map (pll_drives fabric.pins fabric.plls) fabric.plls)))))))))))))))
 
   is_driver-alike : (class : ℕ) (one two : Drive) → DrivesAlike one two → is_driver_of fabric class one ≡ is_driver_of other class two
   is_driver-alike class one two same = ap (λ net. class_of fabric.joins net == class) same.net

@@ -61,3 +61,5 @@ pub mod Apart
 pub mod Once
 -- registers of pins, by their keys
 pub mod Keys
+-- the fault of PLLs and pins
+pub mod PinsFault

@@ -1,14 +1,17 @@
 -- No driver of a database and an image stands twice: each pin, cell, carry input, RAM, global net and buffer is listed once, each
 -- gives a driver of each kind at most once, and kinds differ.
-use Rattle.std.proofs.Common.{◌≡◌, ◌≢◌, ℕ, suc, ◌≤◌, ◌&&◌, true, false, not, List, [], ◌∷◌, map, ◌++◌, get_or, refl, sym, ap, ◌∙◌, subst, arith}
+use Rattle.std.proofs.Common.{◌≡◌, ◌≢◌, ℕ, suc, ◌<◌, ◌≤◌, ◌==◌, eq-eqb, ◌&&◌, true, false, not, List, [], ◌∷◌, map, ◌++◌, get_or, refl, sym, ap, ◌∙◌, subst, arith}
 use Rattle.std.specs.Prelude.{All, Bool, Option, Some, None, filter, codes, if◌then◌else◌}
-use Rattle.std.specs.List.{flat_map}
-use Rattle.std.proofs.lemmas.List.Elements.{All-nil, All-cons, All-head, All-map, All-append, All-weaker}
+use Rattle.std.specs.List.{flat_map, IsDistinct, AllByRecursion}
+use Rattle.std.proofs.lemmas.Bool.{and_from}
+use Rattle.std.proofs.lemmas.List.Elements.{All-nil, All-cons, All-head, All-map, All-append, All-filter, All-weaker}
 use Rattle.index_search.specs.Places.{gathered_below}
 use Rattle.index_search.proofs.Gathered.{All-gathered_below}
 use Rattle.plane_map.specs.declared.tile.TileKind.TheVariants.{Io, Logic, RamB}
 use Rattle.ice_image.specs.Configuration.{Configuration}
-use Rattle.chipdb_reader.specs.Database.{Database, Link}
+use Rattle.chipdb_reader.specs.Database.{Database, Link, Pll}
+use Rattle.chipdb_reader.specs.Fit.{IsFit, IsPlacedPll, is_same_tile}
+use Rattle.chipdb_reader.specs.declared.items.PinXy.{PinXy}
 use Rattle.fabric_model.specs.declared.cell.LogicCell.{LogicCell}
 use Rattle.fabric_model.specs.declared.lut_inputs.LutInputs.{LutInputs}
 use Rattle.fabric_model.specs.declared.cell.CarrySet.{CarrySet}
@@ -16,6 +19,11 @@ use Rattle.fabric_model.specs.declared.register.Register.{Register}
 use Rattle.fabric_model.specs.declared.ram.RamCell.{RamCell}
 use Rattle.fabric_model.specs.declared.pin.Pin.{Pin}
 use Rattle.fabric_model.specs.declared.pin.GlobalNet.{GlobalNet}
+use Rattle.fabric_model.specs.declared.pll.PllOutput.{PllOutput}
+use Rattle.fabric_model.specs.declared.pll.PllOutput.TheVariants as output
+use Rattle.fabric_model.specs.declared.pll.PllType.{PllType}
+use Rattle.fabric_model.specs.declared.pll.PllType.TheVariants.{Off, OneOutput, TwoOutputs, Unknown}
+use Rattle.fabric_model.specs.declared.pll.PllSource.{PllSource}
 use Rattle.fabric_model.specs.declared.pin.GlobalFrom.{GlobalFrom}
 use Rattle.fabric_model.specs.declared.input_port.InputPort.TheVariants.{Pad as PadPort}
 use Rattle.fabric_model.specs.declared.options.FabricOptions.{FabricOptions}
@@ -32,10 +40,12 @@ use Rattle.fabric_model.specs.Cells.{cell_bits, cell_with, is_used, used_cell, c
 use Rattle.fabric_model.specs.Rams.{is_ram_used, ram_at, rams_of}
 use Rattle.fabric_model.specs.PinTypes.{has_table, takes_pad}
 use Rattle.fabric_model.specs.Pins.{PinPlace, pin_places, drives, has_outside, pin_with, port_at, pins_of, is_global_net, global_nets, nets_from, global_source, globals_of}
-use Rattle.fabric_model.specs.InputPorts.{input_place}
+use Rattle.fabric_model.specs.InputPorts.{input_place, pll_place}
+use Rattle.fabric_model.specs.Plls.{output_number, outputs_in, output_pin, pll_type, clock_source, source_of, sources_in, pll_sources}
+use Rattle.fabric_model.specs.PllPorts.{is_source_read, pll_ports}
 use Rattle.fabric_model.specs.Fabric.{Fabric, Buffer, numbered, buffer_of, buffers_of, fabric_with}
 use Rattle.fabric_model.specs.Registers.{table_of, register_of, flips_among, registers_of, registers_in, kind_number, pin_register, pin_registers_of}
-use Rattle.fabric_model.specs.Drivers.{Rule, Drive, drives_if, drives_by, pin_drives, pad_of, is_read_back, back_drives, lut_drives, flip_driver, flip_drives, lout_drives, carry_drives, set_drives, read_data_rule, ram_drive, ram_drives, global_drives, buffer_drives, input_driver, input_drives, second_driver, second_drives, data_table, data_drives, pad_table, pad_drives, global_rule, drives_of, is_driver_of, drivers_of}
+use Rattle.fabric_model.specs.Drivers.{Rule, Drive, drives_if, drives_by, pin_drives, pll_drives, pad_of, is_read_back, back_drives, lut_drives, flip_driver, flip_drives, lout_drives, carry_drives, set_drives, read_data_rule, ram_drive, ram_drives, global_drives, buffer_drives, input_driver, input_drives, second_driver, second_drives, data_table, data_drives, pad_table, pad_drives, global_rule, drives_of, is_driver_of, drivers_of}
 use Rattle.fabric_model.proofs.Within.{All-flat_map, All-if, All-unless, All-item_if, All-single}
 use Rattle.fabric_model.proofs.Apart.{AreApart, apart-single, apart-if, apart-unless, apart-item_if, apart-append, apart-weaker, apart-filter, apart-map, apart-flat_map, apart-gathered, apart-over_tiles, All-every, numbered-apart, apart-numbered}
 
@@ -56,6 +66,9 @@ SetsDiffer one two = one.x ≡ two.x → one.y ≡ two.y → ⊥
 abbrev pub RamsDiffer : RamCell → RamCell → Type 0
 RamsDiffer one two = one.x ≡ two.x → one.y ≡ two.y → ⊥
 
+abbrev pub PllsDiffer : PllSource → PllSource → Type 0
+PllsDiffer one two = one.x ≡ two.x → one.y ≡ two.y → one.output ≡ two.output → ⊥
+
 abbrev pub GlobalsDiffer : GlobalNet → GlobalNet → Type 0
 GlobalsDiffer one two = one.g ≡ two.g → one.net ≡ two.net → ⊥
 
@@ -65,6 +78,7 @@ BuffersDiffer one two = one.line ≡ two.line → ⊥
 -- the parts of a fabric differ, each from all after it
 pub record ArePartsApart (fabric : Fabric) : Type 0 where
   pub pins : AreApart PinsDiffer fabric.pins
+  pub plls : AreApart PllsDiffer fabric.plls
   pub lcs : AreApart CellsDiffer fabric.lcs
   pub registers : AreApart RegistersDiffer fabric.registers
   pub sets : AreApart SetsDiffer fabric.sets
@@ -321,11 +335,137 @@ module _ (db : Database) (image : Configuration) where
       apart-map GlobalsDiffer (global_at g from) (global_nets db g)
       (apart-weaker (λ (one two : ℕ). one ≢ two) (λ (one two : ℕ). GlobalsDiffer (global_at g from one) (global_at g from two)) (λ one two other same_g net. absurd (other net)) (global_nets db g) (nets-apart g))
 
-  globals-apart : AreApart GlobalsDiffer (globals_of db image)
+  globals-apart : (all : Bool) → AreApart GlobalsDiffer (globals_of all db image)
   unfolding globals_of
-  globals-apart =
-      apart-gathered GlobalsDiffer AnyPart (λ global. global.g) (λ a b of_a of_b other g net. absurd (other g)) 8 (λ g. nets_from db g (global_source db image g))
-      (λ g few. globals-at g (global_source db image g)) (λ g few. nets_from-apart g (global_source db image g))
+  globals-apart all =
+      let sources = pll_sources all db image in
+      apart-gathered GlobalsDiffer AnyPart (λ global. global.g) (λ a b of_a of_b other g net. absurd (other g)) 8 (λ g. nets_from db g (global_source sources db image g))
+      (λ g few. globals-at g (global_source sources db image g)) (λ g few. nets_from-apart g (global_source sources db image g))
+
+  -- ---- PLLs
+
+  -- two PLLs are not at one tile
+  abbrev TilesDiffer : Pll → Pll → Type 0
+  TilesDiffer one two = one.x ≡ two.x → one.y ≡ two.y → ⊥
+
+  tile-differs : (one : Pll) (plls : List Pll) → AllByRecursion (λ other. is_same_tile one other ≡ false) plls → All (TilesDiffer one) plls
+  tile-differs one [] all = All-nil (TilesDiffer one)
+  tile-differs one (two ∷ plls) all =
+      All-cons (TilesDiffer one) two plls
+      (λ x y. let same : false ≡ true = sym all.0 ∙ and_from (two.x == one.x) (two.y == one.y) (eq-eqb two.x one.x (sym x)) (eq-eqb two.y one.y (sym y)) in absurd cc)
+      (tile-differs one plls all.1)
+
+  tiles-apart : (plls : List Pll) → IsDistinct is_same_tile plls → AreApart TilesDiffer plls
+  unfolding IsDistinct
+  tiles-apart [] distinct = tt
+  tiles-apart (one ∷ plls) distinct = (tile-differs one plls distinct.0, tiles-apart plls distinct.1)
+
+  -- an output of a PLL
+  abbrev IsOutputOf : Pll → PllOutput → PllSource → Type 0
+  IsOutputOf pll output port = (port.x ≡ pll.x) × (port.y ≡ pll.y) × (port.output ≡ output)
+
+  clock_source-of : (pll : Pll) (output : PllOutput) (pin : Option PinXy) → All (IsOutputOf pll output) (clock_source db pll output pin)
+  clock_source-of pll output None = All-nil (IsOutputOf pll output)
+  clock_source-of pll output (Some pin) = All-single (IsOutputOf pll output) _ (refl, refl, refl)
+
+  clock_source-apart : (pll : Pll) (output : PllOutput) (pin : Option PinXy) → AreApart PllsDiffer (clock_source db pll output pin)
+  clock_source-apart pll output None = tt
+  clock_source-apart pll output (Some pin) = (All-nil _, tt)
+
+  source-of : (pll : Pll) (output : PllOutput) → All (IsOutputOf pll output) (source_of db image pll output)
+  source-of pll output.A = clock_source-of pll output.A (output_pin image pll output.A)
+  source-of pll output.B = clock_source-of pll output.B (output_pin image pll output.B)
+  source-of pll output.Lock = All-single (IsOutputOf pll output.Lock) _ (refl, refl, refl)
+  source-of pll output.Sdo = All-single (IsOutputOf pll output.Sdo) _ (refl, refl, refl)
+
+  source-apart : (pll : Pll) (output : PllOutput) → AreApart PllsDiffer (source_of db image pll output)
+  source-apart pll output.A = clock_source-apart pll output.A (output_pin image pll output.A)
+  source-apart pll output.B = clock_source-apart pll output.B (output_pin image pll output.B)
+  source-apart pll output.Lock = (All-nil _, tt)
+  source-apart pll output.Sdo = (All-nil _, tt)
+
+  abbrev OutputsDiffer : PllOutput → PllOutput → Type 0
+  OutputsDiffer one two = one ≢ two
+
+  outputs-differ : (a b : PllOutput) → output_number a < output_number b → OutputsDiffer a b
+  outputs-differ a b less same = let numbers : output_number a ≡ output_number b = ap output_number same in absurd (omega (arith, less, numbers))
+
+  outputs-apart : (kind : PllType) → AreApart OutputsDiffer (outputs_in kind)
+  outputs-apart Off = tt
+  outputs-apart OneOutput = (
+    All-cons (OutputsDiffer output.A) output.Lock (output.Sdo ∷ []) (outputs-differ output.A output.Lock (omega arith))
+        (All-cons (OutputsDiffer output.A) output.Sdo ([]) (outputs-differ output.A output.Sdo (omega arith)) (All-nil (OutputsDiffer output.A))),
+    (
+      All-cons (OutputsDiffer output.Lock) output.Sdo ([]) (outputs-differ output.Lock output.Sdo (omega arith)) (All-nil (OutputsDiffer output.Lock)),
+      (All-nil (OutputsDiffer output.Sdo), tt),
+    ),
+  )
+  outputs-apart TwoOutputs = (
+    All-cons (OutputsDiffer output.A) output.B (output.Lock ∷ output.Sdo ∷ []) (outputs-differ output.A output.B (omega arith))
+        (All-cons (OutputsDiffer output.A) output.Lock (output.Sdo ∷ []) (outputs-differ output.A output.Lock (omega arith))
+        (All-cons (OutputsDiffer output.A) output.Sdo ([]) (outputs-differ output.A output.Sdo (omega arith)) (All-nil (OutputsDiffer output.A)))),
+    (
+      All-cons (OutputsDiffer output.B) output.Lock (output.Sdo ∷ []) (outputs-differ output.B output.Lock (omega arith))
+          (All-cons (OutputsDiffer output.B) output.Sdo ([]) (outputs-differ output.B output.Sdo (omega arith)) (All-nil (OutputsDiffer output.B))),
+      (
+        All-cons (OutputsDiffer output.Lock) output.Sdo ([]) (outputs-differ output.Lock output.Sdo (omega arith)) (All-nil (OutputsDiffer output.Lock)),
+        (All-nil (OutputsDiffer output.Sdo), tt),
+      ),
+    ),
+  )
+  outputs-apart Unknown = (
+    All-cons (OutputsDiffer output.Lock) output.Sdo ([]) (outputs-differ output.Lock output.Sdo (omega arith)) (All-nil (OutputsDiffer output.Lock)),
+    (All-nil (OutputsDiffer output.Sdo), tt),
+  )
+
+  -- outputs that differ
+  outputs-across : (pll : Pll) (a b : PllOutput) → a ≢ b → All (λ one. All (PllsDiffer one) (source_of db image pll b)) (source_of db image pll a)
+  outputs-across pll a b other =
+      All-weaker (IsOutputOf pll a) (λ one. All (PllsDiffer one) (source_of db image pll b))
+      (λ one of_a. All-weaker (IsOutputOf pll b) (PllsDiffer one) (λ two of_b x y same. other (sym of_a.2 ∙ (same ∙ of_b.2))) (source_of db image pll b) (source-of pll b))
+      (source_of db image pll a) (source-of pll a)
+
+  abbrev IsOfPll : Pll → PllSource → Type 0
+  IsOfPll pll source = (source.x ≡ pll.x) × (source.y ≡ pll.y)
+
+  sources-of : (pll : Pll) → All (IsOfPll pll) (sources_in db image pll)
+  unfolding sources_in
+  sources-of pll =
+      All-flat_map (IsOfPll pll) (source_of db image pll) (outputs_in (pll_type db image pll))
+      (All-every (λ output. All (IsOfPll pll) (source_of db image pll output))
+      (λ output. All-weaker (IsOutputOf pll output) (IsOfPll pll) (λ source is. (is.0, is.1)) (source_of db image pll output) (source-of pll output))
+      (outputs_in (pll_type db image pll)))
+
+  sources-apart : (pll : Pll) → AreApart PllsDiffer (sources_in db image pll)
+  unfolding sources_in
+  sources-apart pll =
+      apart-flat_map PllsDiffer OutputsDiffer (source_of db image pll) (outputs-across pll) (source-apart pll) (outputs_in (pll_type db image pll))
+      (outputs-apart (pll_type db image pll))
+
+  pub plls-apart : (all : Bool) → IsFit db → AreApart PllsDiffer (pll_ports all db image)
+  unfolding pll_ports pll_sources
+  plls-apart all fit =
+      apart-filter PllsDiffer (is_source_read db image) (pll_sources all db image)
+      (apart-if PllsDiffer all (flat_map (sources_in db image) db.plls)
+      (apart-flat_map PllsDiffer TilesDiffer (sources_in db image)
+      (λ a b other. All-weaker (IsOfPll a) (λ one. All (PllsDiffer one) (sources_in db image b))
+      (λ one of_a. All-weaker (IsOfPll b) (PllsDiffer one) (λ two of_b x y same. other (sym of_a.0 ∙ (x ∙ of_b.0)) (sym of_a.1 ∙ (y ∙ of_b.1))) (sources_in db image b) (sources-of b))
+      (sources_in db image a) (sources-of a))
+      sources-apart db.plls (tiles-apart db.plls fit.plls_apart)))
+
+  -- their places have few digits
+  abbrev IsPlacedSource : PllSource → Type 0
+  IsPlacedSource source = (source.x < 1000000000) × (source.y < 1000000000)
+
+  pub plls-placed : (all : Bool) → IsFit db → All IsPlacedSource (pll_ports all db image)
+  unfolding pll_ports pll_sources
+  plls-placed all fit =
+      All-filter (is_source_read db image) IsPlacedSource (pll_sources all db image)
+      (All-if IsPlacedSource all (flat_map (sources_in db image) db.plls)
+      (All-flat_map IsPlacedSource (sources_in db image) db.plls
+      (All-weaker IsPlacedPll (λ pll. All IsPlacedSource (sources_in db image pll))
+      (λ pll placed. All-weaker (IsOfPll pll) IsPlacedSource (λ source of. (omega (arith, of.0, placed.x_few), omega (arith, of.1, placed.y_few))) (sources_in db image pll) (sources-of pll))
+      db.plls fit.plls)))
 
   -- ---- buffers
 
@@ -336,9 +476,9 @@ module _ (db : Database) (image : Configuration) where
       (apart-filter (λ (one two : ℕ × Link). one.0 ≢ two.0) (λ place. is_link_on image place.1) (numbered db.buffers) (numbered-apart 0 db.buffers))
 
   -- the parts that a database and an image configure are apart
-  pub parts-apart : (options : FabricOptions) → ArePartsApart (fabric_with options db image)
+  pub parts-apart : (options : FabricOptions) → IsFit db → ArePartsApart (fabric_with options db image)
   unfolding fabric_with
-  parts-apart options = record { pins = pins-apart options.all_pins; lcs = cells-apart; registers = registers-apart options.lut_inputs options.all_pins; sets = sets-apart; rams = rams-apart; globals = globals-apart; buffers = buffers-apart }
+  parts-apart options fit = record { pins = pins-apart options.all_pins; plls = plls-apart options.all_pins fit; lcs = cells-apart; registers = registers-apart options.lut_inputs options.all_pins; sets = sets-apart; rams = rams-apart; globals = globals-apart options.all_pins; buffers = buffers-apart }
 
 -- ---- drivers that differ
 
@@ -361,6 +501,7 @@ number_of (driver.PinReg x y n) = 11
 number_of (driver.PinReg1 x y n) = 12
 number_of (driver.Data x y n) = 13
 number_of (driver.Pad x y n) = 14
+number_of (driver.PllOut x y output) = 15
 
 -- drivers of one kind, each distinct from all after it
 record IsOfKind (number : ℕ) (drives : List Drive) : Type 0 where
@@ -580,9 +721,9 @@ module _ (fabric : Fabric) (parts : ArePartsApart fabric) where
       each-kind SetsDiffer (λ set. driver.CarrySet set.x set.y) (λ set. Rule.constant true) (λ set. Some set.net)
       7 (λ set. refl) (λ a b other same. other (cc) (cc)) fabric.sets parts.sets
 
-  globals-kind : IsOfKind 9 (flat_map (global_drives fabric.pins) fabric.globals)
+  globals-kind : IsOfKind 9 (flat_map (global_drives fabric.pins fabric.plls) fabric.globals)
   globals-kind =
-      each-kind GlobalsDiffer (λ global. driver.Global global.g global.net) (λ global. global_rule fabric.pins global.from) (λ global. Some global.net)
+      each-kind GlobalsDiffer (λ global. driver.Global global.g global.net) (λ global. global_rule fabric.pins fabric.plls global.from) (λ global. Some global.net)
       9 (λ global. refl) (λ a b other same. other (cc) (cc)) fabric.globals parts.globals
 
   buffers-kind : IsOfKind 10 (flat_map buffer_drives fabric.buffers)
@@ -596,20 +737,25 @@ module _ (fabric : Fabric) (parts : ArePartsApart fabric) where
   second_registers-kind : IsOfKind 12 (flat_map second_drives (numbered fabric.registers))
   second_registers-kind = registers-kind 12 second_driver (record { kind = second-kind; tells = second-tells }) fabric.registers parts.registers
 
+  plls-kind : IsOfKind 15 (flat_map (pll_drives fabric.pins fabric.plls) fabric.plls)
+  plls-kind =
+      each-kind PllsDiffer (λ port. driver.PllOut port.x port.y port.output) (λ port. Rule.pin_bit (pll_place fabric.pins fabric.plls port.x port.y port.output)) (λ port. port.net)
+      15 (λ port. refl) (λ a b other same. other (cc) (cc) (cc)) fabric.plls parts.plls
+
   drivers-apart : AreApart DriversDiffer (drives_of fabric)
   unfolding drives_of
   drivers-apart =
       (then-kinds 1 _ _ inputs-kind (then-kinds 2 _ _ backs-kind (then-kinds 3 _ _ luts-kind (then-kinds 4 _ _ flips-kind (then-kinds 5 _ _ louts-kind
       (then-kinds 6 _ _ carries-kind (then-kinds 7 _ _ sets-kind (then-kinds 8 _ _ (rams-kind fabric.rams parts.rams) (then-kinds 9 _ _ globals-kind
       (then-kinds 10 _ _ buffers-kind (then-kinds 11 _ _ input_registers-kind (then-kinds 12 _ _ second_registers-kind (then-kinds 13 _ _ data-kind
-      (last-kind 14 _ pads-kind)))))))))))))).apart
+      (then-kinds 14 _ _ pads-kind (last-kind 15 _ plls-kind))))))))))))))).apart
 
 -- the first two drivers of a class of joined nets differ
-pub first-differ : (options : FabricOptions) (db : Database) (image : Configuration) (class : ℕ) (one two : Drive) (rest : List Drive)
+pub first-differ : (options : FabricOptions) (db : Database) (image : Configuration) → IsFit db → (class : ℕ) (one two : Drive) (rest : List Drive)
     → drivers_of (fabric_with options db image) class ≡ one ∷ two ∷ rest → one.driver ≢ two.driver
 unfolding drivers_of
-first-differ options db image class one two rest is =
+first-differ options db image fit class one two rest is =
     let fabric = fabric_with options db image in
     let apart : AreApart DriversDiffer (one ∷ two ∷ rest) = subst (AreApart DriversDiffer) is
-    (apart-filter DriversDiffer (is_driver_of fabric class) (drives_of fabric) (drivers-apart fabric (parts-apart db image options))) in
+    (apart-filter DriversDiffer (is_driver_of fabric class) (drives_of fabric) (drivers-apart fabric (parts-apart db image options fit))) in
     All-head (DriversDiffer one) two rest apart.0

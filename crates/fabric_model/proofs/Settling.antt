@@ -8,7 +8,8 @@ use Rattle.fabric_model.specs.declared.register.Register.{Register}
 use Rattle.fabric_model.specs.declared.ram.RamCell.{RamCell}
 use Rattle.fabric_model.specs.declared.pin.Pin.{Pin}
 use Rattle.fabric_model.specs.declared.pin.GlobalFrom.{GlobalFrom}
-use Rattle.fabric_model.specs.declared.pin.GlobalFrom.TheVariants.{Pad, Fabout}
+use Rattle.fabric_model.specs.declared.pin.GlobalFrom.TheVariants.{Pad, Pll, Fabout}
+use Rattle.fabric_model.specs.declared.pll.PllSource.{PllSource}
 use Rattle.fabric_model.specs.declared.driver.Driver.{Driver}
 use Rattle.fabric_model.specs.declared.register.RegisterKind.{RegisterKind}
 use Rattle.fabric_model.specs.declared.signal.Signal.{Signal}
@@ -20,7 +21,7 @@ use Rattle.fabric_model.specs.Registers.{table_of}
 use Rattle.fabric_model.specs.PinTypes.{has_table}
 use Rattle.fabric_model.specs.Pins.{drives, is_switched, has_outside}
 use Rattle.fabric_model.specs.Outputs.{Output, enable_outputs, pin_outputs, outputs_of}
-use Rattle.fabric_model.specs.Drivers.{Rule, Drive, drives_if, drives_by, pin_drives, data_of, pad_of, enable_of, is_read_back, back_drives, lut_drives, flip_driver, lout_drives, carry_drives, set_drives, read_data_rule, ram_drive, ram_drives, global_rule, global_drives, buffer_drives, input_driver, second_driver, data_table, data_drives, pad_table, pad_drives, drives_of}
+use Rattle.fabric_model.specs.Drivers.{Rule, Drive, drives_if, drives_by, pin_drives, data_of, pad_of, enable_of, is_read_back, back_drives, lut_drives, flip_driver, lout_drives, carry_drives, set_drives, read_data_rule, ram_drive, ram_drives, global_rule, global_drives, buffer_drives, input_driver, second_driver, data_table, data_drives, pad_table, pad_drives, pll_drives, drives_of}
 use Rattle.fabric_model.specs.Drivers.Rule.{pin_bit, constant, input, table_entry, majority_of, register_bit, read_bit, copied}
 use Rattle.fabric_model.specs.Values.{State, input_or_0, settled_bit, signal_value, table_input, lut_value, value_of, bit_in, is_connected, IsConsistent}
 use Rattle.fabric_model.specs.Steps.{settled_bits, settled_state, output_values}
@@ -101,9 +102,10 @@ module _ (fabric : Fabric) (closed : IsClosed fabric) where
   drives_if-has by rule None has = All-nil DriveHas
   drives_if-has by rule (Some net) has = All-single DriveHas (record { driver = by; net = net; rule = rule }) has
 
-  global-has : (pins : List Pin) (from : GlobalFrom) → HasRegister fabric (global_rule pins from)
-  global-has pins (Pad x y n) = tt
-  global-has pins (Fabout net) = tt
+  global-has : (pins : List Pin) (plls : List PllSource) (from : GlobalFrom) → HasRegister fabric (global_rule pins plls from)
+  global-has pins plls (Pad x y n) = tt
+  global-has pins plls (Pll x y output) = tt
+  global-has pins plls (Fabout net) = tt
 
   each-has : {X : Type 0} (given : X → List Drive) → ((x : X) → All DriveHas (given x)) → (parts : List X) → All DriveHas (flat_map given parts)
   each-has given has parts = All-flat_map DriveHas given parts (All-every (λ x. All DriveHas (given x)) has parts)
@@ -164,12 +166,13 @@ module _ (fabric : Fabric) (closed : IsClosed fabric) where
       (joins _ _ (each-has carry_drives (λ lc. drives_if-has _ (majority_of (get_or lc.ins 1 None) (get_or lc.ins 2 None) lc.cin) lc.cout tt) (filter (λ lc. lc.carry) fabric.lcs))
       (joins _ _ (each-has set_drives (λ set. drives_if-has _ (constant true) (Some set.net) tt) fabric.sets)
       (joins _ _ (each-has ram_drives ram_drives-has (numbered fabric.rams))
-      (joins _ _ (each-has (global_drives fabric.pins) (λ global. drives_if-has _ (global_rule fabric.pins global.from) (Some global.net) (global-has fabric.pins global.from)) fabric.globals)
+      (joins _ _ (each-has (global_drives fabric.pins fabric.plls) (λ global. drives_if-has _ (global_rule fabric.pins fabric.plls global.from) (Some global.net) (global-has fabric.pins fabric.plls global.from)) fabric.globals)
       (joins _ _ (each-has buffer_drives (λ buffer. drives_if-has _ (copied buffer.src) (Some buffer.dst) tt) fabric.buffers)
       (joins _ _ (registers-have input_driver)
       (joins _ _ (registers-have second_driver)
       (joins _ _ (pins-have (data_drives fabric) data_drives-has)
-      (pins-have (pad_drives fabric) pad_drives-has)))))))))))))
+      (joins _ _ (pins-have (pad_drives fabric) pad_drives-has)
+      (each-has (pll_drives fabric.pins fabric.plls) (λ port. drives_if-has _ (pin_bit _) port.net tt) fabric.plls))))))))))))))
 
   pub drive-has : (drive : Drive) → Contains (drives_of fabric) drive → HasRegister fabric drive.rule
   drive-has drive there = All-contains DriveHas (drives_of fabric) drive drives-have there

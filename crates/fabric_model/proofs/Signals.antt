@@ -1,5 +1,6 @@
 -- What inputs read is there: the input pins and the registers are those of the fabric.
-use Rattle.std.proofs.Common.{◌≡◌, ℕ, zero, suc, ◌+◌, ◌<◌, ◌==◌, ◌&&◌, ◌||◌, Bool, true, false, List, [], ◌∷◌, ◌++◌, length, map, get_or, refl, sym, ap, ◌∙◌, subst, arith, inl, inr, eq-eqb}
+use Rattle.std.proofs.Common.{◌≡◌, ℕ, zero, suc, ◌+◌, ◌<◌, ◌==◌, ◌&&◌, ◌||◌, Bool, true, false, List, [], ◌∷◌, ◌++◌, length, length-append, map, get_or, refl, sym, ap, ◌∙◌, subst, arith, inl, inr, eq-eqb}
+use Rattle.std.proofs.lemmas.List.{length-map}
 use Rattle.std.specs.Prelude.{All, Contains, filter, flat_map, position, unwrap_or, not, None}
 use Rattle.std.specs.List.{position_or_len}
 use Rattle.std.proofs.lemmas.Bool.{cases_Bool, lt-ltb, and_from, and_parts, or_left, or_right}
@@ -26,7 +27,10 @@ use Rattle.fabric_model.specs.Cells.{cells_of}
 use Rattle.fabric_model.specs.Tiles.{item_if}
 use Rattle.fabric_model.specs.PinTypes.{ever_drives, drives_at_times, is_by_register, has_register, has_table, is_double, takes_pad, takes_by_register}
 use Rattle.fabric_model.specs.Pins.{drives, is_switched, is_pad_read, has_input, has_outside, pins_of}
-use Rattle.fabric_model.specs.InputPorts.{pin_inputs, inputs_among, is_same_place, is_same_port, input_place}
+use Rattle.fabric_model.specs.declared.pll.PllOutput.{PllOutput}
+use Rattle.fabric_model.specs.declared.pll.PllSource.{PllSource}
+use Rattle.fabric_model.specs.Plls.{output_number}
+use Rattle.fabric_model.specs.InputPorts.{pin_inputs, inputs_among, inputs_with, pll_input, is_output_of, pll_place, is_same_place, is_same_port, input_place}
 use Rattle.fabric_model.specs.Signals.{net_or_0}
 use Rattle.fabric_model.specs.Registers.{table_of, register_of, flips_among, registers_of, registers_in, key_in, pin_keys, kind_number, is_same_key, register_in, data_by, pad_by, clock_enable, taken_by, pin_register, pin_registers_of}
 use Rattle.fabric_model.specs.Fabric.{Fabric, numbered_from, numbered, flip_count, fabric_with, inputs_of}
@@ -142,6 +146,25 @@ outside-port-there pins pin there is =
     (contains-flat_map pin_inputs pins pin port there
     (Contains-append_right (item_if (has_input pin) (Pad pin.x pin.y pin.n)) (item_if (has_outside pin) port) port (contains-if (has_outside pin) port is)))
     (same-place pin.x pin.y pin.n)
+
+-- an output of a PLL that is a port is one of the input ports
+pub pll-port-there : (pins : List Pin) (plls : List PllSource) (x y : ℕ) (output : PllOutput) (source : PllSource) → Contains plls source → is_output_of x y output source ≡ true
+    → pll_place pins plls x y output < length (inputs_with pins plls)
+pll-port-there pins plls x y output source there passes =
+    let found = place-found (is_output_of x y output) plls source there passes in
+    let all = length-append (inputs_among pins) (map pll_input plls) in
+    let own = length-map plls pll_input in
+    omega (arith, found, all, own)
+
+-- each output of a PLL is such an output
+pub output-itself : (source : PllSource) → is_output_of source.x source.y source.output source ≡ true
+output-itself source = same-place source.x source.y (output_number source.output)
+
+-- the ports of pins come first
+pub among-first : (fabric : Fabric) (place : ℕ) → place < length (inputs_among fabric.pins) → place < length (inputs_of fabric)
+among-first fabric place low =
+    let all = length-append (inputs_among fabric.pins) (map pll_input fabric.plls) in
+    omega (arith, all, low)
 
 -- ---- registers of pins
 
@@ -276,7 +299,7 @@ module _ (fabric : Fabric) (closed : IsClosed fabric) (pin : Pin) (there : Conta
 
   -- the pad of a pin that drives it, or that is an input
   pad_by-there : (driven : PadDrive) → pin.drive ≡ driven → (drives pin ≡ false → has_input pin ≡ true) → There (pad_by (flip_count fabric) fabric.pins pin driven)
-  pad_by-there drive.Never is seen = pad-port-there fabric.pins pin there (seen (ap ever_drives is))
+  pad_by-there drive.Never is seen = among-first fabric _ (pad-port-there fabric.pins pin there (seen (ap ever_drives is)))
   pad_by-there drive.Always is seen = data-there (ap ever_drives is)
   pad_by-there drive.ByNet is seen = tt
   pad_by-there drive.ByRegister is seen = tt
@@ -310,7 +333,7 @@ module _ (fabric : Fabric) (closed : IsClosed fabric) (pin : Pin) (there : Conta
   pad_table-there seen =
       let switched : is_switched pin ≡ true = (and_parts (is_switched pin) (is_pad_read pin) seen).0 in
       four-there fabric (signal.Input (input_place fabric.pins (Outside pin.x pin.y pin.n))) (data_of fabric pin) (enable_of fabric pin) none
-      (outside-port-there fabric.pins pin there seen) (data-there (times-ever pin.drive switched)) (enable-there switched) tt
+      (among-first fabric _ (outside-port-there fabric.pins pin there seen)) (data-there (times-ever pin.drive switched)) (enable-there switched) tt
 
   -- ---- registers of the pin
 

@@ -17,7 +17,7 @@ use Rattle.fabric_model.specs.Drivers.{Drive, drivers_of}
 use Rattle.fabric_model.specs.Values.{State, IsConsistent}
 use Rattle.graph_order.specs.Wiring.{is_on_cycle, IsWriteOrder}
 use Rattle.fabric_model.specs.Wiring.{wiring_of}
-use Rattle.fabric_model.specs.Faults.{Fault, drivers_fault, device_faults, pll_faults, pin_faults, pins_fault, rams_fault, driver_faults, loop_faults, clock_faults, fabric_fault, design_fault}
+use Rattle.fabric_model.specs.Faults.{Fault, drivers_fault, device_faults, pll_fault, pin_faults, pins_fault, rams_fault, driver_faults, loop_faults, clock_faults, fabric_fault, design_fault}
 use Rattle.graph_order.proofs.OneOrder.{order-one}
 use Rattle.graph_order.proofs.Ordered.{write_order-there}
 use Rattle.fabric_model.proofs.OneValue.{IsWithin, HasSingleDrivers, wiring-bounded, consistent-one, consistent-there}
@@ -108,6 +108,6 @@ design-taken options db image none =
     let behind = or_else-other first _ none in
     record {
       device = first_of-none (device_faults db image) (or_else-first first _ none);
-      pins = first_of-none (pin_faults all db image) (or_else-other (first_of (pll_faults db image)) _ (or_else-first (pins_fault all db image) _ behind));
+      pins = first_of-none (pin_faults all db image) (or_else-other (pll_fault all db image) _ (or_else-first (pins_fault all db image) _ behind));
       fabric = or_else-other (rams_fault db image) _ (or_else-other (pins_fault all db image) _ behind);
     }

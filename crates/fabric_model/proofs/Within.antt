@@ -10,11 +10,11 @@ use Rattle.plane_map.specs.declared.tile.TileKind.{TileKind}
 use Rattle.plane_map.specs.declared.tile.TileKind.TheVariants.{Io, Logic, RamB}
 use Rattle.plane_map.specs.Layout.{kind_of, grid_width, grid_height}
 use Rattle.chipdb_lines.specs.declared.chip.Chip.{Chip}
-use Rattle.chipdb_lines.specs.Items.{NameLine}
+use Rattle.chipdb_lines.specs.Items.{NameLine, PllLine}
 use Rattle.chipdb_lines.specs.Statements.{is_kind_there}
 use Rattle.chipdb_reader.specs.declared.items.TileXy8.{TileXy8}
 use Rattle.chipdb_reader.specs.declared.items.PinXy.{PinXy}
-use Rattle.chipdb_reader.specs.Database.{Database, Link}
+use Rattle.chipdb_reader.specs.Database.{Database, Link, Pll as PllCell}
 use Rattle.chipdb_reader.specs.Lookups.{net_at, input_of}
 use Rattle.chipdb_reader.specs.Fit.{IsFit, IsNameLine, IsLink}
 use Rattle.ice_image.specs.Configuration.{Configuration}
@@ -38,7 +38,10 @@ use Rattle.fabric_model.specs.declared.pin.PadData.{PadData}
 use Rattle.fabric_model.specs.declared.pin.PadData.TheVariants as sends
 use Rattle.fabric_model.specs.declared.pin.GlobalNet.{GlobalNet}
 use Rattle.fabric_model.specs.declared.pin.GlobalFrom.{GlobalFrom}
-use Rattle.fabric_model.specs.declared.pin.GlobalFrom.TheVariants.{Pad, Fabout}
+use Rattle.fabric_model.specs.declared.pin.GlobalFrom.TheVariants.{Pad, Pll, Fabout}
+use Rattle.fabric_model.specs.declared.pll.PllOutput.{PllOutput}
+use Rattle.fabric_model.specs.declared.pll.PllOutput.TheVariants as output
+use Rattle.fabric_model.specs.declared.pll.PllSource.{PllSource}
 use Rattle.fabric_model.specs.declared.driver.Driver.{Driver}
 use Rattle.fabric_model.specs.On.{is_link_on}
 use Rattle.fabric_model.specs.Tiles.{over_grid, over_tiles, at_kind, each_below, item_if}
@@ -46,9 +49,11 @@ use Rattle.fabric_model.specs.Nets.{net_named}
 use Rattle.fabric_model.specs.Cells.{cell_bits, cell_with, used_cell, cells_at, cells_of, set_with, sets_at, sets_of, carry_in_net}
 use Rattle.fabric_model.specs.Rams.{port_net, is_ram_used, ram_at, rams_of}
 use Rattle.fabric_model.specs.PinTypes.{is_by_register}
-use Rattle.fabric_model.specs.Pins.{PinPlace, pin_places, drives, pin_with, port_at, pins_of, net_count, global_fabout, global_source, source_of_global, global_pad, is_global_net, global_nets, nets_from, globals_of}
+use Rattle.fabric_model.specs.Pins.{PinPlace, pin_places, drives, pin_with, port_at, pins_of, net_count, global_fabout, global_source, from_pll, from_pad, source_of_global, global_pad, is_global_net, global_nets, nets_from, globals_of}
+use Rattle.fabric_model.specs.Plls.{pll_type, outputs_in, output_line, output_pin, output_net, line_named, net_by, clock_source, source_of, sources_in, pll_sources, is_pin_at}
+use Rattle.fabric_model.specs.PllPorts.{is_source_read, pll_ports}
 use Rattle.fabric_model.specs.Fabric.{Fabric, Buffer, numbered_from, numbered, joins_of, buffer_of, buffers_of, fabric_with, flip_count}
-use Rattle.fabric_model.specs.Drivers.{Rule, Drive, drives_if, drives_by, pin_drives, data_of, pad_of, enable_of, back_drives, lut_drives, flip_driver, flip_drives, lout_drives, carry_drives, set_drives, read_data_rule, ram_drive, ram_drives, global_rule, global_drives, buffer_drives, input_driver, input_drives, second_driver, second_drives, data_by_table, data_table, data_drives, pad_table, pad_drives, drives_of, nets_read}
+use Rattle.fabric_model.specs.Drivers.{Rule, Drive, drives_if, drives_by, pin_drives, data_of, pad_of, enable_of, back_drives, lut_drives, flip_driver, flip_drives, lout_drives, carry_drives, set_drives, read_data_rule, ram_drive, ram_drives, global_rule, global_drives, buffer_drives, input_driver, input_drives, second_driver, second_drives, data_by_table, data_table, data_drives, pad_table, pad_drives, pll_drives, drives_of, nets_read}
 use Rattle.fabric_model.specs.Drivers.Rule.{pin_bit, constant, input, table_entry, majority_of, register_bit, read_bit, copied}
 use Rattle.graph_order.specs.Wiring.{has}
 use Rattle.fabric_model.specs.Signals.{net_or_0, signal_nets}
@@ -332,14 +337,19 @@ module _ (nets : ℕ) where
       (λ port here. drives_if-in nets _ (read_data_rule place.0 place.1.read port.0) port.1 here (read_data-in place.0 place.1.read port.0))
       (numbered place.1.rdata) (All-numbered (IsNetIn nets) 0 place.1.rdata in'.rdata))
 
-  global_reads-in : (pins : List Pin) (from : GlobalFrom) → IsFromIn nets from → All (Below nets) (nets_read (global_rule pins from))
+  global_reads-in : (pins : List Pin) (plls : List PllSource) (from : GlobalFrom) → IsFromIn nets from → All (Below nets) (nets_read (global_rule pins plls from))
   unfolding nets_read
-  global_reads-in pins (Pad x y n) in' = All-nil (Below nets)
-  global_reads-in pins (Fabout net) in' = All-single (Below nets) net in'
+  global_reads-in pins plls (Pad x y n) in' = All-nil (Below nets)
+  global_reads-in pins plls (Pll x y output) in' = All-nil (Below nets)
+  global_reads-in pins plls (Fabout net) in' = All-single (Below nets) net in'
 
-  global_drives-in : (pins : List Pin) (global : GlobalNet) → IsGlobalIn nets global → All (IsDriveIn nets) (global_drives pins global)
-  global_drives-in pins global in' =
-      drives_if-in nets _ (global_rule pins global.from) (Some global.net) in'.net (global_reads-in pins global.from in'.from)
+  global_drives-in : (pins : List Pin) (plls : List PllSource) (global : GlobalNet) → IsGlobalIn nets global → All (IsDriveIn nets) (global_drives pins plls global)
+  global_drives-in pins plls global in' =
+      drives_if-in nets _ (global_rule pins plls global.from) (Some global.net) in'.net (global_reads-in pins plls global.from in'.from)
+
+  pll_drives-in : (pins : List Pin) (plls : List PllSource) (port : PllSource) → IsNetIn nets port.net → All (IsDriveIn nets) (pll_drives pins plls port)
+  unfolding nets_read
+  pll_drives-in pins plls port in' = drives_if-in nets _ (pin_bit _) port.net in' (All-nil (Below nets))
 
   buffer_drives-in : (buffer : Buffer) → IsBufferIn nets buffer → All (IsDriveIn nets) (buffer_drives buffer)
   unfolding nets_read
@@ -368,14 +378,15 @@ module _ (fabric : Fabric) (in' : IsClosed fabric) where
       (All-then _ _ (gives-in nets (IsCellIn nets) carry_drives (carry_drives-in nets) _ (All-filter (λ lc. lc.carry) (IsCellIn nets) fabric.lcs in'.lcs))
       (All-then _ _ (gives-in nets (IsSetIn nets) set_drives (set_drives-in nets) fabric.sets in'.sets)
       (All-then _ _ (gives-in nets (λ (place : ℕ × RamCell). IsRamIn nets place.1) ram_drives (ram_drives-in nets) (numbered fabric.rams) (All-numbered (IsRamIn nets) 0 fabric.rams in'.rams))
-      (All-then _ _ (gives-in nets (IsGlobalIn nets) (global_drives fabric.pins) (global_drives-in nets fabric.pins) fabric.globals in'.globals)
+      (All-then _ _ (gives-in nets (IsGlobalIn nets) (global_drives fabric.pins fabric.plls) (global_drives-in nets fabric.pins fabric.plls) fabric.globals in'.globals)
       (All-then _ _ (gives-in nets (IsBufferIn nets) buffer_drives (buffer_drives-in nets) fabric.buffers in'.buffers)
       (All-then _ _ (gives-in nets (λ (place : ℕ × Register). IsRegisterIn nets place.1) input_drives (input_drives-in nets) (numbered fabric.registers)
       (All-numbered (IsRegisterIn nets) 0 fabric.registers in'.registers))
       (All-then _ _ (gives-in nets (λ (place : ℕ × Register). IsRegisterIn nets place.1) second_drives (second_drives-in nets) (numbered fabric.registers)
       (All-numbered (IsRegisterIn nets) 0 fabric.registers in'.registers))
       (All-then _ _ (gives-in nets (IsPinIn nets) (data_drives fabric) (data_drives-in nets fabric) fabric.pins in'.pins)
-      (gives-in nets (IsPinIn nets) (pad_drives fabric) (pad_drives-in nets fabric) fabric.pins in'.pins)))))))))))))
+      (All-then _ _ (gives-in nets (IsPinIn nets) (pad_drives fabric) (pad_drives-in nets fabric) fabric.pins in'.pins)
+      (gives-in nets (λ (port : PllSource). IsNetIn nets port.net) (pll_drives fabric.pins fabric.plls) (pll_drives-in nets fabric.pins fabric.plls) fabric.plls in'.plls))))))))))))))
 
   pub within-parts : IsWithin fabric
   within-parts = record {
@@ -623,11 +634,15 @@ module _ (db : Database) (image : Configuration) (fit : IsFit db) (nets : ℕ) (
   fabout-in None name = tt
   fabout-in (Some tile) name = named-in tile.x tile.y name
 
-  global_source-in : (pad : Option PinXy) (fabout : Option ℕ) → IsNetIn nets fabout → IsGlobalSourceIn (source_of_global pad fabout)
+  pll-in : (pad : PinXy) (source : Option PllSource) → IsFromIn nets (from_pll pad source)
+  pll-in pad None = tt
+  pll-in pad (Some source) = tt
+
+  global_source-in : (sources : List PllSource) (pad : Option PinXy) (fabout : Option ℕ) → IsNetIn nets fabout → IsGlobalSourceIn (source_of_global sources pad fabout)
   unfolding IsGlobalSourceIn
-  global_source-in (Some pad) fabout in' = tt
-  global_source-in None None in' = tt
-  global_source-in None (Some net) in' = in'
+  global_source-in sources (Some pad) fabout in' = pll-in pad (find (λ source. is_pin_at pad.x pad.y pad.n source.pin) sources)
+  global_source-in sources None None in' = tt
+  global_source-in sources None (Some net) in' = in'
 
   nets_from-in : (g : ℕ) (source : Option GlobalFrom) → IsGlobalSourceIn source → All (IsGlobalIn nets) (nets_from db g source)
   unfolding IsGlobalSourceIn global_nets
@@ -637,11 +652,56 @@ module _ (db : Database) (image : Configuration) (fit : IsFit db) (nets : ℕ) (
       (All-gathered_below (λ net. IsGlobalIn nets (record { g = g; net = net; from = from })) db.chip.nets (λ net. item_if (is_global_net db g net) net)
       (λ net below. All-item_if (λ n. IsGlobalIn nets (record { g = g; net = n; from = from })) (is_global_net db g net) net (record { net = omega (arith, below, few); from = in' })))
 
-  globals-in : All (IsGlobalIn nets) (globals_of db image)
+  globals-in : (all : Bool) → All (IsGlobalIn nets) (globals_of all db image)
   unfolding globals_of
-  globals-in =
-      All-gathered_below (IsGlobalIn nets) 8 (λ g. nets_from db g (global_source db image g))
-      (λ g below. nets_from-in g (global_source db image g) (global_source-in (global_pad db image g) (global_fabout db g) (fabout-in (input_of g db.global_inputs) _)))
+  globals-in all =
+      let sources = pll_sources all db image in
+      All-gathered_below (IsGlobalIn nets) 8 (λ g. nets_from db g (global_source sources db image g))
+      (λ g below. nets_from-in g (global_source sources db image g) (global_source-in sources (global_pad db image g) (global_fabout db g) (fabout-in (input_of g db.global_inputs) _)))
+
+  -- ---- PLLs
+
+  abbrev IsSourceIn : PllSource → Type 0
+  IsSourceIn source = IsNetIn nets source.net
+
+  line_net-in : (line : Option PllLine) → IsNetIn nets (net_by db line)
+  line_net-in None = tt
+  line_net-in (Some line) = named-in line.x line.y line.word
+
+  output_net-in : (pll : PllCell) (output : PllOutput) → IsNetIn nets (output_net db pll output)
+  unfolding output_net
+  output_net-in pll output = line_net-in (line_named (output_line output) pll)
+
+  clock_source-in : (pll : PllCell) (output : PllOutput) (pin : Option PinXy) → All IsSourceIn (clock_source db pll output pin)
+  clock_source-in pll output None = All-nil IsSourceIn
+  clock_source-in pll output (Some pin) = All-single IsSourceIn _ (named-in pin.x pin.y _)
+
+  source-in : (pll : PllCell) (output : PllOutput) → All IsSourceIn (source_of db image pll output)
+  source-in pll output.A = clock_source-in pll output.A (output_pin image pll output.A)
+  source-in pll output.B = clock_source-in pll output.B (output_pin image pll output.B)
+  source-in pll output.Lock = All-single IsSourceIn _ (output_net-in pll output.Lock)
+  source-in pll output.Sdo = All-single IsSourceIn _ (output_net-in pll output.Sdo)
+
+  of_outputs-in : (pll : PllCell) (outputs : List PllOutput) → All IsSourceIn (flat_map (source_of db image pll) outputs)
+  of_outputs-in pll [] = All-nil IsSourceIn
+  of_outputs-in pll (output ∷ outputs) =
+      All-append IsSourceIn (source_of db image pll output) (flat_map (source_of db image pll) outputs) (source-in pll output) (of_outputs-in pll outputs)
+
+  sources-in : (pll : PllCell) → All IsSourceIn (sources_in db image pll)
+  unfolding sources_in
+  sources-in pll = of_outputs-in pll (outputs_in (pll_type db image pll))
+
+  of_plls-in : (plls : List PllCell) → All IsSourceIn (flat_map (sources_in db image) plls)
+  of_plls-in [] = All-nil IsSourceIn
+  of_plls-in (pll ∷ plls) = All-append IsSourceIn (sources_in db image pll) (flat_map (sources_in db image) plls) (sources-in pll) (of_plls-in plls)
+
+  pub all_sources-in : (all : Bool) → All IsSourceIn (pll_sources all db image)
+  unfolding pll_sources
+  all_sources-in all = All-if IsSourceIn all (flat_map (sources_in db image) db.plls) (of_plls-in db.plls)
+
+  plls-in : (all : Bool) → All IsSourceIn (pll_ports all db image)
+  unfolding pll_ports
+  plls-in all = All-filter (is_source_read db image) IsSourceIn (pll_sources all db image) (all_sources-in all)
 
 -- ---- registers of pins come after the flip-flops, and are synchronous
 
@@ -719,7 +779,8 @@ module _ (db : Database) (image : Configuration) (fit : IsFit db) where
         joins = joins-in db image fit nets few;
         buffers = buffers-in db image fit nets few;
         pins = pins;
-        globals = globals-in db image fit nets few;
+        plls = plls-in db image fit nets few all;
+        globals = globals-in db image fit nets few all;
         lcs = cells-in db image fit nets few;
         registers = All-append (IsRegisterIn nets) (registers_of inputs (cells_of db image)) (pin_registers_of (flips_among (cells_of db image)) (pins_of all db image))
             (flips-in db image fit nets few inputs) (pin_registers-in db image fit nets few (flips_among (cells_of db image)) (pins_of all db image) pins);

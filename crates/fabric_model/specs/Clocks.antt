@@ -30,7 +30,7 @@ turned_end turned (at_pin place other) = at_pin place (turned_bit turned other)
 turned_end turned (still bit) = still (turned_bit turned bit)
 turned_end turned logic = logic
 
--- whether a chain ends at a pin and is turned there
+-- whether a chain ends at an input port and is turned there
 abbrev pub is_turned : ClockEnd → Bool
 is_turned (at_pin place turned) = turned
 is_turned (still bit) = false

@@ -10,7 +10,8 @@ use Rattle.fabric_model.specs.declared.pin.PadData.{PadData}
 use Rattle.fabric_model.specs.declared.pin.PadData.TheVariants as sends
 use Rattle.fabric_model.specs.declared.pin.GlobalNet.{GlobalNet}
 use Rattle.fabric_model.specs.declared.pin.GlobalFrom.{GlobalFrom}
-use Rattle.fabric_model.specs.declared.pin.GlobalFrom.TheVariants.{Pad, Fabout}
+use Rattle.fabric_model.specs.declared.pin.GlobalFrom.TheVariants.{Pad, Pll, Fabout}
+use Rattle.fabric_model.specs.declared.pll.PllSource.{PllSource}
 use Rattle.fabric_model.specs.declared.input_port.InputPort.TheVariants.{Pad as PadPort, Outside as OutsidePort}
 use Rattle.fabric_model.specs.declared.signal.Signal.{Signal}
 use Rattle.fabric_model.specs.declared.signal.Signal.TheVariants as signal
@@ -26,7 +27,7 @@ use Rattle.narrow_words.specs.Narrow.{share}
 use Rattle.fabric_model.specs.Rams.{first_data_bit}
 use Rattle.fabric_model.specs.PinTypes.{takes_pad, has_table}
 use Rattle.fabric_model.specs.Pins.{drives, is_switched, has_outside}
-use Rattle.fabric_model.specs.InputPorts.{input_place}
+use Rattle.fabric_model.specs.InputPorts.{input_place, pll_place}
 use Rattle.fabric_model.specs.Signals.{net_or_0, signal_nets}
 use Rattle.fabric_model.specs.Registers.{table_of, register_in, data_signal, pad_signal, enable_signal}
 use Rattle.fabric_model.specs.Fabric.{Fabric, Buffer, numbered, flip_count}
@@ -61,7 +62,7 @@ abbrev pub drives_if : Driver → Rule → Option ℕ → List Drive
 drives_if by rule None = []
 drives_if by rule (Some net) = record { driver = by; net = net; rule = rule } ∷ []
 
--- ---- the fourteen kinds of drivers
+-- ---- the fifteen kinds of drivers
 
 -- what a pin drives its pad with, its pad, and when it drives it
 abbrev pub data_of : Fabric → Pin → Signal
@@ -134,13 +135,15 @@ ram_drive place port = drives_if (driver.Ram place.1.x place.1.y port.0) (read_d
 abbrev pub ram_drives : ℕ × RamCell → List Drive
 ram_drives place = flat_map (ram_drive place) (numbered place.1.rdata)
 
--- 9: the net of a global network has the value of its pad (`SB_GB_IO`), or of its net `fabout` (`SB_GB`)
-abbrev pub global_rule : List Pin → GlobalFrom → Rule
-global_rule pins (Pad x y n) = pin_bit (input_place pins (PadPort x y n))
-global_rule pins (Fabout net) = copied net
+-- 9: the net of a global network has the value of its pad (`SB_GB_IO`), of the output of a PLL whose pin has that pad, or of its net `fabout`
+-- (`SB_GB`)
+abbrev pub global_rule : List Pin → List PllSource → GlobalFrom → Rule
+global_rule pins plls (Pad x y n) = pin_bit (input_place pins (PadPort x y n))
+global_rule pins plls (Pll x y output) = pin_bit (pll_place pins plls x y output)
+global_rule pins plls (Fabout net) = copied net
 
-abbrev pub global_drives : List Pin → GlobalNet → List Drive
-global_drives pins global = drives_if (driver.Global global.g global.net) (global_rule pins global.from) (Some global.net)
+abbrev pub global_drives : List Pin → List PllSource → GlobalNet → List Drive
+global_drives pins plls global = drives_if (driver.Global global.g global.net) (global_rule pins plls global.from) (Some global.net)
 
 -- 10: the destination of a buffer that is on has the value of its source
 abbrev pub buffer_drives : Buffer → List Drive
@@ -202,6 +205,10 @@ pad_table fabric pin = pad_by_table (flip_count fabric) fabric.pins pin
 abbrev pub pad_drives : Fabric → Pin → List Drive
 pad_drives fabric pin = if has_outside pin then drives_if (driver.Pad pin.x pin.y pin.n) (table_entry (pad_table fabric pin)) pin.pad_net else []
 
+-- 15: the net of an output of a PLL has the value of the input port (`SB_PLL40_CORE` and its other forms)
+abbrev pub pll_drives : List Pin → List PllSource → PllSource → List Drive
+pll_drives pins plls port = drives_if (driver.PllOut port.x port.y port.output) (pin_bit (pll_place pins plls port.x port.y port.output)) port.net
+
 -- ---- all drivers
 
 -- the drivers in their order
@@ -215,12 +222,13 @@ drives_of fabric =
     ++ (flat_map carry_drives (filter (λ lc. lc.carry) fabric.lcs)
     ++ (flat_map set_drives fabric.sets
     ++ (flat_map ram_drives (numbered fabric.rams)
-    ++ (flat_map (global_drives fabric.pins) fabric.globals
+    ++ (flat_map (global_drives fabric.pins fabric.plls) fabric.globals
     ++ (flat_map buffer_drives fabric.buffers
     ++ (flat_map input_drives (numbered fabric.registers)
     ++ (flat_map second_drives (numbered fabric.registers)
     ++ (flat_map (data_drives fabric) fabric.pins
-    ++ flat_map (pad_drives fabric) fabric.pins))))))))))))
+    ++ (flat_map (pad_drives fabric) fabric.pins
+    ++ flat_map (pll_drives fabric.pins fabric.plls) fabric.plls)))))))))))))
 
 -- whether a driver drives a net of a class of joined nets
 abbrev pub is_driver_of : Fabric → ℕ → Drive → Bool

@@ -12,12 +12,14 @@ use Rattle.fabric_model.specs.declared.register.Register.{Register}
 use Rattle.fabric_model.specs.declared.ram.RamCell.{RamCell}
 use Rattle.fabric_model.specs.declared.pin.Pin.{Pin}
 use Rattle.fabric_model.specs.declared.pin.GlobalNet.{GlobalNet}
+use Rattle.fabric_model.specs.declared.pll.PllSource.{PllSource}
 unfoldable pub use Rattle.fabric_model.specs.Numbered.{numbered_from, numbered}
 use Rattle.fabric_model.specs.On.{is_link_on}
 use Rattle.fabric_model.specs.Cells.{cells_of, sets_of}
 use Rattle.fabric_model.specs.Rams.{rams_of, over_rams, start_words}
 use Rattle.fabric_model.specs.Pins.{pins_of, net_count, globals_of}
-use Rattle.fabric_model.specs.InputPorts.{inputs_among}
+use Rattle.fabric_model.specs.PllPorts.{pll_ports}
+use Rattle.fabric_model.specs.InputPorts.{inputs_with}
 use Rattle.fabric_model.specs.Registers.{flips_among, registers_of, pin_registers_of}
 
 -- a buffer that is on, by its index among the database's buffers, and its two nets
@@ -26,13 +28,16 @@ pub record Buffer : Type 0 where
   pub src : ℕ
   pub dst : ℕ
 
--- The nets are the numbers below `nets`. Each list is in the order of tiles, but buffers are in the order of the database. The registers
--- are the flip-flops of the cells, then the registers of pins. `lut_inputs` says which inputs the LUTs of the cells read.
+-- The nets are the numbers below `nets`. Each list is in the order of tiles, but joins and buffers are in the order of the database, and global
+-- nets by their networks. The registers
+-- are the flip-flops of the cells, then the registers of pins. `plls` are the outputs of PLLs that are input ports. `lut_inputs` says which
+-- inputs the LUTs of the cells read.
 pub record Fabric : Type 0 where
   pub nets : ℕ
   pub joins : List (ℕ × ℕ)
   pub buffers : List Buffer
   pub pins : List Pin
+  pub plls : List PllSource
   pub globals : List GlobalNet
   pub lut_inputs : LutInputs
   pub lcs : List LogicCell
@@ -63,7 +68,8 @@ fabric_with options db image = record {
   joins = joins_of db image;
   buffers = buffers_of db image;
   pins = pins_of options.all_pins db image;
-  globals = globals_of db image;
+  plls = pll_ports options.all_pins db image;
+  globals = globals_of options.all_pins db image;
   lut_inputs = options.lut_inputs;
   lcs = cells_of db image;
   registers = registers_of options.lut_inputs (cells_of db image)
@@ -93,4 +99,4 @@ flip_count fabric = flips_among fabric.lcs
 
 -- the input ports, whose values events give
 abbrev pub inputs_of : Fabric → List InputPort
-inputs_of fabric = inputs_among fabric.pins
+inputs_of fabric = inputs_with fabric.pins fabric.plls

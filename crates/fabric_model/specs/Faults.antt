@@ -1,19 +1,19 @@
 -- Why a database and an image aren't taken: the first cause that holds, with the first tile, pin, net or user that has it. Each list of
 -- faults is in the order of the tiles, pins, nets or users.
-use Rattle.std.specs.Prelude.{ℕ, Bool, List, [], ◌∷◌, flat_map, if◌then◌else◌, Option, Some, None}
+use Rattle.std.specs.Prelude.{ℕ, Bool, List, [], ◌∷◌, flat_map, if◌then◌else◌, Option, Some, None, option_map}
 use Rattle.plane_map.specs.declared.device.DeviceName.{DeviceName}
 use Rattle.plane_map.specs.Devices.{is_same_device}
-use Rattle.plane_map.specs.declared.tile.TileKind.TheVariants.{Io}
 use Rattle.ice_image.specs.Configuration.{Configuration}
 use Rattle.chipdb_reader.specs.Database.{Database}
 use Rattle.index_search.specs.Places.{gathered_below, or_else}
 use Rattle.fabric_model.specs.declared.options.FabricOptions.{FabricOptions}
 use Rattle.fabric_model.specs.declared.driver.Driver.{Driver}
 use Rattle.fabric_model.specs.declared.driver.ClockUser.{ClockUser}
-use Rattle.fabric_model.specs.Tiles.{over_tiles, item_if, first_of}
+use Rattle.fabric_model.specs.Tiles.{item_if, first_of}
 use Rattle.fabric_model.specs.Rams.{over_rams, is_cascaded}
 use Rattle.fabric_model.specs.PinTypes.{pintype_of}
-use Rattle.fabric_model.specs.Pins.{PinPlace, pin_places, pin_with, is_refused_with, is_refused_of_all, has_pll}
+use Rattle.fabric_model.specs.Plls.{pll_tile}
+use Rattle.fabric_model.specs.Pins.{PinPlace, pin_places, pin_with, is_refused_with, is_refused_of_all}
 use Rattle.fabric_model.specs.Fabric.{Fabric, numbered, fabric_with}
 use Rattle.fabric_model.specs.Drivers.{Drive, drivers_of}
 use Rattle.graph_order.specs.Wiring.{Wiring, is_on_cycle}
@@ -25,7 +25,7 @@ use Rattle.fabric_model.specs.Clocks.ClockEnd.{at_pin, still, logic}
 pub data Fault : Type 0 where
   -- the devices differ
   other_device : Fault
-  -- a PLL in the tile at (x, y)
+  -- PLLs that aren't taken: the tile of a PLL, which may be outside of the grid, or of a function that no PLL names
   pll : (x y : ℕ) → Fault
   -- a pin of a type that isn't taken
   pin_mode : (x y n pintype : ℕ) → Fault
@@ -45,8 +45,12 @@ device_faults db image = if is_same_device db.chip.device image.layout.device th
 
 -- ---- pins
 
-unfoldable pub pll_faults : Database → Configuration → List Fault
-pll_faults db image = over_tiles image.layout.device Io (λ x y. item_if (has_pll db image x y) (pll x y))
+abbrev pub pll_at : ℕ × ℕ → Fault
+pll_at tile = pll tile.0 tile.1
+
+-- what is wrong with PLLs
+abbrev pub pll_fault : Bool → Database → Configuration → Option Fault
+pll_fault all db image = option_map pll_at (pll_tile all db image)
 
 -- whether a pin, by its number and place, isn't taken, if pins of every kind are or if not
 abbrev pub is_refused_at : Bool → Database → Configuration → ℕ × PinPlace → Bool
@@ -100,9 +104,9 @@ clock_faults device fabric = flat_map (λ user. user_fault fabric user user.net)
 
 -- ---- the first cause
 
--- what is wrong with pins: the first cause, with the first tile or pin that has it
+-- what is wrong with PLLs and pins: the first cause, with the first tile or pin that has it
 unfoldable pub pins_fault : Bool → Database → Configuration → Option Fault
-pins_fault all db image = or_else (first_of (pll_faults db image)) (first_of (pin_faults all db image))
+pins_fault all db image = or_else (pll_fault all db image) (first_of (pin_faults all db image))
 
 -- what is wrong with RAMs
 unfoldable pub rams_fault : Database → Configuration → Option Fault

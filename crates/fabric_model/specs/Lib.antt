@@ -7,7 +7,9 @@ pub mod Cells
 pub mod Rams
 pub mod Numbered
 pub mod PinTypes
+pub mod Plls
 pub mod Pins
+pub mod PllPorts
 pub mod InputPorts
 pub mod Joins
 pub mod Luts

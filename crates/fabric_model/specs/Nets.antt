@@ -1,5 +1,5 @@
 -- Nets by their names (Project IceStorm, 'icebox chip database'), and the nets that are read.
-use Rattle.std.specs.Prelude.{ℕ, Bool, false, ◌&&◌, ◌||◌, List, ◌++◌, decimal, ◌==◌, Option, Some, None}
+use Rattle.std.specs.Prelude.{ℕ, Bool, false, ◌&&◌, ◌||◌, List, ◌++◌, decimal, codes, ◌==◌, Option, Some, None}
 use Rattle.std.specs.List.{list_any}
 use Rattle.ice_image.specs.Configuration.{Configuration}
 use Rattle.chipdb_reader.specs.Database.{Database, Link}
@@ -19,6 +19,16 @@ with_number before n after = before ++ (decimal n ++ after)
 -- a name with a number at its end, such as `ram/MASK_7`
 abbrev pub ending_in : List ℕ → ℕ → List ℕ
 ending_in before n = before ++ decimal n
+
+-- ---- nets of pins
+
+-- the net of a port of pin n, such as `io_n/D_IN_0`
+abbrev pub io_net : Database → ℕ → ℕ → ℕ → List ℕ → Option ℕ
+io_net db x y n port = net_named db x y (with_number (codes "io_") n port)
+
+-- the net of a port that the pins of a tile share, such as `io_global/inclk`
+abbrev pub io_shared_net : Database → ℕ → ℕ → List ℕ → Option ℕ
+io_shared_net db x y port = net_named db x y (codes "io_global/" ++ port)
 
 -- ---- nets that are read
 

@@ -1,6 +1,7 @@
 -- What the signals of pins are found by.
 use Rattle.std.specs.Prelude.{◌≡◌, ℕ, ◌&&◌, List, ◌++◌}
 use Rattle.fabric_model.specs.declared.pin.Pin.{Pin}
+use Rattle.fabric_model.specs.declared.pll.PllSource.{PllSource}
 use Rattle.fabric_model.specs.declared.input_port.InputPort.{InputPort}
 use Rattle.fabric_model.specs.declared.register.PinRegister.{PinRegister}
 use Rattle.fabric_model.specs.declared.register.PinRegister.TheVariants as kind
@@ -15,10 +16,11 @@ use Rattle.fabric_model.specs.declared.pin_signals.PinKey.{PinKey as KeptKey}
 abbrev pub key_of : KeptKey → PinKey
 key_of key = record { x = key.x; y = key.y; n = key.n; register = key.register }
 
--- the number of flip-flops, and the pins
+-- the number of flip-flops, the pins, and the outputs of PLLs that are input ports
 pub record SignalsOf : Type 0 where
   pub flips : ℕ
   pub pins : List Pin
+  pub plls : List PllSource
 
 -- the input ports and the registers of pins
 pub record AreSignals (pins : List Pin) (inputs : List InputPort) (keys : List PinKey) : Type 0 where

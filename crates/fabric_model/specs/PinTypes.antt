@@ -89,13 +89,23 @@ abbrev pub takes_pad : PadInput → Bool
 takes_pad takes.Plain = true
 takes_pad takes.Registered = false
 takes_pad takes.Latched = false
+takes_pad takes.Nothing = false
 
 abbrev pub takes_by_register : PadInput → Bool
 takes_by_register takes.Plain = false
 takes_by_register takes.Registered = true
 takes_by_register takes.Latched = false
+takes_by_register takes.Nothing = false
 
 abbrev pub is_latched : PadInput → Bool
 is_latched takes.Plain = false
 is_latched takes.Registered = false
 is_latched takes.Latched = true
+is_latched takes.Nothing = false
+
+-- whether the input side of the pin belongs to a PLL
+abbrev pub is_of_pll : PadInput → Bool
+is_of_pll takes.Plain = false
+is_of_pll takes.Registered = false
+is_of_pll takes.Latched = false
+is_of_pll takes.Nothing = true

@@ -1,5 +1,5 @@
 -- Pins (`SB_IO`; Project IceStorm, 'IO Tile') and global nets (`SB_GB_IO` and `SB_GB`).
-use Rattle.std.specs.Prelude.{ℕ, ◌+◌, ◌*◌, ◌/◌, ◌%◌, Bool, false, not, ◌&&◌, ◌||◌, List, [], length, map, flat_map, bytes_eq, codes, ◌++◌, ◌==◌, if◌then◌else◌, Option, Some, None, option_map, option_and_then}
+use Rattle.std.specs.Prelude.{ℕ, ◌+◌, ◌*◌, ◌/◌, ◌%◌, Bool, false, not, ◌&&◌, ◌||◌, List, [], length, map, flat_map, bytes_eq, codes, ◌++◌, ◌==◌, if◌then◌else◌, Option, Some, None, option_map, option_and_then, find}
 use Rattle.std.specs.List.{list_any}
 use Rattle.plane_map.specs.declared.device.DeviceName.{DeviceName}
 use Rattle.plane_map.specs.declared.tile.TileKind.TheVariants.{Io}
@@ -11,12 +11,15 @@ use Rattle.index_search.specs.Places.{any_below, gathered_below}
 use Rattle.fabric_model.specs.declared.pin.Pin.{Pin}
 use Rattle.fabric_model.specs.declared.pin.GlobalNet.{GlobalNet}
 use Rattle.fabric_model.specs.declared.pin.GlobalFrom.{GlobalFrom}
-use Rattle.fabric_model.specs.declared.pin.GlobalFrom.TheVariants.{Pad, Fabout}
-use Rattle.fabric_model.specs.On.{is_function_on, is_any_on, is_extra_on}
+use Rattle.fabric_model.specs.declared.pin.GlobalFrom.TheVariants.{Pad, Pll, Fabout}
+use Rattle.fabric_model.specs.declared.pin.PadInput.TheVariants.{Nothing}
+use Rattle.fabric_model.specs.declared.pll.PllSource.{PllSource}
+use Rattle.fabric_model.specs.On.{is_function_on, is_extra_on}
 use Rattle.fabric_model.specs.Tiles.{over_tiles, each_below, item_if}
 use Rattle.fabric_model.specs.Numbered.{numbered}
-use Rattle.fabric_model.specs.Nets.{net_named, with_number, ending_in, is_some_read}
-use Rattle.fabric_model.specs.PinTypes.{pintype_of, drive_of, sends_of, takes_of, ever_drives, drives_at_times, takes_pad, is_latched}
+use Rattle.fabric_model.specs.Nets.{net_named, ending_in, io_net, io_shared_net, is_some_read}
+use Rattle.fabric_model.specs.PinTypes.{pintype_of, drive_of, sends_of, takes_of, ever_drives, drives_at_times, takes_pad, is_latched, is_of_pll}
+use Rattle.fabric_model.specs.Plls.{pll_sources, is_pin_at, is_pll_place}
 
 -- ---- types that are taken without the option for pins of every kind
 
@@ -69,23 +72,11 @@ is_output_pin pintype = has_plain_output pintype || (has_registered_output pinty
 abbrev pub global_pad : Database → Configuration → ℕ → Option PinXy
 global_pad db image g = if is_extra_on db image (ending_in (codes "padin_glb_netwk.") g) then pad_of g db.global_pins else None
 
-abbrev pub is_pin_at : ℕ → ℕ → ℕ → Option PinXy → Bool
-is_pin_at x y n None = false
-is_pin_at x y n (Some pin) = (pin.x == x) && ((pin.y == y) && (pin.n == n))
-
--- whether the pin is the pad of a global network that is driven by its pad, even if the global network has no net
+-- whether the pin is the pad of a global network that the image lets its pad drive, even if the global network has no net
 abbrev pub is_global_pad : Database → Configuration → ℕ → ℕ → ℕ → Bool
 is_global_pad db image x y n = any_below 8 (λ g. is_pin_at x y n (global_pad db image g))
 
 -- ---- pins
-
--- the net of a port of pin n, such as `io_n/D_IN_0`
-abbrev pub io_net : Database → ℕ → ℕ → ℕ → List ℕ → Option ℕ
-io_net db x y n port = net_named db x y (with_number (codes "io_") n port)
-
--- the net of a port that the pins of a tile share, such as `io_global/inclk`
-abbrev pub io_shared_net : Database → ℕ → ℕ → List ℕ → Option ℕ
-io_shared_net db x y port = net_named db x y (codes "io_global/" ++ port)
 
 -- whether the input of pin n is read
 abbrev pub is_input_read : Database → Configuration → ℕ → ℕ → ℕ → Bool
@@ -95,19 +86,20 @@ is_input_read db image x y n = is_some_read db image (io_net db x y n (codes "/D
 abbrev pub is_second_read : Database → Configuration → ℕ → ℕ → ℕ → Bool
 is_second_read db image x y n = is_some_read db image (io_net db x y n (codes "/D_IN_1"))
 
--- Pin n of the tile at (x, y), whose number among all pins is j. If pins of every kind are taken, it has two inner nets after the nets of the
--- database: one for what it drives its pad with, and one for its pad.
-unfoldable pub pin_with : Bool → Database → Configuration → ℕ → ℕ → ℕ → ℕ → Pin
-pin_with all db image j x y n = record {
+-- Pin n of the tile at (x, y), whose number among all pins is j. If it is a place of a PLL, as `is_place` says, its input side belongs to the
+-- PLL: the pin takes nothing of its pad, and nothing reads the pad through it. If pins of every kind are taken, it has two inner nets after the
+-- nets of the database: one for what it drives its pad with, and one for its pad.
+abbrev pub pin_at : Bool → Bool → Database → Configuration → ℕ → ℕ → ℕ → ℕ → Pin
+pin_at all is_place db image j x y n = record {
   x = x;
   y = y;
   n = n;
   drive = drive_of (pintype_of db image x y n);
   sends = sends_of (pintype_of db image x y n);
-  takes = takes_of (pintype_of db image x y n);
-  reads_0 = is_input_read db image x y n;
-  reads_1 = is_second_read db image x y n;
-  is_global = is_global_pad db image x y n;
+  takes = if is_place then Nothing else takes_of (pintype_of db image x y n);
+  reads_0 = not is_place && is_input_read db image x y n;
+  reads_1 = not is_place && is_second_read db image x y n;
+  is_global = not is_place && is_global_pad db image x y n;
   neg = is_function_on db image Io x y (codes "NegClk");
   inclk = io_shared_net db x y (codes "inclk");
   outclk = io_shared_net db x y (codes "outclk");
@@ -120,6 +112,10 @@ pin_with all db image j x y n = record {
   data_net = if all then Some (db.chip.nets + 2 * j) else None;
   pad_net = if all then Some (db.chip.nets + 2 * j + 1) else None;
 }
+
+-- pin n, given whether pins of every kind are taken
+unfoldable pub pin_with : Bool → Database → Configuration → ℕ → ℕ → ℕ → ℕ → Pin
+pin_with all db image j x y n = pin_at all (is_pll_place (pll_sources all db image) x y n) db image j x y n
 
 abbrev pub drives : Pin → Bool
 drives pin = ever_drives pin.drive
@@ -173,14 +169,22 @@ net_count all db image = if all then db.chip.nets + 2 * length (pin_places image
 abbrev pub global_fabout : Database → ℕ → Option ℕ
 global_fabout db g = option_and_then (λ tile. net_named db tile.x tile.y (codes "fabout")) (input_of g db.global_inputs)
 
--- a pad takes precedence over a net `fabout`
-abbrev pub source_of_global : Option PinXy → Option ℕ → Option GlobalFrom
-source_of_global (Some pad) fabout = Some (Pad pad.x pad.y pad.n)
-source_of_global None fabout = option_map (λ net. Fabout net) fabout
+-- at a place of a PLL the output of the PLL drives the global network in place of the pad
+abbrev pub from_pll : PinXy → Option PllSource → GlobalFrom
+from_pll pad None = Pad pad.x pad.y pad.n
+from_pll pad (Some source) = Pll source.x source.y source.output
 
--- what drives global network g
-abbrev pub global_source : Database → Configuration → ℕ → Option GlobalFrom
-global_source db image g = source_of_global (global_pad db image g) (global_fabout db g)
+abbrev pub from_pad : List PllSource → PinXy → GlobalFrom
+from_pad sources pad = from_pll pad (find (λ source. is_pin_at pad.x pad.y pad.n source.pin) sources)
+
+-- a pad takes precedence over a net `fabout`
+abbrev pub source_of_global : List PllSource → Option PinXy → Option ℕ → Option GlobalFrom
+source_of_global sources (Some pad) fabout = Some (from_pad sources pad)
+source_of_global sources None fabout = option_map (λ net. Fabout net) fabout
+
+-- what drives global network g, given the outputs of PLLs
+abbrev pub global_source : List PllSource → Database → Configuration → ℕ → Option GlobalFrom
+global_source sources db image g = source_of_global sources (global_pad db image g) (global_fabout db g)
 
 -- whether the net has the name `glb_netwk_g` at some tile
 abbrev pub is_global_net : Database → ℕ → ℕ → Bool
@@ -196,8 +200,8 @@ nets_from db g None = []
 nets_from db g (Some from) = map (λ net. record { g = g; net = net; from = from }) (global_nets db g)
 
 -- the nets of global networks 0 to 7 with what drives them, by global network and net
-unfoldable pub globals_of : Database → Configuration → List GlobalNet
-globals_of db image = gathered_below 8 (λ g. nets_from db g (global_source db image g))
+unfoldable pub globals_of : Bool → Database → Configuration → List GlobalNet
+globals_of all db image = gathered_below 8 (λ g. nets_from db g (global_source (pll_sources all db image) db image g))
 
 -- ---- pins that aren't taken
 
@@ -214,14 +218,16 @@ is_refused_with db image x y n pintype =
     && is_function_on db image Io x y (codes "IoCtrl.LVDS"))
     || (has_tri_state_output pintype && is_input_read db image x y n)))))
 
+-- whether `io_n/D_IN_1` of pin n is read, or `io_n/D_IN_0` is and bits 1 and 0 of the type aren't 01
+abbrev pub is_misread : Database → Configuration → ℕ → ℕ → ℕ → Bool
+is_misread db image x y n = is_second_read db image x y n || (is_input_read db image x y n && not (has_plain_input (pintype_of db image x y n)))
+
 -- Whether a pin isn't taken with that option, for one of these reasons: `io_n/D_IN_0` is read and a latch may hold it; it is the pad
--- of a global network and ever drives it; it is a port of a tile with LVDS, and isn't pin 0 as an input, which has the value of the pair.
+-- of a global network and ever drives it; it is a port of a tile with LVDS, and isn't pin 0 as an input, which has the value of the pair;
+-- its input side belongs to a PLL, and `io_n/D_IN_1` is read, or `io_n/D_IN_0` is and bits 1 and 0 of the type aren't 01.
 abbrev pub is_refused_of_all : Database → Configuration → Pin → Bool
 is_refused_of_all db image pin =
     (pin.reads_0 && is_latched pin.takes)
     || ((pin.is_global && drives pin)
-    || (is_function_on db image Io pin.x pin.y (codes "IoCtrl.LVDS") && (is_port pin && not ((pin.n == 0) && not (drives pin)))))
-
--- whether a function whose name starts with `PLL.` is on in the io tile
-abbrev pub has_pll : Database → Configuration → ℕ → ℕ → Bool
-has_pll db image x y = is_any_on db image Io x y (codes "PLL.")
+    || ((is_function_on db image Io pin.x pin.y (codes "IoCtrl.LVDS") && (is_port pin && not ((pin.n == 0) && not (drives pin))))
+    || (is_of_pll pin.takes && is_misread db image pin.x pin.y pin.n)))

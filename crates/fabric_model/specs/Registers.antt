@@ -58,8 +58,8 @@ flips_among lcs = length (filter (λ lc. lc.flip) lcs)
 
 -- ---- registers of pins
 
--- The registers of a pin, in their order (`SB_IO`). There is one on `io_n/D_IN_0` if that is read and takes the pad by a register. There are
--- one on `io_n/D_IN_1` and one for its clock enable if `io_n/D_IN_1` is read. There is one for `io_n/D_OUT_0` if what the pin drives its pad with is made
+-- The registers of a pin, in their order (`SB_IO`). There is one on `io_n/D_IN_0` if that is read and takes the pad by a register. There is
+-- one on `io_n/D_IN_1`, and one for its clock enable, if `io_n/D_IN_1` is the pin's and is read. There is one for `io_n/D_OUT_0` if what the pin drives its pad with is made
 -- of registers, and if of two in turn, one for `io_n/D_OUT_1` and one for the clock enable of that. And there is one for the output enable
 -- if it is by register.
 abbrev pub registers_in : Pin → List PinRegister

@@ -177,7 +177,7 @@ start_state fabric = record {
   words = fabric.start;
 }
 
--- the first entry: all pins are 0
+-- the first entry: all input ports are 0
 pub record IsFirst (fabric : Fabric) (entry : Entry) : Type 0 where
   pub entry_is : IsEntry fabric entry
   pub pins : entry.pins ≡ replicate (length (inputs_of fabric)) false

@@ -9,7 +9,7 @@ use Rattle.fabric_model.specs.declared.ram.RamCell.{RamCell}
 use Rattle.fabric_model.specs.declared.pin.Pin.{Pin}
 use Rattle.fabric_model.specs.declared.pin.GlobalNet.{GlobalNet}
 use Rattle.fabric_model.specs.declared.pin.GlobalFrom.{GlobalFrom}
-use Rattle.fabric_model.specs.declared.pin.GlobalFrom.TheVariants.{Pad, Fabout}
+use Rattle.fabric_model.specs.declared.pin.GlobalFrom.TheVariants.{Pad, Pll, Fabout}
 use Rattle.fabric_model.specs.Registers.{pin_keys}
 use Rattle.fabric_model.specs.Fabric.{Fabric, Buffer, flip_count}
 
@@ -70,6 +70,7 @@ pub record IsRamIn (nets : ℕ) (ram : RamCell) : Type 0 where
 
 abbrev pub IsFromIn : ℕ → GlobalFrom → Type 0
 IsFromIn nets (Pad x y n) = Unit {0}
+IsFromIn nets (Pll x y output) = Unit {0}
 IsFromIn nets (Fabout net) = net < nets
 
 pub record IsGlobalIn (nets : ℕ) (global : GlobalNet) : Type 0 where
@@ -94,6 +95,7 @@ pub record IsClosed (fabric : Fabric) : Type 0 where
   pub joins : All (IsJoinIn fabric.nets) fabric.joins
   pub buffers : All (IsBufferIn fabric.nets) fabric.buffers
   pub pins : All (IsPinIn fabric.nets) fabric.pins
+  pub plls : All (λ port. IsNetIn fabric.nets port.net) fabric.plls
   pub globals : All (IsGlobalIn fabric.nets) fabric.globals
   pub lcs : All (IsCellIn fabric.nets) fabric.lcs
   pub registers : All (IsRegisterIn fabric.nets) fabric.registers

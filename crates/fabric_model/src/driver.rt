@@ -1,7 +1,9 @@
 // What drives nets, and what uses clocks.
 
+use crate::pll::PllOutput;
+
 /// What drives a net. Drivers are ordered by kind, in the order below, then by tile (by row, then by column), then by `n`, `i` or `bit`.
-/// A `Global` is ordered by `g`, then by net, and a `Link` by `line`.
+/// A `Global` is ordered by `g`, then by net, a `Link` by `line`, and a `PllOut` by its PLL, then by the number of its output.
 #[derive(Clone, Copy, Debug, PartialEq, Eq)]
 pub enum Driver {
     /// The pad of a pin that never drives it, on its `io_n/D_IN_0`.
@@ -32,6 +34,8 @@ pub enum Driver {
     Data { x: u8, y: u8, n: u8 },
     /// The pad of a pin that drives it at times, on its second inner net.
     Pad { x: u8, y: u8, n: u8 },
+    /// An output of the PLL at (x, y), on `io_n/D_IN_0` of its pin, or on the net of `lock` or `sdo`.
+    PllOut { x: u32, y: u32, output: PllOutput },
 }
 
 /// What uses a clock at a tile.

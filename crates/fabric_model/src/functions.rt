@@ -91,7 +91,7 @@ pub fn is_any_on(
 }
 
 /// Whether a function of the database is of a kind, has a name that starts with `beginning`, and is on at the tile at (x, y).
-fn begins_and_is_on(
+pub fn begins_and_is_on(
     db: &ChipDb,
     image: &AnyImage,
     kind: TileKind,

@@ -1,6 +1,6 @@
 //! What an image sets of a chip database, and the rules of the fabric that it configures.
 //!
-//! The definitions are in specs/: which functions, links and extra bits an image sets, what its nets, cells, RAMs, pins and global
+//! The definitions are in specs/: which functions, links and extra bits an image sets, what its nets, cells, RAMs, pins, PLLs and global
 //! nets are, what drives each net and with which value, how the state changes at an event, and for which cause a database and an
 //! image aren't taken. They say what holds, and not in which order it is computed.
 //!
@@ -26,7 +26,9 @@ mod lut_inputs;
 mod on;
 mod options;
 mod pin;
+mod pin_nets;
 mod pin_signals;
+mod pll;
 mod ram;
 mod reads;
 mod register;
@@ -44,16 +46,18 @@ pub use clock_lut::{LutPass, pass_of};
 pub use driver::{ClockUser, Driver};
 pub use fault::LinkFault;
 pub use found_links::links;
-pub use functions::{are_set, function_bits, is_any_on, is_on, listed_bit};
+pub use functions::{are_set, begins_and_is_on, function_bits, is_any_on, is_on, listed_bit};
 pub use input_port::InputPort;
-pub use input_ports::{has_input, has_outside, input_place, inputs};
+pub use input_ports::{has_input, has_outside, input_place, inputs, inputs_with, pll_input};
 pub use law::narrow_rams_are_memories;
 pub use links_type::Links;
 pub use lut_inputs::{LutInputs, inputs_read};
 pub use on::{is_link_on, place_of};
 pub use options::FabricOptions;
 pub use pin::{GlobalFrom, GlobalNet, PadData, PadDrive, PadInput, Pin};
+pub use pin_nets::{io_net, is_pin_at, is_pll_place};
 pub use pin_signals::{PinSignals, registers_in};
+pub use pll::{PllOutput, PllSource, PllType};
 pub use ram::RamCell;
 pub use register::{LutTable, PinRegister, Register, RegisterKind};
 pub use short_text::ShortText;

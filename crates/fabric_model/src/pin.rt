@@ -2,6 +2,8 @@
 ghost use Rattle.std.specs.Prelude.{◌≡◌};
 ghost use Rattle.fabric_model.specs.Pins.{drives, is_switched};
 
+use crate::pll::PllOutput;
+
 /// When a pin drives its pad: bits 5 and 4 of its PIN_TYPE.
 #[derive(Clone, Copy, Debug, PartialEq, Eq)]
 pub enum PadDrive {
@@ -26,7 +28,7 @@ pub enum PadData {
     Double,
 }
 
-/// What `io_n/D_IN_0` is of the pad: bits 1 and 0 of the pin's PIN_TYPE.
+/// What `io_n/D_IN_0` is of the pad: bits 1 and 0 of the pin's PIN_TYPE, unless an output of a PLL has the pin.
 #[derive(Clone, Copy, Debug, PartialEq, Eq)]
 pub enum PadInput {
     /// The pad as it is.
@@ -35,6 +37,8 @@ pub enum PadInput {
     Registered,
     /// A latch may hold it.
     Latched,
+    /// It isn't the pin's: the input side of the pin belongs to a PLL.
+    Nothing,
 }
 
 /// Pin `n` of the io tile at (x, y).
@@ -46,11 +50,11 @@ pub struct Pin {
     pub drive: PadDrive,
     pub sends: PadData,
     pub takes: PadInput,
-    /// Whether `io_n/D_IN_0` is read.
+    /// Whether `io_n/D_IN_0` is the pin's, and is read.
     pub reads_0: bool,
-    /// Whether `io_n/D_IN_1` is read.
+    /// Whether `io_n/D_IN_1` is the pin's, and is read.
     pub reads_1: bool,
-    /// Whether it is the pad of a global network that is driven by its pad.
+    /// Whether it is the pad of a global network that is driven by it.
     pub is_global: bool,
     /// Whether the registers of the tile take their values at the opposite edge: `NegClk`.
     pub neg: bool,
@@ -111,6 +115,8 @@ pub struct GlobalNet {
 pub enum GlobalFrom {
     /// Pin `n` of the io tile at (x, y).
     Pad { x: u8, y: u8, n: u8 },
+    /// An output of the PLL at (x, y) whose pin has the pad.
+    Pll { x: u32, y: u32, output: PllOutput },
     /// The net `fabout` of an io tile.
     Fabout { net: u32 },
 }

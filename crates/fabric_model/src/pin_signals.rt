@@ -2,14 +2,15 @@
 ghost use Rattle.std.specs.Prelude.{◌≡◌, ◌+◌, ◌++◌, map, length, position, unwrap_or, IfOk, OnOk};
 ghost use Rattle.fabric_model.specs.PinTypes.{takes_by_register, has_register, is_double, is_by_register};
 ghost use Rattle.fabric_model.specs.Tiles.{item_if};
-ghost use Rattle.fabric_model.specs.InputPorts.{input_place};
+ghost use Rattle.fabric_model.specs.InputPorts.{input_place, pll_place};
 ghost use Rattle.fabric_model.specs.Registers.{registers_in, pin_keys, key_in, kind_number, is_same_key, register_in, data_signal, pad_signal, enable_signal};
 ghost use Rattle.fabric_model.specs.PinKeys.{key_of, input_registers_in, output_registers_in};
 
 use crate::input_port::InputPort;
-use crate::input_ports::{input_place, inputs};
+use crate::input_ports::{input_place, inputs, output_place};
 use crate::on::place_of;
 use crate::pin::{PadData, PadDrive, PadInput, Pin};
+use crate::pll::{PllOutput, PllSource};
 use crate::register::PinRegister;
 use crate::signal::{Signal, net_or_0, net_or_1};
 use std::alloc::{AllocError, Global};
@@ -183,11 +184,11 @@ fn key_place(keys: &[PinKey], key: PinKey) -> usize
     place_in(keys, key).unwrap_or(keys.len())
 }
 
-/// An index that is that far behind another, as it is kept.
+/// An index that is that far after another, as it is kept.
 ///
 /// # Errors
 /// `AllocError` if it needs more than 32 bits.
-fn index_behind(first: usize, place: usize) -> Result<u32, AllocError>
+fn index_after(first: usize, place: usize) -> Result<u32, AllocError>
     ensures { IfOk result (λ index. index ≡ first + place) }
 {
     place_of(first.checked_add(place).ok_or(AllocError)?)
@@ -195,11 +196,13 @@ fn index_behind(first: usize, place: usize) -> Result<u32, AllocError>
 
 // ---- signals
 
-/// What the signals of pins are found by. Contracts see the number of flip-flops, which come before the registers of pins, and the pins.
+/// What the signals of pins and PLLs are found by. Contracts see the number of flip-flops, which come before the registers of pins, the pins,
+/// and the outputs of PLLs that are input ports.
 #[derive(Drop)]
 pub struct PinSignals<'a> {
     flips: usize,
     pins: &'a [Pin],
+    plls: &'a [PllSource],
     /// The input ports of the pins.
     inputs: Vec<InputPort>,
     /// The registers of the pins.
@@ -212,25 +215,32 @@ impl<'a> Model for PinSignals<'a> {
 
     ghost Value = { SignalsOf };
 
-    ghost view = { λ signals. record { flips = signals.flips; pins = signals.pins.now } };
+    ghost view = { λ signals. record { flips = signals.flips; pins = signals.pins.now; plls = signals.plls.now } };
 
     ghost invariant = { λ signals. AreSignals signals.pins.now signals.inputs.items (map key_of signals.keys.items) };
 }
 
 impl<'a> PinSignals<'a> {
-    /// What the signals of these pins are found by. `flips` is the number of flip-flops.
+    /// What the signals of these pins and PLLs are found by. `flips` is the number of flip-flops.
     ///
     /// # Errors
     /// `AllocError` if memory is out, and for no other cause.
-    pub fn new(alloc: Global, flips: usize, pins: &'a [Pin]) -> Result<PinSignals<'a>, AllocError>
+    pub fn new(
+        alloc: Global,
+        flips: usize,
+        pins: &'a [Pin],
+        plls: &'a [PllSource],
+    ) -> Result<PinSignals<'a>, AllocError>
         ensures flips { IfOk result (λ signals. signals.flips ≡ flips) }
         ensures pins { IfOk result (λ signals. signals.pins ≡ pins.now) }
+        ensures plls { IfOk result (λ signals. signals.plls ≡ plls.now) }
     {
         let inputs = inputs(alloc, pins)?;
         let keys = pin_keys(alloc, pins)?;
         Ok(PinSignals {
             flips,
             pins,
+            plls,
             inputs,
             keys,
         })
@@ -244,7 +254,7 @@ impl<'a> PinSignals<'a> {
         ensures { IfOk result (λ signal. signal ≡ register_in self.now.flips self.now.pins pin register) }
     {
         let place = key_place(&self.keys, key_in(pin, register));
-        Ok(Signal::Register(index_behind(self.flips, place)?))
+        Ok(Signal::Register(index_after(self.flips, place)?))
     }
 
     /// What a pin drives its pad with.
@@ -269,6 +279,16 @@ impl<'a> PinSignals<'a> {
         ensures { IfOk result (λ place. place ≡ input_place self.now.pins port) }
     {
         place_of(input_place(&self.inputs, port))
+    }
+
+    /// The index of an output of a PLL among all input ports.
+    ///
+    /// # Errors
+    /// `AllocError` if it needs more than 32 bits.
+    pub fn pll_place(&self, x: u32, y: u32, output: PllOutput) -> Result<u32, AllocError>
+        ensures { IfOk result (λ place. place ≡ pll_place self.now.pins self.now.plls x y output) }
+    {
+        index_after(self.inputs.len(), output_place(self.plls, x, y, output))
     }
 
     /// The pad of a pin.

@@ -76,7 +76,8 @@ impl ShortText {
     /// Appends a number, in decimal.
     pub fn push_number(&mut self, number: u32)
         requires { length self.old + 10 ≤ 40 }
-        ensures { self.new ≡ self.old ++ decimal number }
+        ensures pushed { self.new ≡ self.old ++ decimal number }
+        ensures short { length self.new ≤ length self.old + 10 }
     {
         self.push(Buffer::new().format(number).as_bytes());
     }

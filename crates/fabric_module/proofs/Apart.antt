@@ -1,11 +1,13 @@
 -- Names with other numbers are apart, and names of parts of several kinds begin differently.
-use Rattle.std.proofs.Common.{◌≡◌, ℕ, ◌^◌, ◌<◌, List, [], ◌∷◌, ◌++◌, refl, sym, ap, ap₂, ◌∙◌, subst, arith, append_assoc}
+use Rattle.std.proofs.Common.{◌≡◌, ℕ, ◌^◌, ◌<◌, List, [], ◌∷◌, ◌++◌, get_or, refl, sym, ap, ap₂, ◌∙◌, subst, arith, append_assoc}
 use Rattle.std.specs.Prelude.{Bool, true, false, bytes_eq, codes, decimal, if◌then◌else◌}
 use Rattle.std.specs.Char.{digit_value}
 use Rattle.std.specs.Str.Parse.{AllDigits}
 use Rattle.std.proofs.lemmas.Fmt.{decimal_injective, decimal_is_IsNumeral}
 use Rattle.fabric_model.specs.declared.input_port.InputPort.{InputPort}
-use Rattle.fabric_model.specs.declared.input_port.InputPort.TheVariants.{Pad, Outside}
+use Rattle.fabric_model.specs.declared.input_port.InputPort.TheVariants.{Pad, Outside, Pll}
+use Rattle.fabric_model.specs.declared.pll.PllOutput.{PllOutput}
+use Rattle.fabric_model.specs.declared.pll.PllOutput.TheVariants as output
 use Rattle.fabric_model.specs.declared.register.PinRegister.TheVariants as kind
 use Rattle.fabric_model.specs.declared.register.RegisterKind.{RegisterKind}
 use Rattle.fabric_model.specs.declared.register.RegisterKind.TheVariants.{FlipFlop, OfPin}
@@ -13,7 +15,7 @@ use Rattle.fabric_model.specs.declared.register.Register.{Register}
 use Rattle.fabric_model.specs.declared.ram.RamCell.{RamCell}
 use Rattle.fabric_model.specs.declared.pin.Pin.{Pin}
 use Rattle.fabric_model.specs.Outputs.{Output as OutputPort}
-use Rattle.fabric_module.specs.Names.{two_numbers, three_numbers, pad_name, port_name, enable_name, outside_name, input_port_name, output_name, register_prefix, register_number, register_name, read_name, memory_name, wire_name}
+use Rattle.fabric_module.specs.Names.{two_numbers, three_numbers, pad_name, port_name, enable_name, outside_name, output_word, pll_name, input_port_name, output_name, register_prefix, register_number, register_name, read_name, memory_name, wire_name}
 
 -- ---- numbers in names
 
@@ -82,6 +84,34 @@ three-tails x y n a b c tail other of_x of_y of_n of_a of_b of_c same =
     let last = cut-same (decimal n) (decimal c) tail other (number-digits n of_n) (number-digits c of_c) rest.1 in
     ap₂ (λ first more. first ++ 95 ∷ more) cut.0 (ap₂ (λ first more. first ++ 95 ∷ more) rest.0 last.0)
 
+-- ---- outputs of PLLs
+
+word-same : (one two : PllOutput) → output_word one ≡ output_word two → one ≡ two
+word-same output.A output.A same = refl
+word-same output.A output.B same = let first : 97 ≡ 98 = ap (λ word. get_or word 0 0) same in absurd (omega (arith, first))
+word-same output.A output.Lock same = let first : 97 ≡ 108 = ap (λ word. get_or word 0 0) same in absurd (omega (arith, first))
+word-same output.A output.Sdo same = let first : 97 ≡ 115 = ap (λ word. get_or word 0 0) same in absurd (omega (arith, first))
+word-same output.B output.A same = let first : 98 ≡ 97 = ap (λ word. get_or word 0 0) same in absurd (omega (arith, first))
+word-same output.B output.B same = refl
+word-same output.B output.Lock same = let first : 98 ≡ 108 = ap (λ word. get_or word 0 0) same in absurd (omega (arith, first))
+word-same output.B output.Sdo same = let first : 98 ≡ 115 = ap (λ word. get_or word 0 0) same in absurd (omega (arith, first))
+word-same output.Lock output.A same = let first : 108 ≡ 97 = ap (λ word. get_or word 0 0) same in absurd (omega (arith, first))
+word-same output.Lock output.B same = let first : 108 ≡ 98 = ap (λ word. get_or word 0 0) same in absurd (omega (arith, first))
+word-same output.Lock output.Lock same = refl
+word-same output.Lock output.Sdo same = let first : 108 ≡ 115 = ap (λ word. get_or word 0 0) same in absurd (omega (arith, first))
+word-same output.Sdo output.A same = let first : 115 ≡ 97 = ap (λ word. get_or word 0 0) same in absurd (omega (arith, first))
+word-same output.Sdo output.B same = let first : 115 ≡ 98 = ap (λ word. get_or word 0 0) same in absurd (omega (arith, first))
+word-same output.Sdo output.Lock same = let first : 115 ≡ 108 = ap (λ word. get_or word 0 0) same in absurd (omega (arith, first))
+word-same output.Sdo output.Sdo same = refl
+
+pub pll-same : (x y a b : ℕ) (one two : PllOutput) → IsSmall x → IsSmall y → IsSmall a → IsSmall b → pll_name x y one ≡ pll_name a b two → (x ≡ a) × (y ≡ b) × (one ≡ two)
+unfolding pll_name
+pll-same x y a b one two of_x of_y of_a of_b same =
+    let behind : decimal x ++ 95 ∷ (decimal y ++ 95 ∷ output_word one) ≡ decimal a ++ 95 ∷ (decimal b ++ 95 ∷ output_word two) = cc in
+    let cut = cut-same (decimal x) (decimal a) (decimal y ++ 95 ∷ output_word one) (decimal b ++ 95 ∷ output_word two) (number-digits x of_x) (number-digits a of_a) behind in
+    let rest = cut-same (decimal y) (decimal b) (output_word one) (output_word two) (number-digits y of_y) (number-digits b of_b) cut.1 in
+    (decimal_injective x a of_x of_a cut.0, decimal_injective y b of_y of_b rest.0, word-same one two rest.1)
+
 -- ---- how names begin
 
 by-kind : (P : List ℕ → Type 0) → ((rest : List ℕ) → P (102 ∷ rest)) → ((rest : List ℕ) → P (112 ∷ rest)) → ((rest : List ℕ) → P (99 ∷ rest))
@@ -110,10 +140,11 @@ by-enable P each false pin = each (three_numbers pin.x pin.y pin.n)
 pub output-begins : (P : List ℕ → Type 0) → ((rest : List ℕ) → P (codes "io_" ++ rest)) → (output : OutputPort) → P (output_name output)
 output-begins P each output = by-enable P each output.enable output.pin
 
-pub input-begins : (P : List ℕ → Type 0) → ((rest : List ℕ) → P (codes "io_" ++ rest)) → (port : InputPort) → P (input_port_name port)
-unfolding pad_name outside_name
-input-begins P each (Pad x y n) = each (three_numbers x y n)
-input-begins P each (Outside x y n) = each (three_numbers x y n ++ codes "_in")
+pub input-begins : (P : List ℕ → Type 0) → ((rest : List ℕ) → P (codes "io_" ++ rest)) → ((rest : List ℕ) → P (codes "pll_" ++ rest)) → (port : InputPort) → P (input_port_name port)
+unfolding pad_name outside_name pll_name
+input-begins P each of_pll (Pad x y n) = each (three_numbers x y n)
+input-begins P each of_pll (Outside x y n) = each (three_numbers x y n ++ codes "_in")
+input-begins P each of_pll (Pll x y output) = of_pll (decimal x ++ (codes "_" ++ (decimal y ++ (codes "_" ++ output_word output))))
 
 -- a name that begins so is no register's, RAM's or wire's
 pub io-no_register : (rest : List ℕ) (register : Register) → bytes_eq (codes "io_" ++ rest) (register_name register) ≡ false
@@ -130,6 +161,32 @@ io-no_memory rest ram = refl
 pub io-no_wire : (rest : List ℕ) (class : ℕ) → bytes_eq (codes "io_" ++ rest) (wire_name class) ≡ false
 unfolding wire_name
 io-no_wire rest class = refl
+
+pll-no_kind : (rest : List ℕ) (register : RegisterKind) (more : List ℕ) → bytes_eq (codes "pll_" ++ rest) (register_prefix register ++ more) ≡ false
+pll-no_kind rest (FlipFlop i) more = refl
+pll-no_kind rest (OfPin n kind.Input) more = refl
+pll-no_kind rest (OfPin n kind.SecondInput) more = refl
+pll-no_kind rest (OfPin n kind.InputClockEnable) more = refl
+pll-no_kind rest (OfPin n kind.Output) more = refl
+pll-no_kind rest (OfPin n kind.SecondOutput) more = refl
+pll-no_kind rest (OfPin n kind.OutputClockEnable) more = refl
+pll-no_kind rest (OfPin n kind.OutputEnable) more = refl
+
+pub pll-no_register : (rest : List ℕ) (register : Register) → bytes_eq (codes "pll_" ++ rest) (register_name register) ≡ false
+unfolding register_name
+pll-no_register rest register = pll-no_kind rest register.kind (three_numbers register.x register.y (register_number register.kind))
+
+pub pll-no_read : (rest : List ℕ) (ram : RamCell) → bytes_eq (codes "pll_" ++ rest) (read_name ram) ≡ false
+unfolding read_name
+pll-no_read rest ram = refl
+
+pub pll-no_memory : (rest : List ℕ) (ram : RamCell) → bytes_eq (codes "pll_" ++ rest) (memory_name ram) ≡ false
+unfolding memory_name
+pll-no_memory rest ram = refl
+
+pub pll-no_wire : (rest : List ℕ) (class : ℕ) → bytes_eq (codes "pll_" ++ rest) (wire_name class) ≡ false
+unfolding wire_name
+pll-no_wire rest class = refl
 
 pub register-no_wire : (register : Register) (class : ℕ) → bytes_eq (register_name register) (wire_name class) ≡ false
 unfolding wire_name
@@ -148,10 +205,10 @@ unfolding memory_name
 register-no_memory register ram = register-begins (λ name. bytes_eq name (memory_name ram) ≡ false) (λ rest. refl) (λ rest. refl) (λ rest. refl) register
 
 pub input-no_register : (port : InputPort) (register : Register) → bytes_eq (input_port_name port) (register_name register) ≡ false
-input-no_register port register = input-begins (λ name. bytes_eq name (register_name register) ≡ false) (λ rest. io-no_register rest register) port
+input-no_register port register = input-begins (λ name. bytes_eq name (register_name register) ≡ false) (λ rest. io-no_register rest register) (λ rest. pll-no_register rest register) port
 
 pub input-no_wire : (port : InputPort) (class : ℕ) → bytes_eq (input_port_name port) (wire_name class) ≡ false
-input-no_wire port class = input-begins (λ name. bytes_eq name (wire_name class) ≡ false) (λ rest. io-no_wire rest class) port
+input-no_wire port class = input-begins (λ name. bytes_eq name (wire_name class) ≡ false) (λ rest. io-no_wire rest class) (λ rest. pll-no_wire rest class) port
 
 pub output-no_register : (output : OutputPort) (register : Register) → bytes_eq (output_name output) (register_name register) ≡ false
 output-no_register output register = output-begins (λ name. bytes_eq name (register_name register) ≡ false) (λ rest. io-no_register rest register) output

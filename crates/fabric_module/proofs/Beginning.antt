@@ -276,7 +276,7 @@ module _ (fabric : Fabric) (within : IsWithin fabric) (writable : IsWritable fab
   begin-holding : Holding fabric (start_state fabric) (replicate (length (inputs_of fabric)) false)
       (flat_map input_start (ports_of fabric)) (flat_map register_start (items_of fabric order)) (flat_map word_start (items_of fabric order))
   begin-holding = record {
-    input = subst (λ list. HasValues list (map input_port_name (inputs_of fabric)) (replicate (length (inputs_of fabric)) false)) (sym (inputs-start fabric.pins))
+    input = subst (λ list. HasValues list (map input_port_name (inputs_of fabric)) (replicate (length (inputs_of fabric)) false)) (sym (inputs-start fabric))
         (constant-holds input_port_name false (inputs_of fabric));
     register = subst (λ list. HasValues list (map register_name fabric.registers) (replicate (length fabric.registers) false)) (sym start-registers)
         (constant-holds register_name false fabric.registers);

@@ -29,7 +29,7 @@ use Rattle.fabric_model.specs.declared.register.PinRegister.{PinRegister}
 use Rattle.fabric_model.specs.declared.register.PinRegister.TheVariants as kind
 use Rattle.fabric_model.specs.declared.register.Register.{Register}
 use Rattle.fabric_model.specs.PinTypes.{takes_pad, has_table, has_register, is_double, is_by_register, takes_by_register}
-use Rattle.fabric_model.specs.InputPorts.{inputs_among, input_place}
+use Rattle.fabric_model.specs.InputPorts.{inputs_among, inputs_with, input_place, pll_place}
 use Rattle.fabric_model.specs.Registers.{table_of, register_of, registers_of, flips_among, registers_in, kind_number, pin_register, pin_registers_of}
 use Rattle.fabric_model.specs.On.{is_function_on}
 use Rattle.fabric_model.specs.Nets.{ending_in}
@@ -37,17 +37,18 @@ use Rattle.fabric_model.specs.declared.ram.RamCell.{RamCell}
 use Rattle.fabric_model.specs.declared.pin.Pin.{Pin}
 use Rattle.fabric_model.specs.declared.pin.GlobalNet.{GlobalNet}
 use Rattle.fabric_model.specs.declared.pin.GlobalFrom.{GlobalFrom}
-use Rattle.fabric_model.specs.declared.pin.GlobalFrom.TheVariants.{Pad, Fabout}
+use Rattle.fabric_model.specs.declared.pin.GlobalFrom.TheVariants.{Pad, Pll, Fabout}
+use Rattle.fabric_model.specs.declared.pll.PllSource.{PllSource}
 use Rattle.fabric_model.specs.declared.driver.Driver.{Driver}
 use Rattle.fabric_model.specs.Tiles.{over_grid, each_below, item_if}
 use Rattle.fabric_model.specs.Cells.{cell_bits, cell_with, used_cell, cells_at, cells_of}
 use Rattle.fabric_model.specs.Rams.{mode_of, first_data_bit, is_ram_used, ram_at, rams_of, start_word, start_words}
 use Rattle.fabric_model.specs.Pins.{PinPlace, pin_places, is_port, drives, is_pad_read, has_input, has_outside, pin_with, port_at, pins_of}
 use Rattle.fabric_model.specs.Fabric.{Fabric, numbered, inputs_of, fabric_with}
-use Rattle.fabric_model.specs.Drivers.{Rule, Drive, drives_if, pad_of, pin_drives, is_read_back, back_drives, lut_drives, drives_by, flip_driver, flip_drives, lout_drives, carry_drives, set_drives, read_data_rule, ram_drive, ram_drives, global_rule, global_drives, buffer_drives, input_driver, input_drives, second_driver, second_drives, data_table, data_drives, pad_table, pad_drives, drives_of}
+use Rattle.fabric_model.specs.Drivers.{Rule, Drive, drives_if, pad_of, pin_drives, is_read_back, back_drives, lut_drives, drives_by, flip_driver, flip_drives, lout_drives, carry_drives, set_drives, read_data_rule, ram_drive, ram_drives, global_rule, global_drives, buffer_drives, input_driver, input_drives, second_driver, second_drives, data_table, data_drives, pad_table, pad_drives, pll_drives, drives_of}
 use Rattle.fabric_model.specs.Drivers.Rule.{pin_bit, constant, input, table_entry, majority_of, register_bit, read_bit, copied}
 use Rattle.fabric_model.specs.Within.{IsClosed}
-use Rattle.fabric_model.proofs.Signals.{pad-port-there, back-there, data_table-there, pad_table-there, cell-signals}
+use Rattle.fabric_model.proofs.Signals.{among-first, pll-port-there, output-itself, pad-port-there, back-there, data_table-there, pad_table-there, cell-signals}
 use Rattle.fabric_model.proofs.OneValue.{each_below-length}
 use Rattle.fabric_model.proofs.Within.{All-flat_map, All-item_if, All-if, if-when, All-single, All-over_tiles, All-numbered, places-below}
 use Rattle.fabric_module.specs.Names.{two_numbers, three_numbers, pad_name, port_name, enable_name, outside_name, input_port_name, pin_prefix, register_name, read_name, memory_name}
@@ -563,10 +564,11 @@ module _ (db : Database) (image : Configuration) where
 
 -- ---- drivers name what is there
 
--- a pad is one of the input ports
-abbrev pub IsPadIn : List Pin → GlobalFrom → Type 0
-IsPadIn pins (Pad x y n) = input_place pins (PadPort x y n) < length (inputs_among pins)
-IsPadIn pins (Fabout net) = Unit {0}
+-- a pad, or an output of a PLL, is one of the input ports
+abbrev pub IsPadIn : List Pin → List PllSource → GlobalFrom → Type 0
+IsPadIn pins plls (Pad x y n) = input_place pins (PadPort x y n) < length (inputs_among pins)
+IsPadIn pins plls (Pll x y output) = pll_place pins plls x y output < length (inputs_with pins plls)
+IsPadIn pins plls (Fabout net) = Unit {0}
 
 module _ (fabric : Fabric) where
   IsNamedIn : Drive → Type 0
@@ -602,17 +604,23 @@ module _ (fabric : Fabric) where
       (λ port few. drives_if-there _ (read_data_rule place.0 place.1.read port.0) port.1 (data-there place.0 place.1.read port.0 there.0 few)) (numbered place.1.rdata)
       (All-weaker (λ (port : ℕ × Option ℕ). port.0 < 0 + length place.1.rdata) (λ (port : ℕ × Option ℕ). port.0 < 16) (λ port found. omega (arith, found, there.1)) (numbered place.1.rdata) (places-below 0 place.1.rdata))
 
-  from-there : (from : GlobalFrom) → IsPadIn fabric.pins from → IsPlaceIn fabric (global_rule fabric.pins from)
-  from-there (Pad x y n) there = there
+  from-there : (from : GlobalFrom) → IsPadIn fabric.pins fabric.plls from → IsPlaceIn fabric (global_rule fabric.pins fabric.plls from)
+  from-there (Pad x y n) there = among-first fabric _ there
+  from-there (Pll x y output) there = there
   from-there (Fabout net) there = tt
 
-  global-there : (global : GlobalNet) → IsPadIn fabric.pins global.from → All IsNamedIn (global_drives fabric.pins global)
-  global-there global there = drives_if-there _ (global_rule fabric.pins global.from) (Some global.net) (from-there global.from there)
+  global-there : (global : GlobalNet) → IsPadIn fabric.pins fabric.plls global.from → All IsNamedIn (global_drives fabric.pins fabric.plls global)
+  global-there global there = drives_if-there _ (global_rule fabric.pins fabric.plls global.from) (Some global.net) (from-there global.from there)
+
+  pll-there : (port : PllSource) → Contains fabric.plls port → All IsNamedIn (pll_drives fabric.pins fabric.plls port)
+  pll-there port there =
+      drives_if-there _ (pin_bit (pll_place fabric.pins fabric.plls port.x port.y port.output)) port.net
+      (pll-port-there fabric.pins fabric.plls port.x port.y port.output port there (output-itself port))
 
   then-there : (first second : List Drive) → All IsNamedIn first → All IsNamedIn second → All IsNamedIn (first ++ second)
   then-there first second = All-append IsNamedIn first second
 
-  module _ (closed : IsClosed fabric) (pads : All (λ (global : GlobalNet). IsPadIn fabric.pins global.from) fabric.globals) (ports : All (λ ram. length ram.rdata ≡ 16) fabric.rams) where
+  module _ (closed : IsClosed fabric) (pads : All (λ (global : GlobalNet). IsPadIn fabric.pins fabric.plls global.from) fabric.globals) (ports : All (λ ram. length ram.rdata ≡ 16) fabric.rams) where
     each-pin : (given : Pin → List Drive) → ((pin : Pin) → Contains fabric.pins pin → All IsNamedIn (given pin)) → All IsNamedIn (flat_map given fabric.pins)
     each-pin given each = each-there (Contains fabric.pins) given each fabric.pins (All-contains_itself fabric.pins)
 
@@ -625,7 +633,7 @@ module _ (fabric : Fabric) where
         if-when IsNamedIn (not (drives pin) && takes_pad pin.takes) _
         (λ is. let both = and_parts (not (drives pin)) (takes_pad pin.takes) is in
         drives_if-there _ (pin_bit (input_place fabric.pins (PadPort pin.x pin.y pin.n))) pin.din_0
-        (pad-port-there fabric.pins pin there (and_from (not (drives pin)) (takes_pad pin.takes || is_pad_read pin) both.0 (or_left (takes_pad pin.takes) (is_pad_read pin) both.1))))
+        (among-first fabric _ (pad-port-there fabric.pins pin there (and_from (not (drives pin)) (takes_pad pin.takes || is_pad_read pin) both.0 (or_left (takes_pad pin.takes) (is_pad_read pin) both.1)))))
 
     pin-back : (pin : Pin) → Contains fabric.pins pin → All IsNamedIn (back_drives fabric pin)
     pin-back pin there =
@@ -651,11 +659,13 @@ module _ (fabric : Fabric) where
         (then-there _ _ (any-there set_drives (λ set. drives_if-there _ (constant true) (Some set.net) tt) fabric.sets)
         (then-there _ _ (each-there (λ (place : ℕ × RamCell). (place.0 < 0 + length fabric.rams) × (length place.1.rdata ≡ 16)) ram_drives (λ place found. ram-there place (omega (arith, found.0), found.1)) (numbered fabric.rams)
         (All-pair (λ (place : ℕ × RamCell). place.0 < 0 + length fabric.rams) (λ (place : ℕ × RamCell). length place.1.rdata ≡ 16) (numbered fabric.rams) (places-below 0 fabric.rams) (All-numbered (λ ram. length ram.rdata ≡ 16) 0 fabric.rams ports)))
-        (then-there _ _ (each-there (λ (global : GlobalNet). IsPadIn fabric.pins global.from) (global_drives fabric.pins) global-there fabric.globals pads)
+        (then-there _ _ (each-there (λ (global : GlobalNet). IsPadIn fabric.pins fabric.plls global.from) (global_drives fabric.pins fabric.plls) global-there fabric.globals pads)
         (then-there _ _ (any-there buffer_drives (λ buffer. drives_if-there _ (copied buffer.src) (Some buffer.dst) tt) fabric.buffers)
         (then-there _ _ (each-register input_drives (λ place there. by-there place (input_driver place.1 place.1.kind) there))
         (then-there _ _ (each-register second_drives (λ place there. by-there place (second_driver place.1 place.1.kind) there))
-        (then-there _ _ (each-pin (data_drives fabric) pin-data) (each-pin (pad_drives fabric) pin-pad)))))))))))))
+        (then-there _ _ (each-pin (data_drives fabric) pin-data)
+        (then-there _ _ (each-pin (pad_drives fabric) pin-pad)
+        (each-there (Contains fabric.plls) (pll_drives fabric.pins fabric.plls) pll-there fabric.plls (All-contains_itself fabric.plls)))))))))))))))
 
     pub drives-there : (drive : Drive) → Contains (drives_of fabric) drive → IsPlaceIn fabric drive.rule
     unfolding IsNamedIn

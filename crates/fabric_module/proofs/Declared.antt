@@ -19,7 +19,7 @@ use Rattle.fabric_model.proofs.Apart.{All-every}
 use Rattle.fabric_module.specs.Names.{register_name, read_name, memory_name}
 use Rattle.fabric_module.specs.Written.{register_item, read_register, ram_memory}
 use Rattle.fabric_module.proofs.Lists.{Apart, names-absent, map-map}
-use Rattle.fabric_module.proofs.Apart.{io-no_register, io-no_read, io-no_memory, register-no_read, register-no_memory, read-no_memory}
+use Rattle.fabric_module.proofs.Apart.{io-no_register, pll-no_register, io-no_read, pll-no_read, io-no_memory, pll-no_memory, register-no_read, register-no_memory, read-no_memory}
 use Rattle.fabric_module.proofs.Ports.{ports_of, port_label, ports-absent}
 use Rattle.fabric_module.proofs.Settled.{IsWritable}
 use Rattle.fabric_module.proofs.Grown.{grown, grown-section, grown-declared, grown-assigned, grown-started, Grows, Grows-append}
@@ -152,7 +152,7 @@ module _ (fabric : Fabric) (writable : IsWritable fabric) (named : AreNamed fabr
       grows-declared 2 sort.Register register_name register_item registers-one fabric.registers scope-ports (omega (arith, ports-low))
       named.registers writable.registers
       (All-every (λ register. All (λ n. bytes_eq n (register_name register) ≡ false) (names_of scope-ports.declared)) (λ register.
-      subst (All (λ n. bytes_eq n (register_name register) ≡ false)) (sym ports-names) (ports-absent fabric.pins (register_name register) (λ rest. io-no_register rest register))) fabric.registers)
+      subst (All (λ n. bytes_eq n (register_name register) ≡ false)) (sym ports-names) (ports-absent fabric (register_name register) (λ rest. io-no_register rest register) (λ rest. pll-no_register rest register))) fabric.registers)
 
   scope-registers : Scope
   scope-registers = fold grown scope-ports (map register_item fabric.registers)
@@ -174,7 +174,7 @@ module _ (fabric : Fabric) (writable : IsWritable fabric) (named : AreNamed fabr
       (All-every (λ ram. All (λ n. bytes_eq n (read_name ram) ≡ false) (names_of scope-registers.declared)) (λ ram.
       subst (All (λ n. bytes_eq n (read_name ram) ≡ false)) (sym registers-names)
       (All-append (λ n. bytes_eq n (read_name ram) ≡ false) (map port_label (ports_of fabric)) (map register_name fabric.registers)
-      (ports-absent fabric.pins (read_name ram) (λ rest. io-no_read rest ram))
+      (ports-absent fabric (read_name ram) (λ rest. io-no_read rest ram) (λ rest. pll-no_read rest ram))
       (names-absent register_name fabric.registers (read_name ram) (λ register. register-no_read register ram)))) fabric.rams)
 
   scope-reads : Scope
@@ -198,7 +198,7 @@ module _ (fabric : Fabric) (writable : IsWritable fabric) (named : AreNamed fabr
       subst (All (λ n. bytes_eq n (memory_name ram) ≡ false)) (sym reads-names)
       (All-append (λ n. bytes_eq n (memory_name ram) ≡ false) (map port_label (ports_of fabric) ++ map register_name fabric.registers) (map read_name fabric.rams)
       (All-append (λ n. bytes_eq n (memory_name ram) ≡ false) (map port_label (ports_of fabric)) (map register_name fabric.registers)
-      (ports-absent fabric.pins (memory_name ram) (λ rest. io-no_memory rest ram))
+      (ports-absent fabric (memory_name ram) (λ rest. io-no_memory rest ram) (λ rest. pll-no_memory rest ram))
       (names-absent register_name fabric.registers (memory_name ram) (λ register. register-no_memory register ram)))
       (names-absent read_name fabric.rams (memory_name ram) (λ other. read-no_memory other ram)))) fabric.rams)
 

@@ -15,6 +15,7 @@ use Rattle.fabric_model.specs.declared.pin.GlobalNet.{GlobalNet}
 use Rattle.fabric_model.specs.declared.register.Register.{Register}
 use Rattle.fabric_model.specs.Rams.{rams_of}
 use Rattle.fabric_model.specs.Outputs.{outputs_of}
+use Rattle.fabric_model.specs.Pins.{pins_of}
 use Rattle.fabric_model.specs.Fabric.{inputs_of, fabric_with, reading_all}
 use Rattle.fabric_model.specs.declared.options.FabricOptions.{FabricOptions}
 use Rattle.fabric_model.specs.Steps.{Event, Entry, IsRun}
@@ -34,12 +35,13 @@ use Rattle.fabric_module.proofs.Settled.{IsWritable}
 use Rattle.fabric_module.proofs.Beginning.{IsPorted}
 use Rattle.fabric_module.proofs.Configured.{IsPadIn, ports-apart, registers-apart, rams-apart, read-places, memory-places, fabric-started, drives-there}
 use Rattle.fabric_module.proofs.Pads.{pads-there}
+use Rattle.fabric_module.proofs.Plls.{with_plls-apart}
 use Rattle.fabric_module.proofs.Headline.{module-is-fabric}
 use Rattle.fabric_module.proofs.Whole.{module-well_formed}
 use Rattle.fabric_module.proofs.Shapely.{fabric-shapely}
 
 module _ (options : FabricOptions) (db : Database) (image : Configuration) (fit : IsFit db) (few : (fabric_with options db image).nets ≤ 2 ^ 64) (none : design_fault options db image ≡ None) where
-  pads : All (λ (global : GlobalNet). IsPadIn (fabric_with options db image).pins global.from) (fabric_with options db image).globals
+  pads : All (λ (global : GlobalNet). IsPadIn (fabric_with options db image).pins (fabric_with options db image).plls global.from) (fabric_with options db image).globals
   unfolding fabric_with
   pads = pads-there options db image fit (design-taken options db image none)
 
@@ -51,7 +53,7 @@ module _ (options : FabricOptions) (db : Database) (image : Configuration) (fit 
     places = drives-there (fabric_with options db image) (fabric-in db image fit options) pads
         (All-weaker IsPorted (λ ram. length ram.rdata ≡ 16) (λ ram ported. ported.read) (rams_of db image) (fabric-started db image options).each_port);
     tables = registers-signals db image fit options;
-    ports = ports-apart db image options.all_pins;
+    ports = with_plls-apart db image options.all_pins fit (pins_of options.all_pins db image) (ports-apart db image options.all_pins);
     registers = registers-apart db image options;
     reads = rams-apart db image read_name read-places;
     memories = rams-apart db image memory_name memory-places;
@@ -122,4 +124,4 @@ module _ (options : FabricOptions) (db : Database) (image : Configuration) (fit 
   pub design-well_formed : (order : List ℕ) → IsWriteOrder (wiring_of (fabric_with options db image)) order → (name : List ℕ) → IsName name
       → IsModule (module_of (fabric_with options db image) order name)
   design-well_formed order ordered =
-      module-well_formed (fabric_with options db image) (fabric-within db image fit options) fabric-writable (fabric-started db image options) (fabric-shapely db image options) order ordered
+      module-well_formed (fabric_with options db image) (fabric-within db image fit options) fabric-writable (fabric-started db image options) (fabric-shapely db image options fit) order ordered

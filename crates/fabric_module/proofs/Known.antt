@@ -21,7 +21,7 @@ use Rattle.graph_order.proofs.OneOrder.{has-none, has-cases}
 use Rattle.fabric_module.specs.Names.{input_port_name, output_name, register_name, read_name, memory_name, wire_name}
 use Rattle.fabric_module.specs.Written.{input_port}
 use Rattle.fabric_module.proofs.Lists.{Apart, value_in-front, value_in-behind, names-absent, map-map, All-pick}
-use Rattle.fabric_module.proofs.Apart.{io-no_register, io-no_read, io-no_memory, io-no_wire, register-no_read, register-no_memory, register-no_wire, read-no_memory}
+use Rattle.fabric_module.proofs.Apart.{io-no_register, io-no_read, io-no_memory, io-no_wire, pll-no_register, pll-no_read, pll-no_memory, pll-no_wire, register-no_read, register-no_memory, register-no_wire, read-no_memory}
 use Rattle.fabric_module.proofs.Ports.{ports_of, port_label, port_of, ports-inputs, outputs-ports, All-unmap, ports-absent}
 use Rattle.fabric_module.proofs.Settled.{IsWritable}
 use Rattle.fabric_module.proofs.Declared.{AreNamed, StateLeft}
@@ -150,11 +150,11 @@ module _ (fabric : Fabric) (writable : IsWritable fabric) (named : AreNamed fabr
       (sorted-front port_label port_sort (ports ++ registers) words (ports_of fabric)
       (sorted-front port_label port_sort ports registers (ports_of fabric) (sorted-there port_label port_sort (ports_of fabric) writable.ports))))
 
-  no-port : (q : List ℕ) → ((rest : List ℕ) → bytes_eq (codes "io_" ++ rest) q ≡ false) → NoName ports q
+  no-port : (q : List ℕ) → ((rest : List ℕ) → bytes_eq (codes "io_" ++ rest) q ≡ false) → ((rest : List ℕ) → bytes_eq (codes "pll_" ++ rest) q ≡ false) → NoName ports q
   unfolding ports
-  no-port q away =
+  no-port q away other =
       subst (All (λ n. bytes_eq n q ≡ false)) (sym (map-map (λ port. (port_label port, port_sort port)) (λ (entry : List ℕ × Sort). entry.0) (ports_of fabric)))
-      (ports-absent fabric.pins q away)
+      (ports-absent fabric q away other)
 
   register-sorts : All (IsSorted register_name (λ register. sort.Register) scope.declared) fabric.registers
   unfolding ports registers
@@ -162,7 +162,7 @@ module _ (fabric : Fabric) (writable : IsWritable fabric) (named : AreNamed fabr
       subst (λ list. All (IsSorted register_name (λ register. sort.Register) list) fabric.registers) (sym state-is)
       (sorted-front register_name (λ register. sort.Register) ((ports ++ registers) ++ words) memories fabric.registers
       (sorted-between register_name (λ register. sort.Register) ports words fabric.registers writable.registers
-      (λ register. no-port (register_name register) (λ rest. io-no_register rest register))))
+      (λ register. no-port (register_name register) (λ rest. io-no_register rest register) (λ rest. pll-no_register rest register))))
 
   word-sorts : All (IsSorted read_name (λ ram. sort.Word) scope.declared) fabric.rams
   unfolding ports registers words
@@ -170,7 +170,7 @@ module _ (fabric : Fabric) (writable : IsWritable fabric) (named : AreNamed fabr
       subst (λ list. All (IsSorted read_name (λ ram. sort.Word) list) fabric.rams) (sym state-is)
       (sorted-between read_name (λ ram. sort.Word) (ports ++ registers) memories fabric.rams writable.reads
       (λ ram. no-name-both ports registers (read_name ram)
-      (no-port (read_name ram) (λ rest. io-no_read rest ram))
+      (no-port (read_name ram) (λ rest. io-no_read rest ram) (λ rest. pll-no_read rest ram))
       (no-name-of register_name (λ register. sort.Register) fabric.registers (read_name ram) (λ register. register-no_read register ram))))
 
   memory-sorts : All (IsSorted memory_name (λ ram. sort.Memory) scope.declared) fabric.rams
@@ -180,7 +180,7 @@ module _ (fabric : Fabric) (writable : IsWritable fabric) (named : AreNamed fabr
       (sorted-between memory_name (λ ram. sort.Memory) ((ports ++ registers) ++ words) [] fabric.rams writable.memories
       (λ ram. no-name-both (ports ++ registers) words (memory_name ram)
       (no-name-both ports registers (memory_name ram)
-      (no-port (memory_name ram) (λ rest. io-no_memory rest ram))
+      (no-port (memory_name ram) (λ rest. io-no_memory rest ram) (λ rest. pll-no_memory rest ram))
       (no-name-of register_name (λ register. sort.Register) fabric.registers (memory_name ram) (λ register. register-no_memory register ram)))
       (no-name-of read_name (λ ram. sort.Word) fabric.rams (memory_name ram) (λ other. read-no_memory other ram))))
 
@@ -201,7 +201,7 @@ module _ (fabric : Fabric) (writable : IsWritable fabric) (named : AreNamed fabr
   pub state-stands : Stands fabric scope
   state-stands = record {
     inputs = All-unmap (λ port. IsThere scope (port_label port) sort.Input) input_port (inputs_of fabric)
-        (subst (All (λ port. IsThere scope (port_label port) sort.Input)) (ports-inputs fabric.pins) (sorted-port (λ port. not port.output) sort.Input input-sort));
+        (subst (All (λ port. IsThere scope (port_label port) sort.Input)) (ports-inputs fabric) (sorted-port (λ port. not port.output) sort.Input input-sort));
     outputs = All-unmap (λ port. IsThere scope (port_label port) sort.Output) port_of (outputs_of fabric)
         (subst (All (λ port. IsThere scope (port_label port) sort.Output)) (outputs-ports fabric) (sorted-port (λ port. port.output) sort.Output output-sort));
     registers = All-both (λ register. IsName (register_name register)) (IsSorted register_name (λ register. sort.Register) scope.declared) (λ register. IsThere scope (register_name register) sort.Register)
@@ -220,7 +220,7 @@ module _ (fabric : Fabric) (writable : IsWritable fabric) (named : AreNamed fabr
       (no-name-both ((ports ++ registers) ++ words) memories (wire_name class)
       (no-name-both (ports ++ registers) words (wire_name class)
       (no-name-both ports registers (wire_name class)
-      (no-port (wire_name class) (λ rest. io-no_wire rest class))
+      (no-port (wire_name class) (λ rest. io-no_wire rest class) (λ rest. pll-no_wire rest class))
       (no-name-of register_name (λ register. sort.Register) fabric.registers (wire_name class) (λ register. register-no_wire register class)))
       (no-name-of read_name (λ ram. sort.Word) fabric.rams (wire_name class) (λ ram. read-no_wire ram class)))
       (no-name-of memory_name (λ ram. sort.Memory) fabric.rams (wire_name class) (λ ram. memory-no_wire ram class)))

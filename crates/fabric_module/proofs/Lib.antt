@@ -10,6 +10,8 @@ pub mod Sections
 pub mod Fills
 -- items that assign what they compute, each its own name
 pub mod Computed
+-- the ports of PLLs: names that are apart
+pub mod Plls
 -- the ports of a written module, inputs and outputs each by themselves
 pub mod Ports
 -- the right-hand side that is written for a driver has the driver's value, if pins, state and the wires that it reads have theirs

@@ -1,13 +1,14 @@
 -- Bytes that a name is made of are a name.
-use Rattle.std.proofs.Common.{◌≡◌, ℕ, ◌++◌, List, sym, subst}
+use Rattle.std.proofs.Common.{◌≡◌, ℕ, ◌++◌, List, refl, sym, subst, append_assoc}
 use Rattle.std.specs.Prelude.{codes, decimal}
 use Rattle.fabric_model.specs.declared.register.Register.{Register}
 use Rattle.fabric_model.specs.declared.ram.RamCell.{RamCell}
 use Rattle.fabric_model.specs.declared.pin.Pin.{Pin}
+use Rattle.fabric_model.specs.declared.pll.PllOutput.{PllOutput}
 use Rattle.vlog_module.specs.Names.{IsName}
-use Rattle.fabric_module.specs.Names.{two_numbers, three_numbers, pad_name, enable_name, outside_name, register_prefix, register_number, register_name, read_name, memory_name, wire_name}
+use Rattle.fabric_module.specs.Names.{two_numbers, three_numbers, pad_name, enable_name, outside_name, output_word, pll_name, register_prefix, register_number, register_name, read_name, memory_name, wire_name}
 use Rattle.fabric_module.proofs.Apart.{IsSmall}
-use Rattle.fabric_module.proofs.Named.{pad-named, enable-named, outside-named, register-named, read-named, memory-named, wire-named}
+use Rattle.fabric_module.proofs.Named.{pad-named, enable-named, outside-named, pll-named, register-named, read-named, memory-named, wire-named}
 
 pub pad-bytes : (x y n : ℕ) (bytes : List ℕ) → bytes ≡ codes "io_" ++ three_numbers x y n → IsSmall x → IsSmall y → IsSmall n → IsName bytes
 unfolding pad_name
@@ -22,6 +23,14 @@ pub outside-bytes : (x y n : ℕ) (bytes : List ℕ) → bytes ≡ codes "io_" +
 unfolding pad_name outside_name
 outside-bytes x y n bytes is of_x of_y of_n =
     let named : IsName (codes "io_" ++ three_numbers x y n ++ codes "_in") = outside-named x y n of_x of_y of_n in subst IsName (sym is) named
+
+-- the name of an output of a PLL, one part after the other
+pub pll-bytes : (x y : ℕ) (output : PllOutput) (one two three four five bytes : List ℕ) → one ≡ codes "pll_" → two ≡ one ++ decimal x → three ≡ two ++ codes "_" → four ≡ three ++ decimal y
+    → five ≡ four ++ codes "_" → bytes ≡ five ++ output_word output → IsSmall x → IsSmall y → IsName bytes
+unfolding pll_name
+pll-bytes x y output one two three four five bytes of_one of_two of_three of_four of_five of_bytes of_x of_y =
+    let is : bytes ≡ codes "pll_" ++ (decimal x ++ (codes "_" ++ (decimal y ++ (codes "_" ++ output_word output)))) = simp (of_bytes, of_five, of_four, of_three, of_two, of_one, append_assoc) refl in
+    let named : IsName (codes "pll_" ++ (decimal x ++ (codes "_" ++ (decimal y ++ (codes "_" ++ output_word output))))) = pll-named x y output of_x of_y in subst IsName (sym is) named
 
 pub register-bytes : (register : Register) (bytes : List ℕ) → bytes ≡ register_prefix register.kind ++ three_numbers register.x register.y (register_number register.kind)
     → IsSmall register.x → IsSmall register.y → IsSmall (register_number register.kind) → IsName bytes

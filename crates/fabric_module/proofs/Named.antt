@@ -14,7 +14,9 @@ use Rattle.fabric_model.specs.declared.register.RegisterKind.TheVariants.{FlipFl
 use Rattle.fabric_model.specs.declared.register.Register.{Register}
 use Rattle.fabric_model.specs.declared.ram.RamCell.{RamCell}
 use Rattle.fabric_model.specs.declared.pin.Pin.{Pin}
-use Rattle.fabric_module.specs.Names.{two_numbers, three_numbers, pad_name, enable_name, outside_name, register_prefix, register_number, register_name, read_name, memory_name, wire_name}
+use Rattle.fabric_model.specs.declared.pll.PllOutput.{PllOutput}
+use Rattle.fabric_model.specs.declared.pll.PllOutput.TheVariants as output
+use Rattle.fabric_module.specs.Names.{two_numbers, three_numbers, pad_name, enable_name, outside_name, output_word, pll_name, register_prefix, register_number, register_name, read_name, memory_name, wire_name}
 use Rattle.fabric_module.proofs.Lists.{Apart}
 use Rattle.fabric_module.proofs.Apart.{IsSmall, number-digits}
 
@@ -69,6 +71,18 @@ pub outside-named : (x y n : ℕ) → IsSmall x → IsSmall y → IsSmall n → 
 unfolding is_name reserved_words pad_name outside_name
 outside-named x y n of_x of_y of_n =
     name-true (list_all is_name_byte (three_numbers x y n ++ codes "_in")) false (tail-named x y n (codes "_in") refl of_x of_y of_n) refl
+
+word-named : (output : PllOutput) → list_all is_name_byte (output_word output) ≡ true
+word-named output.A = refl
+word-named output.B = refl
+word-named output.Lock = refl
+word-named output.Sdo = refl
+
+pub pll-named : (x y : ℕ) (output : PllOutput) → IsSmall x → IsSmall y → IsName (pll_name x y output)
+unfolding is_name reserved_words pll_name
+pll-named x y output of_x of_y =
+    name-true (list_all is_name_byte (decimal x ++ 95 ∷ (decimal y ++ 95 ∷ output_word output))) false
+    (joined-named (decimal x) (decimal y ++ 95 ∷ output_word output) (number-named x of_x) (joined-named (decimal y) (output_word output) (number-named y of_y) (word-named output))) refl
 
 kind-named : (register : RegisterKind) (rest : List ℕ) → list_all is_name_byte rest ≡ true → IsName (register_prefix register ++ rest)
 unfolding is_name reserved_words

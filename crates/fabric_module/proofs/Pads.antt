@@ -1,7 +1,8 @@
 -- If a database and an image aren't refused, each pad of a global network is an input port.
-use Rattle.std.proofs.Common.{◌≡◌, ℕ, zero, suc, ◌/◌, ◌%◌, ◌<◌, ◌≤◌, Bool, true, false, List, [], ◌∷◌, length, refl, ap, subst, arith, inl, inr, eq-eqb}
-use Rattle.std.specs.Prelude.{All, Contains, Option, Some, None, not, codes, ◌&&◌, ◌||◌, ◌==◌, find, option_map, if◌then◌else◌}
-use Rattle.std.proofs.lemmas.Bool.{cases_Bool, eqb-true, and_from, or_right}
+use Rattle.std.proofs.Common.{◌≡◌, ℕ, zero, suc, ◌/◌, ◌%◌, ◌<◌, ◌≤◌, Bool, true, false, List, [], ◌∷◌, length, refl, ap, ◌∙◌, subst, arith, inl, inr, eq-eqb}
+use Rattle.std.specs.Prelude.{All, Contains, Option, Some, None, not, codes, ◌&&◌, ◌||◌, ◌==◌, filter, find, option_map, if◌then◌else◌}
+use Rattle.std.specs.List.{list_any}
+use Rattle.std.proofs.lemmas.Bool.{cases_Bool, eqb-true, and_from, and_parts, or_right}
 use Rattle.std.proofs.lemmas.List.Elements.{All-nil, All-head, All-tail, All-map}
 use Rattle.plane_map.proofs.Grids.{kind_of-inside}
 use Rattle.index_search.proofs.Gathered.{All-gathered_below, Contains-gathered_below}
@@ -22,11 +23,15 @@ use Rattle.index_search.proofs.Places.{any_below-at}
 use Rattle.fabric_model.specs.declared.pin.Pin.{Pin}
 use Rattle.fabric_model.specs.declared.pin.GlobalNet.{GlobalNet}
 use Rattle.fabric_model.specs.declared.pin.GlobalFrom.{GlobalFrom}
-use Rattle.fabric_model.specs.declared.pin.GlobalFrom.TheVariants.{Pad, Fabout}
+use Rattle.fabric_model.specs.declared.pin.GlobalFrom.TheVariants.{Pad, Pll, Fabout}
+use Rattle.fabric_model.specs.declared.pll.PllSource.{PllSource}
+use Rattle.fabric_model.specs.Plls.{pll_sources, is_pin_at, is_pll_place}
+use Rattle.fabric_model.specs.PllPorts.{is_some_global, is_source_read, pll_ports}
 use Rattle.fabric_model.specs.Tiles.{each_below, at_kind}
 use Rattle.fabric_model.specs.On.{is_function_on}
-use Rattle.fabric_model.specs.PinTypes.{pintype_of, type_bit, drive_of, ever_drives, takes_pad, is_latched}
-use Rattle.fabric_model.specs.Pins.{PinPlace, pin_places, has_no_output, has_tri_state_output, has_plain_input, is_plain_input, is_registered_input, is_output_pin, is_input_read, is_second_read, drives, is_port, is_pad_read, has_input, pin_with, port_at, pins_of, global_pad, global_source, global_fabout, source_of_global, global_nets, nets_from, globals_of, is_pin_at, is_global_pad, is_refused_with}
+use Rattle.fabric_model.specs.Nets.{is_some_read}
+use Rattle.fabric_model.specs.PinTypes.{pintype_of, type_bit, drive_of, ever_drives, takes_pad, is_latched, is_of_pll}
+use Rattle.fabric_model.specs.Pins.{PinPlace, pin_places, has_no_output, has_tri_state_output, has_plain_input, is_plain_input, is_registered_input, is_output_pin, is_input_read, is_second_read, drives, is_port, is_pad_read, has_input, pin_with, port_at, pins_of, global_pad, global_source, global_fabout, from_pll, from_pad, source_of_global, global_nets, nets_from, globals_of, is_global_pad, is_misread, is_refused_with}
 use Rattle.fabric_model.specs.Numbered.{numbered_from, numbered}
 use Rattle.fabric_model.specs.InputPorts.{inputs_among, input_place}
 use Rattle.fabric_model.specs.declared.input_port.InputPort.TheVariants.{Pad as PadPort}
@@ -36,7 +41,7 @@ use Rattle.fabric_model.specs.Faults.Fault.{pin_mode}
 use Rattle.fabric_model.proofs.Contained.{contains-flat_map}
 use Rattle.fabric_model.proofs.Taken.{IsTaken}
 use Rattle.fabric_model.proofs.Runs.{contains-over_grid}
-use Rattle.fabric_model.proofs.Signals.{pad-port-there}
+use Rattle.fabric_model.proofs.Signals.{pad-port-there, pll-port-there, output-itself}
 use Rattle.fabric_module.proofs.Configured.{IsPadIn}
 
 -- ---- tests and places
@@ -98,6 +103,39 @@ if-some : {A : Type 0} (passes : Bool) (value : Option A) (item : A) → (if pas
 if-some true value item is = is
 if-some false value item is = absurd cc
 
+-- ---- what is found in a list
+
+none-any : {A : Type 0} (test : A → Bool) (items : List A) → find test items ≡ None → list_any test items ≡ false
+none-any test [] none = refl
+none-any test (item ∷ items) none =
+    elim (cases_Bool (test item)) [
+      | inl here ↦ let some : Some item ≡ None = rw here at none in absurd cc
+      | inr away ↦ rw away (none-any test items (rw away at none))
+    ]
+
+found-has : {A : Type 0} (test : A → Bool) (items : List A) (item : A) → find test items ≡ Some item → Contains items item × (test item ≡ true)
+found-has test [] item found = absurd cc
+found-has {A} test (first ∷ items) item found =
+    elim (cases_Bool (test first)) [
+      | inl here ↦
+          let is : Some first ≡ Some item = rw here at found in
+          let same : first ≡ item = cc in
+          subst (λ (one : A). Contains (first ∷ items) one × (test one ≡ true)) same ((0, omega arith, refl), here)
+      | inr away ↦
+          let later = found-has test items item (rw away at found) in
+          ((suc later.0.0, omega (arith, later.0.1), later.0.2), later.1)
+    ]
+
+contains-filter : {A : Type 0} (test : A → Bool) (items : List A) (item : A) → Contains items item → test item ≡ true → Contains (filter test items) item
+contains-filter test [] item (k, within, at) passes = absurd (omega (arith, within))
+contains-filter test (first ∷ items) item (zero, within, at) passes = let here : test first ≡ true = ap test at ∙ passes in rw here (0, omega arith, at)
+contains-filter test (first ∷ items) item (suc k, within, at) passes =
+    let later = contains-filter test items item (k, omega (arith, within), at) passes in
+    elim (cases_Bool (test first)) [
+      | inl here ↦ rw here (suc later.0, omega (arith, later.1), later.2)
+      | inr away ↦ rw away later
+    ]
+
 module _ (options : FabricOptions) (db : Database) (image : Configuration) (fit : IsFit db) (taken : IsTaken options db image) where
   abbrev pins : List Pin
   pins = pins_of options.all_pins db image
@@ -106,17 +144,19 @@ module _ (options : FabricOptions) (db : Database) (image : Configuration) (fit 
   unfolding device_faults
   devices = one-device db.chip.device image.layout.device (no-fault (is_same_device db.chip.device image.layout.device) Fault.other_device taken.device)
 
-  -- a pin of a global network that isn't refused never drives its pad
+  -- a pin of a global network that isn't refused, and that no output of a PLL has, never drives its pad
   never-drives : (all : Bool) (place : ℕ × PinPlace) → is_refused_at all db image place ≡ false → is_global_pad db image place.1.x place.1.y place.1.n ≡ true
+      → is_pll_place (pll_sources all db image) place.1.x place.1.y place.1.n ≡ false
       → drives (pin_with all db image place.0 place.1.x place.1.y place.1.n) ≡ false
   unfolding pin_with is_refused_with
-  never-drives true place fine global =
+  never-drives true place fine global outside =
       let pin = pin_with true db image place.0 place.1.x place.1.y place.1.n in
       let second : (pin.is_global && drives pin) ≡ false =
       second-none (pin.reads_0 && is_latched pin.takes) (pin.is_global && drives pin)
-      (is_function_on db image Io pin.x pin.y (codes "IoCtrl.LVDS") && (is_port pin && not ((pin.n == 0) && not (drives pin)))) fine in
-      rw global at second
-  never-drives false place fine global =
+      ((is_function_on db image Io pin.x pin.y (codes "IoCtrl.LVDS") && (is_port pin && not ((pin.n == 0) && not (drives pin))))
+      || (is_of_pll pin.takes && is_misread db image pin.x pin.y pin.n)) fine in
+      rw (outside, global) at second
+  never-drives false place fine global outside =
       let x = place.1.x in let y = place.1.y in let n = place.1.n in
       let pintype = pintype_of db image x y n in
       let read = is_input_read db image x y n in
@@ -130,6 +170,12 @@ module _ (options : FabricOptions) (db : Database) (image : Configuration) (fit 
         | inl here ↦ input-only pintype here
         | inr away ↦ let never : true ≡ false = rw (global, away) at fourth in absurd cc
       ]
+
+  abbrev sources : List PllSource
+  sources = pll_sources options.all_pins db image
+
+  abbrev plls : List PllSource
+  plls = pll_ports options.all_pins db image
 
   module _ (g : ℕ) (small : g < 8) (pad : PinXy) (is : global_pad db image g ≡ Some pad) where
     pad-is : IsPad db.chip pad
@@ -182,49 +228,75 @@ module _ (options : FabricOptions) (db : Database) (image : Configuration) (fit 
           | inr away ↦ away
         ]
 
-    -- and never drives its pad
-    pad-never : drives the_pin ≡ false
-    unfolding the_place
-    pad-never = never-drives options.all_pins (numbered-there.0, the_place) pad-fine pad-global
+    -- and never drives its pad, if no output of a PLL has it
+    module _ (outside : is_pll_place sources pad.x pad.y pad.n ≡ false) where
+      pad-never : drives the_pin ≡ false
+      unfolding the_place
+      pad-never = never-drives options.all_pins (numbered-there.0, the_place) pad-fine pad-global outside
 
-    pin-global : the_pin.is_global ≡ true
-    unfolding pin_with
-    pin-global = pad-global
+      pin-global : the_pin.is_global ≡ true
+      unfolding pin_with
+      pin-global = rw (outside, pad-global) refl
 
-    -- so it is an input
-    pin-input : has_input the_pin ≡ true
-    pin-input =
-        and_from (not (drives the_pin)) (takes_pad the_pin.takes || is_pad_read the_pin) (ap not pad-never)
-        (or_right (takes_pad the_pin.takes) (is_pad_read the_pin) (or_right the_pin.reads_0 (the_pin.reads_1 || the_pin.is_global) (or_right the_pin.reads_1 the_pin.is_global pin-global)))
+      -- so it is an input
+      pin-input : has_input the_pin ≡ true
+      pin-input =
+          and_from (not (drives the_pin)) (takes_pad the_pin.takes || is_pad_read the_pin) (ap not pad-never)
+          (or_right (takes_pad the_pin.takes) (is_pad_read the_pin) (or_right the_pin.reads_0 (the_pin.reads_1 || the_pin.is_global) (or_right the_pin.reads_1 the_pin.is_global pin-global)))
 
-    pin-there : Contains pins the_pin
-    unfolding pins_of the_place
-    pin-there =
-        contains-flat_map (port_at options.all_pins db image) (numbered (pin_places image.layout.device)) (numbered-there.0, the_place) the_pin numbered-there.1
-        (rw (or_right (drives the_pin) (has_input the_pin) pin-input) (0, omega arith, refl))
+      pin-there : Contains pins the_pin
+      unfolding pins_of the_place
+      pin-there =
+          contains-flat_map (port_at options.all_pins db image) (numbered (pin_places image.layout.device)) (numbered-there.0, the_place) the_pin numbered-there.1
+          (rw (or_right (drives the_pin) (has_input the_pin) pin-input) (0, omega arith, refl))
 
-    pad-there : input_place pins (PadPort pad.x pad.y pad.n) < length (inputs_among pins)
-    unfolding pin_with
-    pad-there = pad-port-there pins the_pin pin-there pin-input
+      pad-there : input_place pins (PadPort pad.x pad.y pad.n) < length (inputs_among pins)
+      unfolding pin_with
+      pad-there = pad-port-there pins the_pin pin-there pin-input
+
+    -- an output of a PLL that has its pin is a port
+    found-there : (source : PllSource) → Contains sources source → is_pin_at pad.x pad.y pad.n source.pin ≡ true → Contains plls source
+    unfolding pll_ports
+    found-there source there at =
+        contains-filter (is_source_read db image) sources source there
+        (or_right (is_some_read db image source.net) (is_some_global db image source.pin) (pin-driven source.pin at))
+      where
+        pin-driven : (pin : Option PinXy) → is_pin_at pad.x pad.y pad.n pin ≡ true → is_some_global db image pin ≡ true
+        pin-driven None at = absurd cc
+        pin-driven (Some pin) at =
+            let parts = and_parts (pin.x == pad.x) ((pin.y == pad.y) && (pin.n == pad.n)) at in
+            let more = and_parts (pin.y == pad.y) (pin.n == pad.n) parts.1 in
+            let x : pin.x ≡ pad.x = eqb-true pin.x pad.x parts.0 in
+            let y : pin.y ≡ pad.y = eqb-true pin.y pad.y more.0 in
+            let n : pin.n ≡ pad.n = eqb-true pin.n pad.n more.1 in
+            rw (x, y, n) pad-global
+
+    -- what the pad gives is an input port
+    pad-by : (found : Option PllSource) → find (λ source. is_pin_at pad.x pad.y pad.n source.pin) sources ≡ found → IsPadIn pins plls (from_pll pad found)
+    pad-by None away = pad-there (none-any (λ source. is_pin_at pad.x pad.y pad.n source.pin) sources away)
+    pad-by (Some source) found =
+        let has = found-has (λ source. is_pin_at pad.x pad.y pad.n source.pin) sources source found in
+        pll-port-there pins plls source.x source.y source.output source (found-there source has.0 has.1) (output-itself source)
 
   -- what gives a global its value
   source-there : (g : ℕ) → g < 8 → (pad : Option PinXy) → global_pad db image g ≡ pad → (fabout : Option ℕ) (from : GlobalFrom)
-      → source_of_global pad fabout ≡ Some from → IsPadIn pins from
+      → source_of_global sources pad fabout ≡ Some from → IsPadIn pins plls from
   source-there g small (Some pad) is fabout from source =
-      let same : Pad pad.x pad.y pad.n ≡ from = cc in subst (IsPadIn pins) same (pad-there g small pad is)
-  source-there g small None is (Some net) from source = let same : Fabout net ≡ from = cc in subst (IsPadIn pins) same tt
+      let same : from_pad sources pad ≡ from = cc in
+      subst (IsPadIn pins plls) same (pad-by g small pad is (find (λ source. is_pin_at pad.x pad.y pad.n source.pin) sources) refl)
+  source-there g small None is (Some net) from source = let same : Fabout net ≡ from = cc in subst (IsPadIn pins plls) same tt
   source-there g small None is None from source = absurd cc
 
-  nets-there : (g : ℕ) (source : Option GlobalFrom) → ((from : GlobalFrom) → source ≡ Some from → IsPadIn pins from)
-      → All (λ (global : GlobalNet). IsPadIn pins global.from) (nets_from db g source)
-  nets-there g None good = All-nil (λ (global : GlobalNet). IsPadIn pins global.from)
+  nets-there : (g : ℕ) (source : Option GlobalFrom) → ((from : GlobalFrom) → source ≡ Some from → IsPadIn pins plls from)
+      → All (λ (global : GlobalNet). IsPadIn pins plls global.from) (nets_from db g source)
+  nets-there g None good = All-nil (λ (global : GlobalNet). IsPadIn pins plls global.from)
   nets-there g (Some from) good =
-      All-map (λ (global : GlobalNet). IsPadIn pins global.from) (λ net. record { g = g; net = net; from = from }) (global_nets db g)
+      All-map (λ (global : GlobalNet). IsPadIn pins plls global.from) (λ net. record { g = g; net = net; from = from }) (global_nets db g)
       (λ k d below. good from refl)
 
   -- all pads are input ports
-  pub pads-there : All (λ (global : GlobalNet). IsPadIn pins global.from) (globals_of db image)
+  pub pads-there : All (λ (global : GlobalNet). IsPadIn pins plls global.from) (globals_of options.all_pins db image)
   unfolding globals_of
   pads-there =
-      All-gathered_below (λ (global : GlobalNet). IsPadIn pins global.from) 8 (λ g. nets_from db g (global_source db image g))
-      (λ g small. nets-there g (global_source db image g) (λ from source. source-there g small (global_pad db image g) refl (global_fabout db g) from source))
+      All-gathered_below (λ (global : GlobalNet). IsPadIn pins plls global.from) 8 (λ g. nets_from db g (global_source sources db image g))
+      (λ g small. nets-there g (global_source sources db image g) (λ from source. source-there g small (global_pad db image g) refl (global_fabout db g) from source))

@@ -12,20 +12,18 @@ use Rattle.fabric_model.specs.declared.pin.PadDrive.TheVariants.{Never, Always, 
 use Rattle.fabric_model.specs.declared.input_port.InputPort.{InputPort}
 use Rattle.fabric_model.specs.Tiles.{item_if}
 use Rattle.fabric_model.specs.PinTypes.{ever_drives, drives_at_times}
-use Rattle.fabric_model.specs.Pins.{drives, is_switched}
-use Rattle.fabric_model.specs.InputPorts.{pin_inputs, inputs_among}
+use Rattle.fabric_model.specs.declared.input_port.InputPort.TheVariants.{Pad, Outside}
+use Rattle.fabric_model.specs.Pins.{drives, is_switched, has_input, has_outside}
+use Rattle.fabric_model.specs.InputPorts.{pin_inputs, inputs_among, pll_input}
 use Rattle.fabric_model.specs.Fabric.{Fabric, inputs_of}
 use Rattle.fabric_model.specs.Outputs.{Output, enable_outputs, pin_outputs, outputs_of}
 use Rattle.fabric_model.proofs.Apart.{All-every, apart-filter}
 use Rattle.fabric_model.proofs.Within.{All-flat_map, All-item_if}
-use Rattle.fabric_module.specs.Names.{three_numbers, pad_name, port_name, enable_name, input_port_name, output_name}
+use Rattle.fabric_module.specs.Names.{three_numbers, pad_name, port_name, enable_name, outside_name, input_port_name, output_name}
 use Rattle.fabric_module.specs.Written.{output_port, input_port, pin_ports}
+pub use Rattle.fabric_module.specs.Written.{ports_of}
 use Rattle.fabric_module.proofs.Lists.{NamesDiffer, Apart, map-map}
 use Rattle.fabric_module.proofs.Apart.{input-begins}
-
--- the ports of a fabric's pins
-abbrev pub ports_of : Fabric → List Port
-ports_of fabric = flat_map pin_ports fabric.pins
 
 abbrev pub port_label : Port → List ℕ
 port_label port = port.name
@@ -81,11 +79,17 @@ pin-both pin =
     (filter-append is_output second last
     ∙ (ap₂ (λ one other. one ++ other) (all-outputs (is_switched pin) (enable_name pin)) (no-output (pin_inputs pin)) ∙ append-nil second))
 
-pub ports-inputs : (pins : List Pin) → filter is_input (flat_map pin_ports pins) ≡ map input_port (inputs_among pins)
-ports-inputs [] = refl
-ports-inputs (pin ∷ pins) =
+of_pins-inputs : (pins : List Pin) → filter is_input (flat_map pin_ports pins) ≡ map input_port (inputs_among pins)
+of_pins-inputs [] = refl
+of_pins-inputs (pin ∷ pins) =
     filter-append is_input (pin_ports pin) (flat_map pin_ports pins)
-    ∙ (ap₂ (λ one other. one ++ other) (pin-inputs pin) (ports-inputs pins) ∙ sym (map-append input_port (pin_inputs pin) (inputs_among pins)))
+    ∙ (ap₂ (λ one other. one ++ other) (pin-inputs pin) (of_pins-inputs pins) ∙ sym (map-append input_port (pin_inputs pin) (inputs_among pins)))
+
+pub ports-inputs : (fabric : Fabric) → filter is_input (ports_of fabric) ≡ map input_port (inputs_of fabric)
+ports-inputs fabric =
+    let plls = map pll_input fabric.plls in
+    filter-append is_input (flat_map pin_ports fabric.pins) (map input_port plls)
+    ∙ (ap₂ (λ one other. one ++ other) (of_pins-inputs fabric.pins) (all-inputs plls) ∙ sym (map-append input_port (inputs_among fabric.pins) plls))
 
 -- the outputs of a pin that drives its pad so
 outputs-by : (fabric : Fabric) (pin : Pin) (rest : List Pin) (so : PadDrive) → pin.drive ≡ so
@@ -103,7 +107,11 @@ ports-outputs fabric (pin ∷ pins) =
 
 pub outputs-ports : (fabric : Fabric) → filter is_output (ports_of fabric) ≡ map port_of (outputs_of fabric)
 unfolding outputs_of
-outputs-ports fabric = ports-outputs fabric fabric.pins
+outputs-ports fabric =
+    let plls = map pll_input fabric.plls in
+    filter-append is_output (flat_map pin_ports fabric.pins) (map input_port plls)
+    ∙ (ap (λ other. filter is_output (flat_map pin_ports fabric.pins) ++ other) (no-output plls) ∙ append-nil (filter is_output (flat_map pin_ports fabric.pins)))
+    ∙ ports-outputs fabric fabric.pins
 
 -- ---- lists that are made from others
 
@@ -116,10 +124,10 @@ apart-unmap name f [] apart = tt
 apart-unmap name f (x ∷ xs) apart = (All-unmap (λ y. bytes_eq (name (f x)) (name y) ≡ false) f xs apart.0, apart-unmap name f xs apart.1)
 
 -- the names of inputs and of outputs are apart
-pub inputs-apart : (pins : List Pin) → Apart port_label (flat_map pin_ports pins) → Apart input_port_name (inputs_among pins)
-inputs-apart pins apart =
-    apart-unmap port_label input_port (inputs_among pins)
-    (subst (Apart port_label) (ports-inputs pins) (apart-filter (NamesDiffer port_label) is_input (flat_map pin_ports pins) apart))
+pub inputs-apart : (fabric : Fabric) → Apart port_label (ports_of fabric) → Apart input_port_name (inputs_of fabric)
+inputs-apart fabric apart =
+    apart-unmap port_label input_port (inputs_of fabric)
+    (subst (Apart port_label) (ports-inputs fabric) (apart-filter (NamesDiffer port_label) is_input (ports_of fabric) apart))
 
 pub outputs-apart : (fabric : Fabric) → Apart port_label (ports_of fabric) → Apart output_name (outputs_of fabric)
 outputs-apart fabric apart =
@@ -144,10 +152,10 @@ outputs-from (port ∷ ports) =
       | inr away ↦ rw away (outputs-from ports)
     ]
 
-pub inputs-start : (pins : List Pin) → flat_map input_start (flat_map pin_ports pins) ≡ map (λ port. (input_port_name port, false)) (inputs_among pins)
-inputs-start pins =
-    inputs-from (flat_map pin_ports pins)
-    ∙ (ap (map (λ (port : Port). (port.name, false))) (ports-inputs pins) ∙ map-map input_port (λ (port : Port). (port.name, false)) (inputs_among pins))
+pub inputs-start : (fabric : Fabric) → flat_map input_start (ports_of fabric) ≡ map (λ port. (input_port_name port, false)) (inputs_of fabric)
+inputs-start fabric =
+    inputs-from (ports_of fabric)
+    ∙ (ap (map (λ (port : Port). (port.name, false))) (ports-inputs fabric) ∙ map-map input_port (λ (port : Port). (port.name, false)) (inputs_of fabric))
 
 -- the outputs before they are assigned
 pub outputs-start : (fabric : Fabric) → flat_map output_start (ports_of fabric) ≡ map (λ output. (output_name output, false)) (outputs_of fabric)
@@ -166,16 +174,28 @@ each-port P pin of_output of_enable of_inputs =
     (All-append P (item_if (is_switched pin) (output_port (enable_name pin))) (map input_port (pin_inputs pin))
     (All-item_if P (is_switched pin) (output_port (enable_name pin)) of_enable) (All-map P input_port (pin_inputs pin) of_inputs))
 
--- what holds of all names that begin so holds of the names of ports
-pub ports-begin : (P : List ℕ → Type 0) → ((rest : List ℕ) → P (codes "io_" ++ rest)) → (pins : List Pin) → All (λ (port : Port). P port.name) (flat_map pin_ports pins)
-unfolding pad_name enable_name
-ports-begin P each pins =
-    All-flat_map (λ (port : Port). P port.name) pin_ports pins
-    (All-every (λ pin. All (λ (port : Port). P port.name) (pin_ports pin))
-    (λ pin. each-port (λ port. P port.name) pin (each (three_numbers pin.x pin.y pin.n)) (each (three_numbers pin.x pin.y pin.n ++ codes "_en"))
-    (All-every (λ port. P (input_port_name port)) (input-begins P each) (pin_inputs pin))) pins)
+-- what holds of all names that begin so holds of the names of the ports of pins
+pub of_pins-begin : (P : List ℕ → Type 0) → ((rest : List ℕ) → P (codes "io_" ++ rest)) → (pins : List Pin) → All (λ (port : Port). P port.name) (flat_map pin_ports pins)
+unfolding pad_name enable_name outside_name
+of_pins-begin P each pins =
+    let Is : Port → Type 0 = λ port. P port.name in
+    All-flat_map Is pin_ports pins
+    (All-every (λ pin. All Is (pin_ports pin))
+    (λ pin. each-port Is pin (each (three_numbers pin.x pin.y pin.n)) (each (three_numbers pin.x pin.y pin.n ++ codes "_en"))
+    (All-append (λ port. P (input_port_name port)) (item_if (has_input pin) (Pad pin.x pin.y pin.n)) (item_if (has_outside pin) (Outside pin.x pin.y pin.n))
+    (All-item_if (λ port. P (input_port_name port)) (has_input pin) (Pad pin.x pin.y pin.n) (each (three_numbers pin.x pin.y pin.n)))
+    (All-item_if (λ port. P (input_port_name port)) (has_outside pin) (Outside pin.x pin.y pin.n) (each (three_numbers pin.x pin.y pin.n ++ codes "_in"))))) pins)
+
+-- what holds also of those that begin as outputs of PLLs do holds of the names of all ports
+pub ports-begin : (P : List ℕ → Type 0) → ((rest : List ℕ) → P (codes "io_" ++ rest)) → ((rest : List ℕ) → P (codes "pll_" ++ rest)) → (fabric : Fabric)
+    → All (λ (port : Port). P port.name) (ports_of fabric)
+ports-begin P each of_pll fabric =
+    let Is : Port → Type 0 = λ port. P port.name in
+    All-append Is (flat_map pin_ports fabric.pins) (map input_port (map pll_input fabric.plls)) (of_pins-begin P each fabric.pins)
+    (All-map Is input_port (map pll_input fabric.plls) (All-every (λ port. P (input_port_name port)) (input-begins P each of_pll) (map pll_input fabric.plls)))
 
 -- so a name that begins otherwise is none of them
-pub ports-absent : (pins : List Pin) (q : List ℕ) → ((rest : List ℕ) → bytes_eq (codes "io_" ++ rest) q ≡ false) → All (λ n. bytes_eq n q ≡ false) (map port_label (flat_map pin_ports pins))
-ports-absent pins q away =
-    All-map (λ n. bytes_eq n q ≡ false) port_label (flat_map pin_ports pins) (ports-begin (λ n. bytes_eq n q ≡ false) away pins)
+pub ports-absent : (fabric : Fabric) (q : List ℕ) → ((rest : List ℕ) → bytes_eq (codes "io_" ++ rest) q ≡ false) → ((rest : List ℕ) → bytes_eq (codes "pll_" ++ rest) q ≡ false)
+    → All (λ n. bytes_eq n q ≡ false) (map port_label (ports_of fabric))
+ports-absent fabric q away other =
+    All-map (λ n. bytes_eq n q ≡ false) port_label (ports_of fabric) (ports-begin (λ n. bytes_eq n q ≡ false) away other fabric)

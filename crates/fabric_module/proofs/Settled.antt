@@ -206,7 +206,7 @@ module _ (fabric : Fabric) (within : IsWithin fabric) (writable : IsWritable fab
     (inputs registers : List (List ℕ × Bool)) (words : List (List ℕ × ℕ)) (holding : Holding fabric state pins inputs registers words) where
   pin-there : (place : ℕ) → place < length (inputs_of fabric) → value_in inputs (input_name fabric place) ≡ Some (get_or pins place false)
   pin-there place there =
-      value_in-at input_port_name false (inputs_of fabric) inputs place (inputs-apart fabric.pins writable.ports) holding.input.named there
+      value_in-at input_port_name false (inputs_of fabric) inputs place (inputs-apart fabric writable.ports) holding.input.named there
       ∙ ap (λ values. Some (get_or values place false)) holding.input.valued
 
   register-there : (place : ℕ) (register : Register) → Contains (numbered fabric.registers) (place, register) → value_in registers (register_name register) ≡ Some (get_or state.bits place false)

@@ -30,13 +30,14 @@ use Rattle.fabric_model.specs.declared.input_port.InputPort.TheVariants.{Pad as 
 use Rattle.fabric_model.specs.declared.ram.RamCell.{RamCell}
 use Rattle.fabric_model.specs.declared.pin.Pin.{Pin}
 use Rattle.fabric_model.specs.declared.pin.GlobalFrom.{GlobalFrom}
-use Rattle.fabric_model.specs.declared.pin.GlobalFrom.TheVariants.{Pad, Fabout}
+use Rattle.fabric_model.specs.declared.pin.GlobalFrom.TheVariants.{Pad, Pll, Fabout}
+use Rattle.fabric_model.specs.declared.pll.PllSource.{PllSource}
 use Rattle.fabric_model.specs.declared.driver.Driver.{Driver}
 use Rattle.fabric_model.specs.Cells.{cell_bit, entry_bits, cell_bits, cell_with, used_cell, cells_at, cells_of}
 use Rattle.fabric_model.specs.Rams.{first_data_bit, is_ram_used, ram_at, rams_of, start_word, start_words}
 use Rattle.fabric_model.specs.Pins.{drives, has_outside, pins_of}
 use Rattle.fabric_model.specs.Fabric.{Fabric, numbered, flip_count, fabric_with}
-use Rattle.fabric_model.specs.Drivers.{Rule, Drive, drives_if, pad_of, pin_drives, is_read_back, back_drives, lut_drives, drives_by, flip_driver, flip_drives, lout_drives, carry_drives, set_drives, read_data_rule, ram_drive, ram_drives, global_rule, global_drives, buffer_drives, input_driver, input_drives, second_driver, second_drives, data_by_table, data_table, data_drives, pad_table, pad_drives, drives_of, is_driver_of, drivers_of}
+use Rattle.fabric_model.specs.Drivers.{Rule, Drive, drives_if, pad_of, pin_drives, is_read_back, back_drives, lut_drives, drives_by, flip_driver, flip_drives, lout_drives, carry_drives, set_drives, read_data_rule, ram_drive, ram_drives, global_rule, global_drives, buffer_drives, input_driver, input_drives, second_driver, second_drives, data_by_table, data_table, data_drives, pad_table, pad_drives, pll_drives, drives_of, is_driver_of, drivers_of}
 use Rattle.fabric_model.specs.Drivers.Rule.{pin_bit, constant, input, table_entry, majority_of, register_bit, read_bit, copied}
 use Rattle.fabric_model.proofs.Within.{All-flat_map, All-item_if, All-if, All-single, All-over_tiles}
 use Rattle.fabric_model.proofs.Apart.{All-every}
@@ -44,6 +45,11 @@ use Rattle.fabric_module.specs.Names.{register_number, register_name, read_name,
 use Rattle.fabric_module.specs.Rights.{atom_or_0, signal_atom, setting_wire, register_right, right_alone, right_of, right_by, class_right}
 use Rattle.fabric_module.specs.Written.{pin_ports}
 use Rattle.fabric_module.proofs.Ports.{port_label}
+use Rattle.chipdb_reader.specs.Fit.{IsFit}
+use Rattle.fabric_model.specs.InputPorts.{pll_input}
+use Rattle.fabric_model.specs.PllPorts.{pll_ports}
+use Rattle.fabric_module.specs.Written.{input_port}
+use Rattle.fabric_module.proofs.Plls.{plls-named}
 use Rattle.fabric_module.proofs.Configured.{PinSmall, CellSmall, RamSmall, each-name, pins-small, cell-at, ram-placed}
 use Rattle.fabric_module.proofs.Named.{pad-named, enable-named, outside-named, register-named, read-named, memory-named}
 use Rattle.fabric_module.proofs.Declared.{AreNamed}
@@ -114,9 +120,10 @@ module _ (fabric : Fabric) (tables : All (λ lc. lc.lut < 65536) fabric.lcs) whe
   unfolding right_of
   copied-right net = alone-right (atom_or_0 fabric (Some net))
 
-  global-right : (pins : List Pin) (from : GlobalFrom) → IsRight (right_of fabric (global_rule pins from))
-  global-right pins (Pad x y n) = pin-right _
-  global-right pins (Fabout net) = copied-right net
+  global-right : (pins : List Pin) (plls : List PllSource) (from : GlobalFrom) → IsRight (right_of fabric (global_rule pins plls from))
+  global-right pins plls (Pad x y n) = pin-right _
+  global-right pins plls (Pll x y output) = pin-right _
+  global-right pins plls (Fabout net) = copied-right net
 
   any-right : {X : Type 0} (given : X → List Drive) → ((x : X) → All IsDriveRight (given x)) → (parts : List X) → All IsDriveRight (flat_map given parts)
   any-right given each [] = All-nil IsDriveRight
@@ -161,11 +168,13 @@ module _ (fabric : Fabric) (tables : All (λ lc. lc.lut < 65536) fabric.lcs) whe
       (then-right _ _ (any-right carry_drives (λ lc. if-right _ (majority_of (get_or lc.ins 1 None) (get_or lc.ins 2 None) lc.cin) lc.cout (majority-right (get_or lc.ins 1 None) (get_or lc.ins 2 None) lc.cin)) (filter (λ lc. lc.carry) fabric.lcs))
       (then-right _ _ (any-right set_drives (λ set. if-right _ (constant true) (Some set.net) (constant-right true)) fabric.sets)
       (then-right _ _ (any-right ram_drives (λ place. any-right (ram_drive place) (λ port. if-right _ (read_data_rule place.0 place.1.read port.0) port.1 (data-right place.0 place.1.read port.0)) (numbered place.1.rdata)) (numbered fabric.rams))
-      (then-right _ _ (any-right (global_drives fabric.pins) (λ global. if-right _ (global_rule fabric.pins global.from) (Some global.net) (global-right fabric.pins global.from)) fabric.globals)
+      (then-right _ _ (any-right (global_drives fabric.pins fabric.plls) (λ global. if-right _ (global_rule fabric.pins fabric.plls global.from) (Some global.net) (global-right fabric.pins fabric.plls global.from)) fabric.globals)
       (then-right _ _ (any-right buffer_drives (λ buffer. if-right _ (copied buffer.src) (Some buffer.dst) (copied-right buffer.src)) fabric.buffers)
       (then-right _ _ (any-right input_drives (λ place. by-drives place (input_driver place.1 place.1.kind)) (numbered fabric.registers))
       (then-right _ _ (any-right second_drives (λ place. by-drives place (second_driver place.1 place.1.kind)) (numbered fabric.registers))
-      (then-right _ _ (any-right (data_drives fabric) data_drives-right fabric.pins) (any-right (pad_drives fabric) pad_drives-right fabric.pins)))))))))))))
+      (then-right _ _ (any-right (data_drives fabric) data_drives-right fabric.pins)
+      (then-right _ _ (any-right (pad_drives fabric) pad_drives-right fabric.pins)
+      (any-right (pll_drives fabric.pins fabric.plls) (λ port. if-right _ (pin_bit _) port.net (pin-right _)) fabric.plls))))))))))))))
 
   by-right : (drives : List Drive) → All IsDriveRight drives → IsRight (right_by fabric drives)
   unfolding IsDriveRight
@@ -302,10 +311,11 @@ module _ (db : Database) (image : Configuration) where
       (λ x y left low. All-if (λ words. All (λ word. length word ≡ 16) words) (is_ram_used db image x y) (start_words image x y ∷ [])
       (All-single (λ words. All (λ word. length word ≡ 16) words) (start_words image x y) (words-sixteen x y)))
 
-  fabric-named : (options : FabricOptions) → AreNamed (fabric_with options db image)
+  fabric-named : (options : FabricOptions) → IsFit db → AreNamed (fabric_with options db image)
   unfolding fabric_with
-  fabric-named options = record {
-    ports = ports-named options.all_pins;
+  fabric-named options fit = record {
+    ports = All-append (λ port. IsName (port_label port)) (flat_map pin_ports (pins_of options.all_pins db image)) (map input_port (map pll_input (pll_ports options.all_pins db image)))
+        (ports-named options.all_pins) (plls-named db image options.all_pins fit);
     registers = All-append (λ register. IsName (register_name register)) (registers_of options.lut_inputs (cells_of db image))
         (pin_registers_of (flips_among (cells_of db image)) (pins_of options.all_pins db image)) (flips-named options.lut_inputs)
         (pin_registers-named (flips_among (cells_of db image)) (pins_of options.all_pins db image) (pins-small db image options.all_pins));
@@ -324,9 +334,9 @@ module _ (db : Database) (image : Configuration) where
       (pin_registers_of (flips_among (cells_of db image)) (pins_of options.all_pins db image)) (flips-small options.lut_inputs)
       (pin_registers-small (flips_among (cells_of db image)) (pins_of options.all_pins db image))
 
-  pub fabric-shapely : (options : FabricOptions) → IsShapely (fabric_with options db image)
-  fabric-shapely options = record {
-    named = fabric-named options;
+  pub fabric-shapely : (options : FabricOptions) → IsFit db → IsShapely (fabric_with options db image)
+  fabric-shapely options fit = record {
+    named = fabric-named options fit;
     tables = fabric-registers options;
     rights = each-right (fabric_with options db image) (fabric-tables options);
     words = λ place k. words-at (fabric_with options db image).start place k (starts-sixteen options);

@@ -94,15 +94,15 @@ pin-from name (x ∷ xs) from (suc place) apart within =
     rw (All-pick name (λ n. bytes_eq (name x) n ≡ false) xs place apart.0 (omega arith))
     (pin-from name xs (from + 1) place apart.1 (omega arith) ∙ ap (λ n. Some n) same)
 
-input_names-are : (pins : List Pin) → input_names (flat_map pin_ports pins) ≡ map input_port_name (inputs_among pins)
-input_names-are pins = ap names_of (inputs-start pins) ∙ map-map (λ port. (input_port_name port, false)) (λ (entry : List ℕ × Bool). entry.0) (inputs_among pins)
+input_names-are : (fabric : Fabric) → input_names (ports_of fabric) ≡ map input_port_name (inputs_of fabric)
+input_names-are fabric = ap names_of (inputs-start fabric) ∙ map-map (λ port. (input_port_name port, false)) (λ (entry : List ℕ × Bool). entry.0) (inputs_of fabric)
 
 -- the place of an input port
 pub pin-place : (fabric : Fabric) → IsWritable fabric → (place : ℕ) → place < length (inputs_of fabric) → pin_of (ports_of fabric) (input_name fabric place) ≡ Some place
 pin-place fabric writable place there =
     let zero_more : 0 + place ≡ place = omega arith in
-    ap (λ names. value_in (counted 0 names) (input_name fabric place)) (input_names-are fabric.pins)
-    ∙ (pin-from input_port_name (inputs_of fabric) 0 place (inputs-apart fabric.pins writable.ports) there
+    ap (λ names. value_in (counted 0 names) (input_name fabric place)) (input_names-are fabric)
+    ∙ (pin-from input_port_name (inputs_of fabric) 0 place (inputs-apart fabric writable.ports) there
     ∙ ap (λ n. Some n) zero_more)
 
 -- ---- chains end at pins that are there

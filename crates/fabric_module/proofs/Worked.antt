@@ -82,6 +82,7 @@ inverting = record {
   joins = [];
   buffers = record { line = 0; src = 0; dst = 1 } ∷ record { line = 1; src = 2; dst = 3 } ∷ [];
   pins = input_pin ∷ output_pin ∷ [];
+  plls = [];
   globals = [];
   lut_inputs = read.All;
   lcs = inverter ∷ [];

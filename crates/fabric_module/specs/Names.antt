@@ -1,7 +1,9 @@
 -- The names in a module that is written for a fabric.
 use Rattle.std.specs.Prelude.{ℕ, List, ◌++◌, codes, decimal, if◌then◌else◌}
 use Rattle.fabric_model.specs.declared.input_port.InputPort.{InputPort}
-use Rattle.fabric_model.specs.declared.input_port.InputPort.TheVariants.{Pad, Outside}
+use Rattle.fabric_model.specs.declared.input_port.InputPort.TheVariants.{Pad, Outside, Pll}
+use Rattle.fabric_model.specs.declared.pll.PllOutput.{PllOutput}
+use Rattle.fabric_model.specs.declared.pll.PllOutput.TheVariants as output
 use Rattle.fabric_model.specs.declared.register.PinRegister.{PinRegister}
 use Rattle.fabric_model.specs.declared.register.PinRegister.TheVariants as kind
 use Rattle.fabric_model.specs.declared.register.RegisterKind.{RegisterKind}
@@ -39,10 +41,22 @@ output_name output = if output.enable then enable_name output.pin else port_name
 unfoldable pub outside_name : ℕ → ℕ → ℕ → List ℕ
 outside_name x y n = pad_name x y n ++ codes "_in"
 
+-- the last part of the name of an output of a PLL
+abbrev pub output_word : PllOutput → List ℕ
+output_word output.A = codes "a"
+output_word output.B = codes "b"
+output_word output.Lock = codes "lock"
+output_word output.Sdo = codes "sdo"
+
+-- the port of an output of the PLL at (x, y): `pll_X_Y_a`, `pll_X_Y_b`, `pll_X_Y_lock` or `pll_X_Y_sdo`
+unfoldable pub pll_name : ℕ → ℕ → PllOutput → List ℕ
+pll_name x y output = codes "pll_" ++ (decimal x ++ (codes "_" ++ (decimal y ++ (codes "_" ++ output_word output))))
+
 -- an input port
 abbrev pub input_port_name : InputPort → List ℕ
 input_port_name (Pad x y n) = pad_name x y n
 input_port_name (Outside x y n) = outside_name x y n
+input_port_name (Pll x y output) = pll_name x y output
 
 -- the beginning of the name of a register of a pin
 abbrev pub pin_prefix : PinRegister → List ℕ

@@ -11,7 +11,7 @@ use Rattle.fabric_model.specs.declared.pin.Pin.{Pin}
 use Rattle.fabric_model.specs.declared.input_port.InputPort.{InputPort}
 use Rattle.fabric_model.specs.Tiles.{each_below, item_if}
 use Rattle.fabric_model.specs.Pins.{drives, is_switched}
-use Rattle.fabric_model.specs.InputPorts.{pin_inputs}
+use Rattle.fabric_model.specs.InputPorts.{pin_inputs, pll_input}
 use Rattle.fabric_model.specs.Fabric.{Fabric, numbered}
 use Rattle.fabric_model.specs.Outputs.{Output, outputs_of}
 use Rattle.fabric_model.specs.ClockLuts.{turned_bit}
@@ -57,6 +57,10 @@ input_port port = record { name = input_port_name port; output = false }
 abbrev pub pin_ports : Pin → List Port
 pin_ports pin =
     item_if (drives pin) (output_port (port_name pin)) ++ (item_if (is_switched pin) (output_port (enable_name pin)) ++ map input_port (pin_inputs pin))
+
+-- all ports: those of the pins, by pin, then the outputs of PLLs
+abbrev pub ports_of : Fabric → List Port
+ports_of fabric = flat_map pin_ports fabric.pins ++ map input_port (map pll_input fabric.plls)
 
 -- a register, which starts at 0
 abbrev pub register_item : Register → Item
@@ -149,6 +153,6 @@ items_of fabric order =
 unfoldable pub module_of : Fabric → List ℕ → List ℕ → Parts
 module_of fabric order name = record {
   name = name;
-  ports = flat_map pin_ports fabric.pins;
+  ports = ports_of fabric;
   items = items_of fabric order;
 }

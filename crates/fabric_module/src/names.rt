@@ -1,8 +1,10 @@
 // The names of a module that is written for a design.
 ghost use Rattle.std.specs.Prelude.{◌≡◌, ◌≤◌, ◌+◌, ◌++◌, length, IfOk};
-ghost use Rattle.fabric_module.specs.Names.{two_numbers, three_numbers, pad_name, port_name, enable_name, outside_name, input_port_name, pin_prefix, register_prefix, register_number, register_name, read_name, memory_name, wire_name};
+ghost use Rattle.fabric_module.specs.Names.{two_numbers, three_numbers, pad_name, port_name, enable_name, outside_name, output_word, pll_name, input_port_name, pin_prefix, register_prefix, register_number, register_name, read_name, memory_name, wire_name};
 
-use fabric_model::{InputPort, Pin, PinRegister, RamCell, Register, RegisterKind, ShortText};
+use fabric_model::{
+    InputPort, Pin, PinRegister, PllOutput, RamCell, Register, RegisterKind, ShortText,
+};
 use std::alloc::{AllocError, Global};
 use vlog_module::Name;
 
@@ -49,7 +51,35 @@ fn outside_name(alloc: Global, x: u8, y: u8, n: u8) -> Result<Name, AllocError>
     Name::new(alloc, text.bytes())
 }
 
-/// The name of an input port: `io_X_Y_N`, or `io_X_Y_N_in` for what the outside puts on the pad of a pin that drives it at times.
+/// The last part of the name of an output of a PLL.
+fn output_word(output: PllOutput) -> &'static [u8]
+    ensures word { result.now ≡ output_word output }
+    ensures short { length result.now ≤ 4 }
+{
+    match output {
+        PllOutput::A => b"a",
+        PllOutput::B => b"b",
+        PllOutput::Lock => b"lock",
+        PllOutput::Sdo => b"sdo",
+    }
+}
+
+/// The name of the port of an output of the PLL at (x, y): `pll_X_Y_a`, `pll_X_Y_b`, `pll_X_Y_lock` or `pll_X_Y_sdo`.
+#[tactic(auto, unfolding(crate::specs::Names::pll_name))]
+fn pll_name(alloc: Global, x: u32, y: u32, output: PllOutput) -> Result<Name, AllocError>
+    ensures { IfOk result (λ name. name ≡ pll_name x y output) }
+{
+    let mut text = ShortText::of(b"pll_");
+    text.push_number(x);
+    text.push(b"_");
+    text.push_number(y);
+    text.push(b"_");
+    text.push(output_word(output));
+    Name::new(alloc, text.bytes())
+}
+
+/// The name of an input port: `io_X_Y_N`, `io_X_Y_N_in` for what the outside puts on the pad of a pin that drives it at times, or that of an
+/// output of a PLL.
 ///
 /// # Errors
 /// `AllocError` if memory is out, and for no other cause.
@@ -59,6 +89,7 @@ pub fn input_port_name(alloc: Global, port: &InputPort) -> Result<Name, AllocErr
     match *port {
         InputPort::Pad { x, y, n } => pad_name(alloc, x, y, n),
         InputPort::Outside { x, y, n } => outside_name(alloc, x, y, n),
+        InputPort::Pll { x, y, output } => pll_name(alloc, x, y, output),
     }
 }
 

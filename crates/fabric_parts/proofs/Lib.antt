@@ -10,7 +10,7 @@ pub mod Named
 pub mod Sources
 -- the pins of all io tiles
 pub mod PinRecords
--- why pins aren't taken, by the lists of io tiles and their pins
+-- why pins aren't taken
 pub mod PinsListed
 -- the upper tile of a RAM
 pub mod Upper

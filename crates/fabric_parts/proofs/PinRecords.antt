@@ -1,6 +1,6 @@
 -- The pins of all io tiles: two of each tile, in the order of the tiles.
-use Rattle.std.proofs.Common.{◌≡◌, ℕ, suc, ◌+◌, ◌*◌, Bool, List, [], ◌∷◌, map, refl, sym, ap, ◌∙◌, subst, inl, inr, arith}
-use Rattle.std.specs.Prelude.{All, filter, codes, Option, Some, None, if◌then◌else◌}
+use Rattle.std.proofs.Common.{◌≡◌, ℕ, suc, ◌+◌, ◌*◌, Bool, true, false, ◌&&◌, List, [], ◌∷◌, map, refl, sym, ap, ◌∙◌, subst, inl, inr, arith}
+use Rattle.std.specs.Prelude.{All, filter, not, codes, Option, Some, None, if◌then◌else◌}
 use Rattle.std.specs.List.{flat_map}
 use Rattle.std.proofs.lemmas.Bool.{cases_Bool}
 use Rattle.std.proofs.lemmas.List.Elements.{All-nil, All-cons, All-head, All-tail, All-filter, All-weaker}
@@ -20,7 +20,10 @@ use Rattle.fabric_model.specs.declared.pin.PadInput.{PadInput}
 use Rattle.fabric_model.specs.On.{is_function_on}
 use Rattle.fabric_model.specs.PinTypes.{pintype_of, drive_of, sends_of, takes_of}
 use Rattle.fabric_model.specs.Numbered.{numbered_from, numbered}
-use Rattle.fabric_model.specs.Pins.{PinPlace, io_net, io_shared_net, is_input_read, is_second_read, is_global_pad, is_port, pin_places, pin_with, pins_of}
+use Rattle.fabric_model.specs.declared.pin.PadInput.TheVariants.{Nothing}
+use Rattle.fabric_model.specs.Nets.{io_net, io_shared_net}
+use Rattle.fabric_model.specs.Plls.{pll_sources, is_pll_place}
+use Rattle.fabric_model.specs.Pins.{PinPlace, is_input_read, is_second_read, is_global_pad, is_port, pin_places, pin_with, pins_of}
 use Rattle.fabric_model.specs.Faults.{pin_faults}
 use Rattle.fabric_model.specs.Tiles.{each_below, item_if}
 use Rattle.fabric_model.specs.TilesOfKind.{HasTile, tiles_of}
@@ -30,11 +33,18 @@ use Rattle.fabric_parts.specs.PinRecords.{pin_at, pin_records, tile_pins, IsFoun
 
 -- ---- one pin
 
+-- whether an output of a PLL has the pin
+abbrev is_taken_place : Bool → Database → Configuration → ℕ → ℕ → ℕ → Bool
+is_taken_place all db image x y n = is_pll_place (pll_sources all db image) x y n
+
 -- a pin is the one at its place if each of its fields is
 pub pin-is : (all : Bool) (db : Database) (image : Configuration) (j x y n pintype : ℕ) (drive : PadDrive) (sends : PadData) (takes : PadInput)
     (reads_0 reads_1 is_global neg : Bool) (inclk outclk cen din_0 din_1 dout_0 dout_1 enable data_net pad_net : Option ℕ)
-    → pintype ≡ pintype_of db image x y n → drive ≡ drive_of pintype → sends ≡ sends_of pintype → takes ≡ takes_of pintype
-    → reads_0 ≡ is_input_read db image x y n → reads_1 ≡ is_second_read db image x y n → is_global ≡ is_global_pad db image x y n
+    → pintype ≡ pintype_of db image x y n → drive ≡ drive_of pintype → sends ≡ sends_of pintype
+    → takes ≡ (if is_taken_place all db image x y n then Nothing else takes_of pintype)
+    → reads_0 ≡ (not (is_taken_place all db image x y n) && is_input_read db image x y n)
+    → reads_1 ≡ (not (is_taken_place all db image x y n) && is_second_read db image x y n)
+    → is_global ≡ (not (is_taken_place all db image x y n) && is_global_pad db image x y n)
     → neg ≡ is_function_on db image Io x y (codes "NegClk")
     → inclk ≡ io_shared_net db x y (codes "inclk") → outclk ≡ io_shared_net db x y (codes "outclk") → cen ≡ io_shared_net db x y (codes "cen")
     → din_0 ≡ io_net db x y n (codes "/D_IN_0") → din_1 ≡ io_net db x y n (codes "/D_IN_1")
@@ -108,14 +118,15 @@ refused_listed all db image pins are =
 -- ---- what is known of each pin
 
 found-pin : (all : Bool) (db : Kept) (image : AnyImage) (j x y n : ℕ) → HasTile image Io x y
-    → IsFoundPin db image (pin_with all (database_in db) (configuration_of image) j x y n)
-unfolding pin_with
-found-pin all db image j x y n here = record { tile = here; reads_0 = refl; reads_1 = refl; is_global = refl }
+    → IsFoundPin all db image (pin_with all (database_in db) (configuration_of image) j x y n)
+unfolding pin_with pll_sources
+found-pin false db image j x y n here = record { tile = here; reads_0 = λ of. refl; reads_1 = λ of. refl; is_global = λ of. refl }
+found-pin true db image j x y n here = record { tile = here; reads_0 = λ of. absurd cc; reads_1 = λ of. absurd cc; is_global = λ of. absurd cc }
 
 found-from : (all : Bool) (db : Kept) (image : AnyImage) (i : ℕ) (tiles : List TileXy8) → All (λ (tile : TileXy8). HasTile image Io tile.x tile.y) tiles
-    → All (IsFoundPin db image) (flat_map (tile_pins all (database_in db) (configuration_of image)) (numbered_from i tiles))
+    → All (IsFoundPin all db image) (flat_map (tile_pins all (database_in db) (configuration_of image)) (numbered_from i tiles))
 unfolding numbered_from
-found-from all db image i [] each = All-nil (IsFoundPin db image)
+found-from all db image i [] each = All-nil (IsFoundPin all db image)
 found-from all db image i (tile ∷ tiles) each =
     let Here : TileXy8 → Type 0 = λ tile. HasTile image Io tile.x tile.y in
     let here : HasTile image Io tile.x tile.y = All-head Here tile tiles each in
@@ -123,17 +134,17 @@ found-from all db image i (tile ∷ tiles) each =
     let rest : List Pin = flat_map given (numbered_from (suc i) tiles) in
     let first : Pin = pin_with all (database_in db) (configuration_of image) (2 * i) tile.x tile.y 0 in
     let second : Pin = pin_with all (database_in db) (configuration_of image) (2 * i + 1) tile.x tile.y 1 in
-    All-cons (IsFoundPin db image) first (second ∷ rest) (found-pin all db image (2 * i) tile.x tile.y 0 here)
-    (All-cons (IsFoundPin db image) second rest (found-pin all db image (2 * i + 1) tile.x tile.y 1 here)
+    All-cons (IsFoundPin all db image) first (second ∷ rest) (found-pin all db image (2 * i) tile.x tile.y 0 here)
+    (All-cons (IsFoundPin all db image) second rest (found-pin all db image (2 * i + 1) tile.x tile.y 1 here)
     (found-from all db image (suc i) tiles (All-tail Here tile tiles each)))
 
 pub found_listed : (all : Bool) (db : Kept) (image : AnyImage) (tiles : List TileXy8) (pins : List Pin) → All (λ (tile : TileXy8). HasTile image Io tile.x tile.y) tiles
-    → pins ≡ flat_map (tile_pins all (database_in db) (configuration_of image)) (numbered tiles) → All (IsFoundPin db image) pins
-found_listed all db image tiles pins each are = subst (All (IsFoundPin db image)) (sym are) (found-from all db image 0 tiles each)
+    → pins ≡ flat_map (tile_pins all (database_in db) (configuration_of image)) (numbered tiles) → All (IsFoundPin all db image) pins
+found_listed all db image tiles pins each are = subst (All (IsFoundPin all db image)) (sym are) (found-from all db image 0 tiles each)
 
 -- the ports stand in io tiles
-pub ports_placed : (db : Kept) (image : AnyImage) (pins : List Pin) → All (IsFoundPin db image) pins
+pub ports_placed : (all : Bool) (db : Kept) (image : AnyImage) (pins : List Pin) → All (IsFoundPin all db image) pins
     → All (λ (pin : Pin). HasTile image Io pin.x pin.y) (filter is_port pins)
-ports_placed db image pins found =
+ports_placed all db image pins found =
     let Placed : Pin → Type 0 = λ pin. HasTile image Io pin.x pin.y in
-    All-filter is_port Placed pins (All-weaker (IsFoundPin db image) Placed (λ pin is. is.tile) pins found)
+    All-filter is_port Placed pins (All-weaker (IsFoundPin all db image) Placed (λ pin is. is.tile) pins found)

@@ -3,29 +3,21 @@ use Rattle.std.specs.Prelude.{◌≡◌, ℕ, Bool, not, ◌&&◌, ◌||◌, cod
 use Rattle.plane_map.specs.declared.tile.TileKind.TheVariants.{Io}
 use Rattle.ice_image.specs.Configuration.{Configuration}
 use Rattle.chipdb_reader.specs.Database.{Database}
-use Rattle.chipdb_reader.specs.declared.items.TileXy8.{TileXy8}
 use Rattle.fabric_model.specs.Tiles.{item_if}
 use Rattle.fabric_model.specs.declared.pin.Pin.{Pin}
 use Rattle.fabric_model.specs.On.{is_function_on}
 use Rattle.fabric_model.specs.PinTypes.{pintype_of}
-use Rattle.fabric_model.specs.Pins.{has_pll, has_no_output, has_plain_input, has_tri_state_output, is_plain_input, is_registered_input, is_output_pin, is_refused_with, is_refused_of_all}
+use Rattle.fabric_model.specs.Pins.{has_no_output, has_plain_input, has_tri_state_output, is_plain_input, is_registered_input, is_output_pin, is_refused_with, is_refused_of_all}
 use Rattle.fabric_model.specs.Faults.{Fault}
-use Rattle.fabric_model.specs.Faults.Fault.{pll, pin_mode}
+use Rattle.fabric_model.specs.Faults.Fault.{pin_mode}
 use Rattle.fabric_parts.specs.declared.io.fault.PinFault.{PinFault}
-use Rattle.fabric_parts.specs.declared.io.fault.PinFault.TheVariants.{Pll, PinMode, Memory}
+use Rattle.fabric_parts.specs.declared.io.fault.PinFault.TheVariants.{PinMode, Memory}
 use Rattle.fabric_parts.specs.declared.io.refused.TypedPin.{TypedPin}
 
 -- a refusal tells the fault, or that memory ran out
 abbrev pub IsCause : Option Fault → PinFault → Type 0
-IsCause fault (Pll x y) = fault ≡ Some (pll x y)
 IsCause fault (PinMode x y pio pintype) = fault ≡ Some (pin_mode x y pio pintype)
 IsCause fault (Memory cause) = Unit {0}
-
--- ---- one tile
-
--- a PLL that is on in a tile
-abbrev pub pll_at : Database → Configuration → ℕ → ℕ → List Fault
-pll_at db image x y = item_if (has_pll db image x y) (pll x y)
 
 -- ---- one pin
 
@@ -55,10 +47,6 @@ fault_of all db image pin =
     item_if (is_refused all db image pin pintype) (pin_mode pin.x pin.y pin.n pintype)
 
 -- ---- what was found
-
-abbrev pub pll_fault : Option TileXy8 → Option Fault
-pll_fault None = None
-pll_fault (Some tile) = Some (pll tile.x tile.y)
 
 abbrev pub pin_fault : Option TypedPin → Option Fault
 pin_fault None = None

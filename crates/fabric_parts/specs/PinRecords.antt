@@ -1,5 +1,5 @@
 -- The pins of all io tiles, ports or not.
-use Rattle.std.specs.Prelude.{◌≡◌, ℕ, ◌+◌, ◌*◌, Bool, List, [], ◌∷◌, map}
+use Rattle.std.specs.Prelude.{◌≡◌, ℕ, ◌+◌, ◌*◌, Bool, false, List, [], ◌∷◌, map}
 use Rattle.plane_map.specs.declared.tile.TileKind.TheVariants.{Io}
 use Rattle.ice_image.specs.Configuration.{Configuration}
 use Rattle.ice_image.specs.declared.any.AnyImage.{AnyImage}
@@ -25,9 +25,10 @@ abbrev pub tile_pins : Bool → Database → Configuration → ℕ × TileXy8 �
 tile_pins all db image tile =
     pin_with all db image (2 * tile.0) tile.1.x tile.1.y 0 ∷ pin_with all db image (2 * tile.0 + 1) tile.1.x tile.1.y 1 ∷ []
 
--- a pin stands in an io tile of the image, and what it says of its nets and its pad is what the database and the image do
-pub record IsFoundPin (db : Kept) (image : AnyImage) (pin : Pin) : Type 0 where
+-- A pin stands in an io tile of the image. If not pins of every kind are taken, what it says of its nets and its pad is what the database and
+-- the image do.
+pub record IsFoundPin (all : Bool) (db : Kept) (image : AnyImage) (pin : Pin) : Type 0 where
   pub tile : HasTile image Io pin.x pin.y
-  pub reads_0 : pin.reads_0 ≡ is_input_read (database_in db) (configuration_of image) pin.x pin.y pin.n
-  pub reads_1 : pin.reads_1 ≡ is_second_read (database_in db) (configuration_of image) pin.x pin.y pin.n
-  pub is_global : pin.is_global ≡ is_global_pad (database_in db) (configuration_of image) pin.x pin.y pin.n
+  pub reads_0 : all ≡ false → pin.reads_0 ≡ is_input_read (database_in db) (configuration_of image) pin.x pin.y pin.n
+  pub reads_1 : all ≡ false → pin.reads_1 ≡ is_second_read (database_in db) (configuration_of image) pin.x pin.y pin.n
+  pub is_global : all ≡ false → pin.is_global ≡ is_global_pad (database_in db) (configuration_of image) pin.x pin.y pin.n

@@ -15,6 +15,7 @@ mod nets;
 mod orders;
 mod pin_files;
 mod pins;
+mod plls;
 mod rams;
 
 use chipdb_reader::{ChipDb, PinXy};
@@ -90,6 +91,10 @@ enum Gives<'a> {
     Module(&'a str),
     /// No design, since the class of joined nets of this net is on this combinational cycle.
     Loop(u32, &'a [u32]),
+    /// No design, since the PLLs aren't taken at this tile.
+    Pll(u32, u32),
+    /// No design, since this pin isn't taken, which has this type.
+    PinMode(PinXy, u8),
 }
 
 /// The place of the extra bit that lets the pad of global network 2 drive it.
@@ -184,9 +189,29 @@ fn is_cycle(fault: &FabricFault, net: u32, nets: &[u32]) -> bool {
     }
 }
 
+/// Whether a fault is that of PLLs at this tile.
+fn is_pll(fault: &FabricFault, tile: (u32, u32)) -> bool {
+    match fault {
+        FabricFault::Pll { x, y } => (*x, *y) == tile,
+        _ => false,
+    }
+}
+
+/// Whether a fault is that of this pin, with this type.
+fn is_pin_mode(fault: &FabricFault, pin: PinXy, type_bits: u8) -> bool {
+    match fault {
+        FabricFault::PinMode { x, y, pio, pintype } => {
+            (*x, *y, *pio, *pintype) == (pin.x, pin.y, pin.n, type_bits)
+        }
+        _ => false,
+    }
+}
+
 fn is_refused(fault: &FabricFault, gives: Gives) -> bool {
     match gives {
         Gives::Loop(net, nets) => is_cycle(fault, net, nets),
+        Gives::Pll(x, y) => is_pll(fault, (x, y)),
+        Gives::PinMode(pin, pintype) => is_pin_mode(fault, pin, pintype),
         _ => false,
     }
 }
@@ -272,11 +297,12 @@ fn has_ends(design: &Design, line: u32, ends: LinkEnds) -> bool {
 }
 
 /// Whether the pins that are found without a design are those of the design.
+#[tactic(auto, unfolding(fabric_model::specs::Plls::pll_sources))]
 fn finds_pins(alloc: Global, db: &ChipDb, image: &AnyImage, links: &Links, design: &Design) -> bool
     requires device { db.now.chip.device ≡ (configuration_of image.now).layout.device }
     requires links { AreLinks (database_in db.now) (configuration_of image.now) links.now }
 {
-    match find_pins(alloc, db, image, links, false) {
+    match find_pins(alloc, db, image, links, false, &[]) {
         Ok(found) => found.pins.as_slice() == design.pins()
             && found.globals.as_slice() == design.globals(),
         Err(_) => false,

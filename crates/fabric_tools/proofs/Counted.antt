@@ -4,10 +4,11 @@ use Rattle.std.specs.Prelude.{Option, None, Some}
 use Rattle.ice_image.specs.Configuration.{Configuration}
 use Rattle.chipdb_reader.specs.Database.{Database}
 use Rattle.fabric_model.specs.Faults.{Fault}
+use Rattle.fabric_plls.specs.declared.fault.PllFault.TheVariants as plls
 use Rattle.fabric_parts.specs.declared.io.fault.PinFault.TheVariants as pins
 use Rattle.fabric_parts.specs.declared.ram.fault.RamFault.TheVariants as rams
 use Rattle.image_stat.specs.declared.fault.StatFault.{StatFault}
-use Rattle.image_stat.specs.declared.fault.StatFault.TheVariants.{Device, Pins, Rams, Memory as OutOfMemory}
+use Rattle.image_stat.specs.declared.fault.StatFault.TheVariants.{Device, Plls, Pins, Rams, Memory as OutOfMemory}
 use Rattle.image_stat.specs.Counts.{counts_of, stat_text}
 use Rattle.image_stat.specs.Faults.{IsCause, stat_fault}
 use Rattle.tool_run.specs.declared.tool.Stop.{Stop}
@@ -21,7 +22,8 @@ use Rattle.fabric_tools.specs.Stat.{counted, counted_with}
 -- the cause of a refusal is the fault that it tells
 cause-told : (cause : Option Fault) (fault : StatFault) (one : Fault) → IsCause cause fault → told_fault (of_counts fault) ≡ Some one → cause ≡ Some one
 cause-told cause Device one is told = is ∙ told
-cause-told cause (Pins (pins.Pll x y)) one is told = is ∙ told
+cause-told cause (Plls (plls.Pll x y)) one is told = is ∙ told
+cause-told cause (Plls (plls.Memory failed)) one is told = absurd is
 cause-told cause (Pins (pins.PinMode x y pio pintype)) one is told = is ∙ told
 cause-told cause (Pins (pins.Memory failed)) one is told = absurd is
 cause-told cause (Rams (rams.Cascade x y)) one is told = is ∙ told

@@ -2,9 +2,9 @@
 use Rattle.std.specs.Prelude.{ℕ, List, ◌++◌, codes, decimal}
 use Rattle.fabric.specs.declared.fault.FabricFault.{FabricFault}
 use Rattle.fabric.specs.declared.fault.FabricFault.TheVariants.{Device as DesignDevice, Memory as DesignMemory}
-use Rattle.fabric.specs.Causes.{of_pins, of_rams}
+use Rattle.fabric.specs.Causes.{of_plls, of_pins, of_rams}
 use Rattle.image_stat.specs.declared.fault.StatFault.{StatFault}
-use Rattle.image_stat.specs.declared.fault.StatFault.TheVariants.{Device as CountsDevice, Pins, Rams, Memory as CountsMemory}
+use Rattle.image_stat.specs.declared.fault.StatFault.TheVariants.{Device as CountsDevice, Plls, Pins, Rams, Memory as CountsMemory}
 use Rattle.image_explain.specs.declared.fault.ExplainFault.{ExplainFault}
 use Rattle.image_explain.specs.declared.fault.ExplainFault.TheVariants.{Device as OtherDevice, NoTile, Memory}
 
@@ -17,6 +17,7 @@ explain_fault_text (Memory e) = codes "out of memory"
 -- a fault of counting as the same fault of a design, whose message is told
 abbrev pub of_counts : StatFault → FabricFault
 of_counts CountsDevice = DesignDevice
+of_counts (Plls fault) = of_plls fault
 of_counts (Pins fault) = of_pins fault
 of_counts (Rams fault) = of_rams fault
 of_counts (CountsMemory failed) = DesignMemory failed

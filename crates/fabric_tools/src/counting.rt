@@ -34,7 +34,8 @@ Usage: icebox_stat [--all-pins] [--layout FILE] DB [IMAGE]
   DB        the chip database of the image's device
   IMAGE     a bitstream (.bin) or a text (.asc); standard input if it is missing
   --all-pins
-            takes pins of every kind, apart from the few that PinMode names
+            takes pins of every kind, apart from the few that PinMode names,
+            and PLLs
   --layout FILE
             the layout file; the standard layout if it is missing
 
@@ -64,13 +65,15 @@ FILE, a database or an image with a fault is refused, and told by the first
 fault. An image is refused for these causes, looked for in this order:
 
   Device        the database is for another device: take the one for yours
-  Pll           a PLL is used
+  Pll           a PLL is used; with --all-pins: one that the database doesn't
+                describe
   PinMode       a pin of a kind that isn't taken; the six digits are the bits of
-                its type, PIN_TYPE. With --all-pins there are three such kinds:
+                its type, PIN_TYPE. With --all-pins there are four such kinds:
                 the last digit but one is 1 and D_IN_0 is used, which a latch
                 may hold; or the pin is the pad of a global network and drives
                 that pad too, so the first two digits aren't 00; or its tile has
-                LVDS, and it isn't pin 0 as an input
+                LVDS, and it isn't pin 0 as an input; or a PLL comes in at
+                it, and the last two digits aren't 01 or D_IN_1 is used
   Cascade       block RAMs that are chained
 
 Exit status: 0 done; 1 FILE, the database or the image is refused, with its

@@ -40,6 +40,7 @@ fn design_fault(fault: StatFault) -> FabricFault
 {
     match fault {
         StatFault::Device => FabricFault::Device,
+        StatFault::Plls(fault) => FabricFault::from(fault),
         StatFault::Pins(fault) => FabricFault::from(fault),
         StatFault::Rams(fault) => FabricFault::from(fault),
         StatFault::Memory(failed) => FabricFault::Memory(failed),

@@ -19,6 +19,7 @@ pub record ArePartsOf (fabric : Fabric) (parts : Parts) : Type 0 where
   pub classes : (net : ℕ) → class_in parts.links net ≡ class_of fabric.joins net
   pub buffers : map buffer_of parts.buffers.items ≡ fabric.buffers
   pub pins : parts.pins.items ≡ fabric.pins
+  pub plls : parts.plls.items ≡ fabric.plls
   pub globals : parts.globals.items ≡ fabric.globals
   pub lut_inputs : parts.options.lut_inputs ≡ fabric.lut_inputs
   pub lcs : parts.lcs.items ≡ fabric.lcs

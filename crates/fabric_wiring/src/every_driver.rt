@@ -9,7 +9,7 @@ use crate::cells::{append_carries, append_louts, append_luts, append_sets};
 use crate::drive::{Drive, Rule};
 use crate::inner_nets::{append_each_data, append_pads};
 use crate::parts::{Buffer, Parts};
-use crate::pins::{append_backs, append_globals, append_pins};
+use crate::pins::{append_backs, append_globals, append_pins, append_plls};
 use crate::push::push_if;
 use crate::rams::append_rams;
 use crate::registers::{append_flips, append_inputs, append_seconds, flip_count};
@@ -31,7 +31,7 @@ fn append_buffers(drives: &mut Vec<Drive>, buffers: &[Buffer]) -> Result<(), All
 pub(crate) fn all_drives(alloc: Global, parts: &Parts) -> Result<Vec<Drive>, AllocError>
     ensures { IfOk result (λ drives. (fabric : Fabric) → ArePartsOf fabric parts.now → map drive_of drives.items ≡ drives_of fabric) }
 {
-    let signals = PinSignals::new(alloc, flip_count(&parts.lcs), &parts.pins)?;
+    let signals = PinSignals::new(alloc, flip_count(&parts.lcs), &parts.pins, &parts.plls)?;
     let mut drives = Vec::new(alloc);
     append_pins(&mut drives, &signals, &parts.pins)?;
     append_backs(&mut drives, &signals, &parts.pins)?;
@@ -47,5 +47,6 @@ pub(crate) fn all_drives(alloc: Global, parts: &Parts) -> Result<Vec<Drive>, All
     append_seconds(&mut drives, &parts.registers)?;
     append_each_data(&mut drives, &signals, &parts.pins)?;
     append_pads(&mut drives, &signals, &parts.pins)?;
+    append_plls(&mut drives, &signals, &parts.plls)?;
     Ok(drives)
 }

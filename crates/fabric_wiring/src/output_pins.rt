@@ -82,6 +82,6 @@ pub fn outputs(alloc: Global, parts: &Parts) -> Result<Vec<Output>, AllocError>
     requires parts { ArePartsOf fabric parts.now }
     ensures { IfOk result (λ outputs. map output_of outputs.items ≡ outputs_of fabric) }
 {
-    let signals = PinSignals::new(alloc, flip_count(&parts.lcs), &parts.pins)?;
+    let signals = PinSignals::new(alloc, flip_count(&parts.lcs), &parts.pins, &parts.plls)?;
     outputs_among(alloc, &signals, &parts.pins)
 }

@@ -1,13 +1,15 @@
-// What pins and global networks drive.
+// What pins, global networks and outputs of PLLs drive.
 ghost use Rattle.std.specs.Prelude.{◌≡◌, ◌++◌, map, flat_map, IfOk, OnOk};
 ghost use Rattle.fabric_model.specs.PinTypes.{takes_pad};
-ghost use Rattle.fabric_model.specs.Drivers.{pin_drives, is_read_back, global_rule, global_drives};
+ghost use Rattle.fabric_model.specs.Drivers.{pin_drives, is_read_back, global_rule, global_drives, pll_drives};
 ghost use Rattle.fabric_wiring.specs.Drives.{drive_of, rule_of};
 ghost use Rattle.fabric_wiring.specs.Outputs.{back_from};
 
 use crate::drive::{Drive, Rule};
 use crate::push::push_if;
-use fabric_model::{Driver, GlobalFrom, GlobalNet, InputPort, PadInput, Pin, PinSignals};
+use fabric_model::{
+    Driver, GlobalFrom, GlobalNet, InputPort, PadInput, Pin, PinSignals, PllSource,
+};
 use std::alloc::AllocError;
 
 /// Whether the fabric gets the pad as it is.
@@ -87,7 +89,7 @@ pub(crate) fn append_backs(
 
 /// How a global network makes its value.
 fn global_rule(signals: &PinSignals<'_>, from: GlobalFrom) -> Result<Rule, AllocError>
-    ensures { IfOk result (λ rule. rule_of rule ≡ global_rule signals.now.pins from) }
+    ensures { IfOk result (λ rule. rule_of rule ≡ global_rule signals.now.pins signals.now.plls from) }
 {
     match from {
         GlobalFrom::Pad { x, y, n } => Ok(Rule::PinBit(signals.input_place(InputPort::Pad {
@@ -95,6 +97,7 @@ fn global_rule(signals: &PinSignals<'_>, from: GlobalFrom) -> Result<Rule, Alloc
             y,
             n,
         })?)),
+        GlobalFrom::Pll { x, y, output } => Ok(Rule::PinBit(signals.pll_place(x, y, output)?)),
         GlobalFrom::Fabout { net } => Ok(Rule::Copied(net)),
     }
 }
@@ -105,7 +108,7 @@ pub(crate) fn append_globals(
     signals: &PinSignals<'_>,
     globals: &[GlobalNet],
 ) -> Result<(), AllocError>
-    ensures { OnOk result (map drive_of drives.new.items ≡ map drive_of drives.old.items ++ flat_map (global_drives signals.now.pins) globals.now) }
+    ensures { OnOk result (map drive_of drives.new.items ≡ map drive_of drives.old.items ++ flat_map (global_drives signals.now.pins signals.now.plls) globals.now) }
 {
     for global in globals {
         let rule = global_rule(signals, global.from)?;
@@ -114,6 +117,33 @@ pub(crate) fn append_globals(
             net: global.net,
         };
         push_if(drives, driver, rule, Some(global.net))?;
+    }
+    Ok(())
+}
+
+/// Appends what an output of a PLL drives that is an input port.
+fn append_pll(
+    drives: &mut Vec<Drive>,
+    signals: &PinSignals<'_>,
+    port: PllSource,
+) -> Result<(), AllocError>
+    ensures { OnOk result (map drive_of drives.new.items ≡ map drive_of drives.old.items ++ pll_drives signals.now.pins signals.now.plls port) }
+{
+    let (x, y, output) = (port.x, port.y, port.output);
+    let rule = Rule::PinBit(signals.pll_place(x, y, output)?);
+    push_if(drives, Driver::PllOut { x, y, output }, rule, port.net)
+}
+
+/// Appends what outputs of PLLs drive that are input ports.
+pub(crate) fn append_plls(
+    drives: &mut Vec<Drive>,
+    signals: &PinSignals<'_>,
+    plls: &[PllSource],
+) -> Result<(), AllocError>
+    ensures { OnOk result (map drive_of drives.new.items ≡ map drive_of drives.old.items ++ flat_map (pll_drives signals.now.pins signals.now.plls) plls.now) }
+{
+    for port in plls {
+        append_pll(drives, signals, *port)?;
     }
     Ok(())
 }

@@ -1,6 +1,6 @@
 -- What a run of `vlogrun` appends if its text spells the module of a design.
 use Rattle.std.proofs.Common.{◌≡◌, ◌∙◌, ℕ, Bool, true, false, List, [], codes, refl, sym, ap, subst}
-use Rattle.std.specs.Prelude.{Option, Some, None, flat_map, get_or, if◌then◌else◌}
+use Rattle.std.specs.Prelude.{Option, Some, None, get_or, if◌then◌else◌}
 use Rattle.clap.specs.Words.{Text, first_of, matches_of}
 use Rattle.ice_image.specs.Configuration.{Configuration}
 use Rattle.chipdb_reader.specs.Database.{Database}
@@ -14,7 +14,7 @@ use Rattle.vlog_run.specs.Text.{run_text}
 use Rattle.fabric_model.specs.Fabric.{fabric_with}
 use Rattle.fabric_model.specs.Steps.{Entry, IsRun}
 use Rattle.fabric_module.specs.Names.{input_port_name, output_name}
-use Rattle.fabric_module.specs.Written.{module_of, pin_ports}
+use Rattle.fabric_module.specs.Written.{module_of, ports_of}
 use Rattle.fabric_module.proofs.Design.{design-is-module}
 use Rattle.pin_file.specs.declared.pin_name.PinName.{PinName}
 use Rattle.port_names.specs.Named.{named_input, named_module, named_output}
@@ -52,19 +52,19 @@ spelled-done registers m text events lines spells done =
 
 -- the lines for the module of a design
 own-shown : (db : Database) (image : Configuration) (m : Parts) (is : IsModuleOf None db image m) → (registers : Bool) (events : List ℕ) (entries : List Entry)
-    → IsRun (fabric_for is.design db image) (fabric_events (ports_with None (fabric_for is.design db image).pins) events) entries → run_text m (events_of m.ports events) registers ≡ fabric_text registers entries
+    → IsRun (fabric_for is.design db image) (fabric_events (ports_with None (fabric_for is.design db image)) events) entries → run_text m (events_of m.ports events) registers ≡ fabric_text registers entries
 unfolding module_of fabric_with
 own-shown db image m is registers events entries run =
     let fabric = fabric_for is.design db image in
     let options = is.design.parts.options in
     let design = is.is_design in
     let shown = run-shown input_port_name output_name fabric (module_of (fabric_with options db image) is.design.order is.name) registers events entries
-    (design-is-module options db image design.fit design.few design.taken is.design.order design.kept.order is.name (fabric_events (flat_map pin_ports fabric.pins) events) entries run) in
+    (design-is-module options db image design.fit design.few design.taken is.design.order design.kept.order is.name (fabric_events (ports_of fabric) events) entries run) in
     subst (λ (one : Parts). run_text one (events_of one.ports events) registers ≡ fabric_text registers entries) (sym is.is) shown
 
 -- the lines for the module with the names of a pin file
 named-shown : (named : List PinName) (db : Database) (image : Configuration) (m : Parts) (is : IsModuleOf (Some named) db image m) → (registers : Bool) (events : List ℕ) (entries : List Entry)
-    → IsRun (fabric_for is.design db image) (fabric_events (ports_with (Some named) (fabric_for is.design db image).pins) events) entries → run_text m (events_of m.ports events) registers ≡ fabric_text registers entries
+    → IsRun (fabric_for is.design db image) (fabric_events (ports_with (Some named) (fabric_for is.design db image)) events) entries → run_text m (events_of m.ports events) registers ≡ fabric_text registers entries
 named-shown named db image m is registers events entries run =
     let options = is.design.parts.options in
     let design = is.is_design in
@@ -75,7 +75,7 @@ named-shown named db image m is registers events entries run =
     subst (λ (one : Parts). run_text one (events_of one.ports events) registers ≡ fabric_text registers entries) (sym is.is) shown
 
 module-shown : (names : Option (List PinName)) (db : Database) (image : Configuration) (m : Parts) (is : IsModuleOf names db image m) → (registers : Bool) (events : List ℕ) (entries : List Entry)
-    → IsRun (fabric_for is.design db image) (fabric_events (ports_with names (fabric_for is.design db image).pins) events) entries → run_text m (events_of m.ports events) registers ≡ fabric_text registers entries
+    → IsRun (fabric_for is.design db image) (fabric_events (ports_with names (fabric_for is.design db image)) events) entries → run_text m (events_of m.ports events) registers ≡ fabric_text registers entries
 module-shown None = own-shown
 module-shown (Some named) = named-shown named
 

@@ -1,5 +1,5 @@
 -- What a run of `vlogrun` promises for the module of a design: it is the run of the design's fabric.
-use Rattle.std.specs.Prelude.{◌≡◌, ℕ, Bool, false, List, [], codes, flat_map, get_or, Option, None, Some}
+use Rattle.std.specs.Prelude.{◌≡◌, ℕ, Bool, false, List, [], codes, get_or, Option, None, Some}
 use Rattle.clap.specs.Words.{matches_of}
 use Rattle.ice_image.specs.Configuration.{Configuration}
 use Rattle.chipdb_reader.specs.Database.{Database}
@@ -12,7 +12,7 @@ use Rattle.fabric_model.specs.Fabric.{Fabric, fabric_with, reading_all}
 use Rattle.fabric_model.specs.Steps.{Entry, IsRun}
 use Rattle.fabric.specs.Kept.{Kept}
 use Rattle.fabric.specs.Design.{IsDesignOf}
-use Rattle.fabric_module.specs.Written.{module_of, pin_ports}
+use Rattle.fabric_module.specs.Written.{module_of, ports_of}
 use Rattle.pin_file.specs.declared.pin_name.PinName.{PinName}
 use Rattle.port_names.specs.Named.{AreAccepted, named_module, named_ports}
 use Rattle.tool_run.specs.Runs.{Outside, Scene}
@@ -23,9 +23,9 @@ use Rattle.module_tools.specs.Vlogrun.{vlogrun_command, vlogrun_outcome}
 use Rattle.design_answers.specs.Lines.{fabric_events, fabric_text}
 
 -- the ports of a design's module, which have the names of a pin file, or their own
-abbrev pub ports_with : Option (List PinName) → List Pin → List Port
-ports_with None pins = flat_map pin_ports pins
-ports_with (Some named) pins = named_ports named pins
+abbrev pub ports_with : Option (List PinName) → Fabric → List Port
+ports_with None fabric = ports_of fabric
+ports_with (Some named) fabric = named_ports named fabric
 
 -- the module of a fabric with these ports
 abbrev pub module_with : Option (List PinName) → Fabric → List ℕ → List ℕ → Parts
@@ -56,7 +56,7 @@ abbrev pub RunsFabric : Bool → List (List ℕ) → List ℕ → Type 0
 RunsFabric registers texts bytes =
     (names : Option (List PinName)) (db : Database) (image : Configuration) (m : Parts) (is : IsModuleOf names db image m) → IsSpelling (get_or texts 0 []) m
     → (entries : List Entry)
-    → IsRun (fabric_for is.design db image) (fabric_events (ports_with names (fabric_for is.design db image).pins) (get_or texts 1 [])) entries
+    → IsRun (fabric_for is.design db image) (fabric_events (ports_with names (fabric_for is.design db image)) (get_or texts 1 [])) entries
     → bytes ≡ fabric_text registers entries
 
 -- whether the arguments of `vlogrun` ask for registers

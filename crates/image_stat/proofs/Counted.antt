@@ -12,7 +12,7 @@ use Rattle.image_stat.specs.Counts.{counts_of, cram_bits, globals_among, ones_in
 
 pub counts-are : (all : Bool) (db : Database) (image : Configuration) (luts flops carries rams pins globals buffers routings bits extra : ℕ)
     → luts ≡ length (cells_of db image) → flops ≡ count_by (λ lc. lc.flip) (cells_of db image) → carries ≡ count_by (λ lc. lc.carry) (cells_of db image)
-    → rams ≡ length (rams_of db image) → pins ≡ length (pins_of all db image) → globals ≡ length (globals_among (globals_of db image))
+    → rams ≡ length (rams_of db image) → pins ≡ length (pins_of all db image) → globals ≡ length (globals_among (globals_of all db image))
     → buffers ≡ count_by (is_link_on image) db.buffers → routings ≡ count_by (is_link_on image) db.routings
     → bits ≡ ones_in (cram_bits image) → extra ≡ length (set_extras image)
     → (let counts : Counts = record { luts = luts; flops = flops; carries = carries; rams = rams; pins = pins; globals = globals; buffers = buffers; routings = routings; bits = bits; extra = extra } in counts)

@@ -4,5 +4,5 @@ pub mod Counted
 pub mod Ones
 -- links that are on
 pub mod Links
--- the faults of links, pins and RAMs are the faults of counting
+-- the faults of links, PLLs, pins and RAMs are the faults of counting
 pub mod Refused

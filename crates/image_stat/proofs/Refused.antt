@@ -1,20 +1,26 @@
--- The faults of links, pins and RAMs are the faults of counting, if nothing before them is wrong.
+-- The faults of links, PLLs, pins and RAMs are the faults of counting, if nothing before them is wrong.
 use Rattle.std.proofs.Common.{◌≡◌, [], refl, ◌∙◌}
 use Rattle.std.specs.Prelude.{◌↔◌, Bool, Some, None}
 use Rattle.plane_map.proofs.Devices.{same-device, other-device}
 use Rattle.ice_image.specs.Configuration.{Configuration}
 use Rattle.chipdb_reader.specs.Database.{Database}
 use Rattle.index_search.specs.Places.{or_else}
-use Rattle.fabric_model.specs.Faults.{Fault, device_faults, pins_fault, rams_fault}
+use Rattle.fabric_model.specs.Tiles.{first_of}
+use Rattle.fabric_model.specs.Plls.{pll_tile}
+use Rattle.fabric_model.specs.Faults.{Fault, device_faults, pin_faults, pins_fault, rams_fault}
+use Rattle.fabric_model.proofs.PinsFault.{plls-first, pins-left}
 use Rattle.fabric_model.specs.declared.fault.LinkFault.{LinkFault}
 use Rattle.fabric_model.specs.declared.fault.LinkFault.TheVariants as links
+use Rattle.fabric_plls.specs.declared.fault.PllFault.{PllFault}
+use Rattle.fabric_plls.specs.declared.fault.PllFault.TheVariants as plls
+use Rattle.fabric_plls.specs.Tiles.{IsCause as IsPllCause}
 use Rattle.fabric_parts.specs.declared.io.fault.PinFault.{PinFault}
 use Rattle.fabric_parts.specs.declared.io.fault.PinFault.TheVariants as pins
 use Rattle.fabric_parts.specs.PinFaults.{IsCause as IsPinCause}
 use Rattle.fabric_parts.specs.declared.ram.fault.RamFault.{RamFault}
 use Rattle.fabric_parts.specs.declared.ram.fault.RamFault.TheVariants as rams
 use Rattle.fabric_parts.specs.RamFaults.{IsCause as IsRamCause}
-use Rattle.image_stat.specs.Causes.{of_links, of_pins, of_rams}
+use Rattle.image_stat.specs.Causes.{of_links, of_plls, of_pins, of_rams}
 use Rattle.image_stat.specs.Faults.{IsCause, stat_fault}
 
 module _ (all : Bool) (db : Database) (image : Configuration) where
@@ -38,10 +44,14 @@ module _ (all : Bool) (db : Database) (image : Configuration) where
     pins-refuse : (cause : Fault) → pins_fault all db image ≡ Some cause → stat_fault all db image ≡ Some cause
     pins-refuse cause is = behind-device same ∙ rw is refl
 
-    pub pins-cause : (fault : PinFault) → IsPinCause (pins_fault all db image) fault → IsCause (stat_fault all db image) (of_pins fault)
-    pins-cause (pins.Pll x y) is = pins-refuse _ is
-    pins-cause (pins.PinMode x y pio pintype) is = pins-refuse _ is
-    pins-cause (pins.Memory failed) is = tt
+    pub plls-cause : (fault : PllFault) → IsPllCause (pll_tile all db image) fault → IsCause (stat_fault all db image) (of_plls fault)
+    plls-cause (plls.Pll x y) is = pins-refuse _ (plls-first all db image x y is)
+    plls-cause (plls.Memory failed) is = tt
+
+    pub pins-cause : pll_tile all db image ≡ None → (fault : PinFault) → IsPinCause (first_of (pin_faults all db image)) fault
+        → IsCause (stat_fault all db image) (of_pins fault)
+    pins-cause taken (pins.PinMode x y pio pintype) is = pins-refuse _ (pins-left all db image taken ∙ is)
+    pins-cause taken (pins.Memory failed) is = tt
 
     module _ (pins-taken : pins_fault all db image ≡ None) where
       rams-refuse : (cause : Fault) → rams_fault db image ≡ Some cause → stat_fault all db image ≡ Some cause

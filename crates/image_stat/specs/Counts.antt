@@ -32,7 +32,7 @@ globals_among nets = gathered_below 8 (λ g. item_if (list_any (λ global. globa
 
 -- The counts of a database and an image. Logic cells and RAMs count if they are used, and pins if they are ports, of every kind or not.
 -- Flip-flops and carries are counted among the used cells. Links count if they are on, and bits of the configuration planes, extra bits
--- included, if they are 1.
+-- included, if they are 1. PLLs and their outputs aren't counted.
 unfoldable pub counts_of : Bool → Database → Configuration → Counts
 counts_of all db image = record {
   luts = length (cells_of db image);
@@ -40,7 +40,7 @@ counts_of all db image = record {
   carries = count_by (λ lc. lc.carry) (cells_of db image);
   rams = length (rams_of db image);
   pins = length (pins_of all db image);
-  globals = length (globals_among (globals_of db image));
+  globals = length (globals_among (globals_of all db image));
   buffers = count_by (is_link_on image) db.buffers;
   routings = count_by (is_link_on image) db.routings;
   bits = ones_in (cram_bits image);

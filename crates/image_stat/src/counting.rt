@@ -13,6 +13,7 @@ use crate::globals::globals;
 use chipdb_reader::ChipDb;
 use fabric_model::links;
 use fabric_parts::{cells, pins, rams};
+use fabric_plls::plls;
 use ice_image::AnyImage;
 use std::alloc::Global;
 
@@ -20,9 +21,9 @@ use std::alloc::Global;
 /// number. `all_pins` says whether pins of every kind are taken.
 ///
 /// # Errors
-/// `Device` if the database is for another device; else `Pins` with the first pin that is refused (a PLL or a pin type that isn't
-/// supported); else `Rams` with the first RAM that is refused (a cascaded one). `Memory` if memory is out; it may come in place of any
-/// other answer.
+/// `Device` if the database is for another device; else `Plls` with the first tile whose PLL is refused; else `Pins` with the first pin
+/// that is refused (one whose type isn't supported); else `Rams` with the first RAM that is refused (a cascaded one). `Memory` if memory is
+/// out; it may come in place of any other answer.
 ///
 /// # Example
 /// ```ignore
@@ -55,7 +56,8 @@ fn counts(alloc: Global, db: &ChipDb, image: &AnyImage, all_pins: bool) -> Resul
     ensures refused { IfErr result (IsCause (stat_fault all_pins (database_in db.now) (configuration_of image.now))) }
 {
     let links = links(alloc, db, image, all_pins)?;
-    let pins = pins(alloc, db, image, &links, all_pins)?;
+    let sources = plls(alloc, db, image, all_pins)?;
+    let pins = pins(alloc, db, image, &links, all_pins, &sources)?;
     let rams = rams(alloc, db, image, &links)?;
     let cells = cells(alloc, db, image)?;
     let extras = image.extra_bits(alloc)?;

@@ -3,6 +3,7 @@ ghost use Rattle.std.specs.Prelude.{◌≡◌};
 
 use fabric_model::LinkFault;
 use fabric_parts::{PinFault, RamFault};
+use fabric_plls::PllFault;
 use std::alloc::AllocError;
 
 /// Why a database and an image are not counted. If there are several causes, the first in this list is reported.
@@ -10,6 +11,8 @@ use std::alloc::AllocError;
 pub enum StatFault {
     /// The database is for another device than the image.
     Device,
+    /// A PLL is refused. Out of memory is never reported here.
+    Plls(PllFault),
     /// A pin is refused. Out of memory is never reported here.
     Pins(PinFault),
     /// A RAM is refused. Out of memory is never reported here.
@@ -41,6 +44,19 @@ impl From<LinkFault> for StatFault {
     }
 }
 
+impl From<PllFault> for StatFault {
+    ghost use Rattle.image_stat.specs.Causes.{of_plls};
+
+    ghost from_gives = { λ e fault. fault ≡ of_plls e };
+
+    fn from(e: PllFault) -> StatFault {
+        match e {
+            PllFault::Memory(e) => StatFault::Memory(e),
+            PllFault::Pll { .. } => StatFault::Plls(e),
+        }
+    }
+}
+
 impl From<PinFault> for StatFault {
     ghost use Rattle.image_stat.specs.Causes.{of_pins};
 
@@ -49,7 +65,7 @@ impl From<PinFault> for StatFault {
     fn from(e: PinFault) -> StatFault {
         match e {
             PinFault::Memory(e) => StatFault::Memory(e),
-            PinFault::Pll { .. } | PinFault::PinMode { .. } => StatFault::Pins(e),
+            PinFault::PinMode { .. } => StatFault::Pins(e),
         }
     }
 }

@@ -18,7 +18,9 @@ use Rattle.vlog_module.specs.WellFormed.{port_sort, declared_by}
 use Rattle.fabric_model.specs.declared.register.Register.{Register}
 use Rattle.fabric_model.specs.declared.ram.RamCell.{RamCell}
 use Rattle.fabric_model.specs.declared.pin.Pin.{Pin}
+use Rattle.fabric_model.specs.declared.pll.PllSource.{PllSource}
 use Rattle.fabric_model.specs.Tiles.{each_below}
+use Rattle.fabric_model.specs.InputPorts.{pll_input}
 use Rattle.fabric_model.specs.Fabric.{Fabric, numbered}
 use Rattle.fabric_model.specs.Outputs.{outputs_of}
 use Rattle.index_search.proofs.Gathered.{All-gathered_below}
@@ -26,9 +28,9 @@ use Rattle.fabric_model.proofs.Apart.{All-every}
 use Rattle.fabric_model.proofs.Within.{All-flat_map, All-single, All-if}
 use Rattle.fabric_module.proofs.Configured.{each-name}
 use Rattle.fabric_module.specs.Rights.{setting_wire}
-use Rattle.fabric_module.specs.Written.{clock_name, clocked, pin_ports, register_item, read_register, ram_memory, class_wire, output_assign, items_by, register_items, read_item, read_items, write_item, write_items, start_item, start_items, items_of, module_of}
+use Rattle.fabric_module.specs.Written.{clock_name, clocked, input_port, pin_ports, ports_of, register_item, read_register, ram_memory, class_wire, output_assign, items_by, register_items, read_item, read_items, write_item, write_items, start_item, start_items, items_of, module_of}
 use Rattle.port_names.specs.Fresh.{declared_names}
-use Rattle.port_names.proofs.Own.{IsOwn, own-port, own-enable, own-outside, own-register, own-read, own-memory, own-wire}
+use Rattle.port_names.proofs.Own.{IsOwn, own-port, own-enable, own-outside, own-pll, own-register, own-read, own-memory, own-wire}
 
 -- ---- what items declare
 
@@ -164,18 +166,27 @@ items-own fabric order =
 
 -- ---- the module
 
-pub ports-own : (pins : List Pin) → All (λ (port : Port). IsOwn port.name) (flat_map pin_ports pins)
-ports-own pins =
+pub pins-own : (pins : List Pin) → All (λ (port : Port). IsOwn port.name) (flat_map pin_ports pins)
+pins-own pins =
     All-flat_map (λ (port : Port). IsOwn port.name) pin_ports pins
     (All-every (λ pin. All (λ (port : Port). IsOwn port.name) (pin_ports pin))
     (λ pin. each-name IsOwn pin (own-port pin) (own-enable pin) (own-outside pin.x pin.y pin.n)) pins)
+
+plls-own : (plls : List PllSource) → All (λ (port : Port). IsOwn port.name) (map input_port (map pll_input plls))
+plls-own [] = All-nil (λ (port : Port). IsOwn port.name)
+plls-own (pll ∷ plls) =
+    All-cons (λ (port : Port). IsOwn port.name) (input_port (pll_input pll)) (map input_port (map pll_input plls)) (own-pll pll.x pll.y pll.output) (plls-own plls)
+
+ports-own : (fabric : Fabric) → All (λ (port : Port). IsOwn port.name) (ports_of fabric)
+ports-own fabric =
+    All-append (λ (port : Port). IsOwn port.name) (flat_map pin_ports fabric.pins) (map input_port (map pll_input fabric.plls)) (pins-own fabric.pins) (plls-own fabric.plls)
 
 pub declared-own : (fabric : Fabric) (order name : List ℕ) → All IsOwn (declared_names (module_of fabric order name))
 unfolding module_of
 declared-own fabric order name =
     All-map IsOwn (λ (entry : List ℕ × Sort). entry.0)
-    (map (λ port. (port.name, port_sort port)) (flat_map pin_ports fabric.pins) ++ flat_map declared_by (flat_map uses_of (items_of fabric order)))
-    (All-append (λ (entry : List ℕ × Sort). IsOwn entry.0) (map (λ port. (port.name, port_sort port)) (flat_map pin_ports fabric.pins)) _
-    (All-map (λ (entry : List ℕ × Sort). IsOwn entry.0) (λ (port : Port). (port.name, port_sort port)) (flat_map pin_ports fabric.pins) (ports-own fabric.pins))
+    (map (λ port. (port.name, port_sort port)) (ports_of fabric) ++ flat_map declared_by (flat_map uses_of (items_of fabric order)))
+    (All-append (λ (entry : List ℕ × Sort). IsOwn entry.0) (map (λ port. (port.name, port_sort port)) (ports_of fabric)) _
+    (All-map (λ (entry : List ℕ × Sort). IsOwn entry.0) (λ (port : Port). (port.name, port_sort port)) (ports_of fabric) (ports-own fabric))
     (All-flat_map (λ (entry : List ℕ × Sort). IsOwn entry.0) declared_by (flat_map uses_of (items_of fabric order))
     (All-flat_map UseOwn uses_of (items_of fabric order) (All-weaker IsOwnItem (λ item. All UseOwn (uses_of item)) item-own (items_of fabric order) (items-own fabric order)))))

@@ -14,20 +14,20 @@ use Rattle.fabric_model.specs.declared.input_port.InputPort.{InputPort}
 use Rattle.fabric_model.specs.declared.input_port.InputPort.TheVariants.{Pad as PadPort, Outside as OutsidePort}
 use Rattle.fabric_model.specs.Tiles.{item_if}
 use Rattle.fabric_model.specs.Pins.{drives, is_switched, has_input, has_outside, is_port}
-use Rattle.fabric_model.specs.InputPorts.{pin_inputs}
+use Rattle.fabric_model.specs.InputPorts.{pin_inputs, pll_input}
 use Rattle.fabric_model.specs.Fabric.{Fabric}
 use Rattle.fabric_model.proofs.Apart.{AreApart, apart-weaker}
 use Rattle.fabric_model.proofs.Within.{All-flat_map, All-single, if-when}
 use Rattle.fabric_model.proofs.Contained.{contains-map}
 use Rattle.fabric_module.specs.Names.{port_name, enable_name, outside_name}
-use Rattle.fabric_module.specs.Written.{output_port, input_port, pin_ports, module_of}
+use Rattle.fabric_module.specs.Written.{output_port, input_port, pin_ports, ports_of, module_of}
 use Rattle.pin_file.specs.declared.pin_name.PinName.{PinName}
 use Rattle.pin_file.specs.PortNames.{has_own_form, all_names, AreSafe, enable_name as enable_name_behind, input_name as input_name_behind}
 use Rattle.port_names.specs.Fresh.{old_names, new_names, declared_names, port_names, IsFresh, AreNames, OnlyPorts}
 use Rattle.port_names.specs.Named.{port_pins, given_name, renaming_by, pin_renaming, port_renaming}
 use Rattle.port_names.proofs.Own.{IsOwn}
-use Rattle.port_names.proofs.DeclaredOwn.{ports-own, declared-own}
-use Rattle.port_names.proofs.Lists.{All-each, PartsDiffer, parts-apart, apart-before, Differ, apart-names, has_name-none}
+use Rattle.port_names.proofs.DeclaredOwn.{pins-own, declared-own}
+use Rattle.port_names.proofs.Lists.{All-each, All-front, apart-front, PartsDiffer, parts-apart, apart-before, Differ, apart-names, has_name-none}
 use Rattle.port_names.proofs.PinFileNames.{apart-known, new-all, new-apart}
 
 -- ---- old names
@@ -103,16 +103,21 @@ old-pin Q pin is (Some name) all =
     (if-when Old (has_outside pin) ((outside_name pin.x pin.y pin.n, input_name_behind name) ∷ [])
     (λ here. All-single Old (outside_name pin.x pin.y pin.n, input_name_behind name) (All-contains NamedSo (pin_ports pin) (input_port (OutsidePort pin.x pin.y pin.n)) all (outside-in pin here)))))
 
-old-all : (named : List PinName) (pins : List Pin) → All IsPort pins → (Q : List ℕ → Type 0) → All (λ (port : Port). Q port.name) (flat_map pin_ports pins)
-    → All Q (old_names (port_renaming named pins))
+-- and so it does of those of all pins
+pub old-entries : (named : List PinName) (pins : List Pin) → All IsPort pins → (Q : List ℕ → Type 0) → All (λ (port : Port). Q port.name) (flat_map pin_ports pins)
+    → All (λ (entry : List ℕ × List ℕ). Q entry.0) (port_renaming named pins)
 unfolding port_renaming
-old-all named pins ported Q all =
+old-entries named pins ported Q all =
     let NamedSo = λ (port : Port). Q port.name in
     let Old = λ (entry : List ℕ × List ℕ). Q entry.0 in
-    All-map Q (λ (entry : List ℕ × List ℕ). entry.0) (flat_map (pin_renaming named) pins)
-    (All-flat_map Old (pin_renaming named) pins
+    All-flat_map Old (pin_renaming named) pins
     (All-both IsPort (λ pin. All NamedSo (pin_ports pin)) (λ pin. All Old (pin_renaming named pin))
-    (λ pin is each. old-pin Q pin is (given_name named pin) each) pins ported (All-each NamedSo pin_ports pins all)))
+    (λ pin is each. old-pin Q pin is (given_name named pin) each) pins ported (All-each NamedSo pin_ports pins all))
+
+old-all : (named : List PinName) (pins : List Pin) → All IsPort pins → (Q : List ℕ → Type 0) → All (λ (port : Port). Q port.name) (flat_map pin_ports pins)
+    → All Q (old_names (port_renaming named pins))
+old-all named pins ported Q all =
+    All-map Q (λ (entry : List ℕ × List ℕ). entry.0) (port_renaming named pins) (old-entries named pins ported Q all)
 
 -- a name that has no form of a module's own is none of these
 none-own : (names : List (List ℕ)) → All IsOwn names → (name : List ℕ) → has_own_form name ≡ false → IsTrue (not (has_name names name))
@@ -129,13 +134,19 @@ has-there (first ∷ ports) port (suc k, within, here) = or_right _ _ (has-there
 -- ---- the module
 
 module _ (fabric : Fabric) (ported : All IsPort fabric.pins) (order name : List ℕ) (whole : IsModule (module_of fabric order name)) where
+  -- the outputs of PLLs, which are ports too
+  abbrev pll_ports : List Port
+  pll_ports = map input_port (map pll_input fabric.plls)
+
   ports-named : All (λ (port : Port). IsName port.name) (flat_map pin_ports fabric.pins)
   unfolding module_of
-  ports-named = whole.begun.named
+  ports-named = All-front (λ (port : Port). IsName port.name) (flat_map pin_ports fabric.pins) pll_ports whole.begun.named
 
   ports-apart : AreApart PortsDiffer (flat_map pin_ports fabric.pins)
   unfolding module_of
-  ports-apart = apart-before Differ (λ (port : Port). port.name) (flat_map pin_ports fabric.pins) (apart-names (map (λ (port : Port). port.name) (flat_map pin_ports fabric.pins)) whole.begun.apart)
+  ports-apart =
+      apart-front PortsDiffer (flat_map pin_ports fabric.pins) pll_ports
+      (apart-before Differ (λ (port : Port). port.name) (ports_of fabric) (apart-names (map (λ (port : Port). port.name) (ports_of fabric)) whole.begun.apart))
 
   -- the ports of two pins have different names
   pub pins-differ : AreApart (PartsDiffer PortsDiffer pin_ports) fabric.pins
@@ -161,7 +172,7 @@ module _ (fabric : Fabric) (ported : All IsPort fabric.pins) (order name : List 
         record {
           apart = new-apart fabric.pins named names-differ safe;
           undeclared = foreign_to (declared_names (module_of fabric order name)) (declared-own fabric order name);
-          unlisted = foreign_to (old_names (port_renaming named fabric.pins)) (old-all named fabric.pins ported IsOwn (ports-own fabric.pins));
+          unlisted = foreign_to (old_names (port_renaming named fabric.pins)) (old-all named fabric.pins ported IsOwn (pins-own fabric.pins));
         }
 
     pub are-names : AreNames (port_renaming named fabric.pins)
@@ -170,6 +181,7 @@ module _ (fabric : Fabric) (ported : All IsPort fabric.pins) (order name : List 
     pub only-ports : OnlyPorts (port_renaming named fabric.pins) (module_of fabric order name)
     unfolding module_of
     only-ports =
-        old-all named fabric.pins ported (λ q. IsTrue (has_name (port_names (flat_map pin_ports fabric.pins)) q))
-        (All-weaker (Contains (flat_map pin_ports fabric.pins)) (λ (port : Port). IsTrue (has_name (port_names (flat_map pin_ports fabric.pins)) port.name))
-        (has-there (flat_map pin_ports fabric.pins)) (flat_map pin_ports fabric.pins) (All-contains_itself (flat_map pin_ports fabric.pins)))
+        old-all named fabric.pins ported (λ q. IsTrue (has_name (port_names (ports_of fabric)) q))
+        (All-weaker (Contains (flat_map pin_ports fabric.pins)) (λ (port : Port). IsTrue (has_name (port_names (ports_of fabric)) port.name))
+        (λ port there. has-there (ports_of fabric) port (Contains-append_left (flat_map pin_ports fabric.pins) pll_ports port there))
+        (flat_map pin_ports fabric.pins) (All-contains_itself (flat_map pin_ports fabric.pins)))

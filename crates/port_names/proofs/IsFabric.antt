@@ -1,5 +1,5 @@
 -- The module with the names of a pin file is the fabric.
-use Rattle.std.proofs.Common.{◌≡◌, ℕ, ◌^◌, ◌≤◌, List, [], ◌∷◌, map, refl, sym, subst}
+use Rattle.std.proofs.Common.{◌≡◌, ℕ, ◌^◌, ◌≤◌, List, [], ◌∷◌, ◌++◌, map, refl, sym, subst}
 use Rattle.std.specs.Prelude.{All, None, flat_map}
 use Rattle.std.specs.List.{AllZip}
 use Rattle.ice_image.specs.Configuration.{Configuration}
@@ -10,6 +10,7 @@ use Rattle.vlog_module.specs.WellFormed.{IsModule}
 use Rattle.vlog_semantics.specs.Run.{module_run}
 use Rattle.fabric_model.specs.declared.options.FabricOptions.{FabricOptions}
 use Rattle.fabric_model.specs.declared.pin.Pin.{Pin}
+use Rattle.fabric_model.specs.InputPorts.{pll_input}
 use Rattle.fabric_model.specs.Fabric.{numbered, fabric_with, reading_all}
 use Rattle.fabric_model.specs.Steps.{Event}
 use Rattle.graph_order.specs.Wiring.{IsWriteOrder}
@@ -18,7 +19,7 @@ use Rattle.fabric_model.specs.Faults.{design_fault}
 use Rattle.fabric_model.specs.Pins.{is_port, pin_places, pin_with, port_at, pins_of}
 use Rattle.fabric_model.proofs.Apart.{AreApart, All-every}
 use Rattle.fabric_model.proofs.Within.{All-flat_map, All-single, if-when}
-use Rattle.fabric_module.specs.Written.{pin_ports, module_of}
+use Rattle.fabric_module.specs.Written.{input_port, pin_ports, module_of}
 use Rattle.fabric_module.specs.Matching.{module_event}
 use Rattle.fabric_module.specs.Law.{RunsAlike}
 use Rattle.fabric_module.proofs.IsFabric.{module-is-fabric}
@@ -41,6 +42,10 @@ module _ (options : FabricOptions) (db : Database) (image : Configuration) (orde
   same-pins : (fabric_with options db image).pins ≡ (fabric_with (reading_all options) db image).pins
   unfolding fabric_with
   same-pins = refl
+
+  same-plls : (fabric_with options db image).plls ≡ (fabric_with (reading_all options) db image).plls
+  unfolding fabric_with
+  same-plls = refl
 
   -- all pins are ports
   ported : All IsPort (fabric_with options db image).pins
@@ -88,11 +93,14 @@ module _ (options : FabricOptions) (db : Database) (image : Configuration) (orde
       apart-pins : AreApart (PartsDiffer PortsDiffer pin_ports) (fabric_with (reading_all options) db image).pins
       apart-pins = subst (AreApart (PartsDiffer PortsDiffer pin_ports)) same-pins (pins-differ (fabric_with options db image) ported order name whole)
 
-      ports-are : (named_module named (fabric_with options db image) order name).ports ≡ named_ports named (fabric_with (reading_all options) db image).pins
+      ports-are : (named_module named (fabric_with options db image) order name).ports ≡ named_ports named (fabric_with (reading_all options) db image)
       unfolding named_module module_of
       ports-are =
-          subst (λ pins. map (renamed_port (new_name (port_renaming named pins))) (flat_map pin_ports pins) ≡ named_ports named (fabric_with (reading_all options) db image).pins) (sym same-pins)
-          (shown-ports named (fabric_with (reading_all options) db image) ported-all apart-pins)
+          let own = fabric_with options db image in
+          let all = fabric_with (reading_all options) db image in
+          subst (λ pins. map (renamed_port (new_name (port_renaming named pins))) (flat_map pin_ports pins ++ map input_port (map pll_input own.plls)) ≡ named_ports named all) (sym same-pins)
+          (subst (λ plls. map (renamed_port (new_name (port_renaming named all.pins))) (flat_map pin_ports all.pins ++ map input_port (map pll_input plls)) ≡ named_ports named all) (sym same-plls)
+          (shown-ports named all ported-all apart-pins))
 
       runs-named : RunsNamed named options db image (named_module named (fabric_with options db image) order name)
       runs-named = record {

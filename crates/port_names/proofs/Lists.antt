@@ -34,6 +34,11 @@ module _ {A : Type 0} (R : A → A → Type 0) where
   across-both [] ys apart = All-nil (λ x. All (R x) ys)
   across-both (x ∷ xs) ys apart = All-cons (λ z. All (R z) ys) x xs (All-behind (R x) xs ys apart.0) (across-both xs ys apart.1)
 
+  -- the first of two lists whose items are all apart
+  pub apart-front : (xs ys : List A) → AreApart R (xs ++ ys) → AreApart R xs
+  apart-front [] ys apart = tt
+  apart-front (x ∷ xs) ys apart = (All-front (R x) xs ys apart.0, apart-front xs ys apart.1)
+
   apart-behind : (xs ys : List A) → AreApart R (xs ++ ys) → AreApart R ys
   apart-behind [] ys apart = apart
   apart-behind (x ∷ xs) ys apart = apart-behind xs ys apart.1

@@ -11,7 +11,8 @@ use Rattle.fabric_model.specs.declared.register.RegisterKind.TheVariants.{FlipFl
 use Rattle.fabric_model.specs.declared.register.Register.{Register}
 use Rattle.fabric_model.specs.declared.ram.RamCell.{RamCell}
 use Rattle.fabric_model.specs.declared.pin.Pin.{Pin}
-use Rattle.fabric_module.specs.Names.{two_numbers, three_numbers, pad_name, port_name, enable_name, outside_name, register_prefix, register_number, register_name, read_name, memory_name, wire_name}
+use Rattle.fabric_model.specs.declared.pll.PllOutput.{PllOutput}
+use Rattle.fabric_module.specs.Names.{two_numbers, three_numbers, pad_name, port_name, enable_name, outside_name, output_word, pll_name, register_prefix, register_number, register_name, read_name, memory_name, wire_name}
 use Rattle.pin_file.specs.PortNames.{own_beginnings, has_own_form}
 
 -- ---- numbers begin with a digit
@@ -74,6 +75,10 @@ own-enable pin =
 pub own-outside : (x y n : ℕ) → IsOwn (outside_name x y n)
 unfolding pad_name outside_name
 own-outside x y n = own-pin (three_numbers x y n ++ codes "_in") (begins-front (three_numbers x y n) (codes "_in") (three-begin x y n))
+
+pub own-pll : (x y : ℕ) (output : PllOutput) → IsOwn (pll_name x y output)
+unfolding pll_name has_own_form own_beginnings
+own-pll x y output = rw (begins-front (decimal x) (codes "_" ++ (decimal y ++ (codes "_" ++ output_word output))) (decimal-begins x)) refl
 
 own-kind : (register : RegisterKind) (rest : List ℕ) → BeginsDigit rest → IsOwn (register_prefix register ++ rest)
 unfolding has_own_form own_beginnings

@@ -4,7 +4,7 @@ use Rattle.std.specs.Prelude.{All, Contains, Option, Some, None, filter, flat_ma
 use Rattle.std.specs.List.{AllZip}
 use Rattle.std.proofs.lemmas.Bool.{cases_Bool}
 use Rattle.std.proofs.lemmas.List.{map-append, append_cancel_left}
-use Rattle.std.proofs.lemmas.List.Elements.{All-append, All-cons, All-head, All-tail, All-contains, All-contains_itself, All-filter, All-weaker}
+use Rattle.std.proofs.lemmas.List.Elements.{All-append, All-cons, All-head, All-map, All-tail, All-contains, All-contains_itself, All-filter, All-weaker}
 use Rattle.shared_lemmas.proofs.Bytes.{bytes_eq-same, bytes_eq-apart, apart_turned}
 use Rattle.shared_lemmas.proofs.Lists.{All-both, map-same}
 use Rattle.bit_plane.specs.BitList.{word_of}
@@ -13,17 +13,19 @@ use Rattle.vlog_module.specs.Maps.{value_in}
 use Rattle.vlog_semantics.specs.Entries.{Entry as ModuleEntry}
 use Rattle.fabric_model.specs.declared.pin.Pin.{Pin}
 use Rattle.fabric_model.specs.declared.input_port.InputPort.{InputPort}
-use Rattle.fabric_model.specs.declared.input_port.InputPort.TheVariants.{Pad as PadPort, Outside as OutsidePort}
+use Rattle.fabric_model.specs.declared.input_port.InputPort.TheVariants.{Pad as PadPort, Outside as OutsidePort, Pll as PllPort}
+use Rattle.fabric_model.specs.declared.pll.PllSource.{PllSource}
 use Rattle.fabric_model.specs.Tiles.{item_if}
 use Rattle.fabric_model.specs.Pins.{drives, is_switched, has_input, has_outside}
-use Rattle.fabric_model.specs.InputPorts.{pin_inputs}
+use Rattle.fabric_model.specs.InputPorts.{pin_inputs, inputs_among, pll_input}
 use Rattle.fabric_model.specs.Fabric.{Fabric, inputs_of}
 use Rattle.fabric_model.specs.Outputs.{Output, enable_outputs, pin_outputs, outputs_of}
 use Rattle.fabric_model.specs.Steps.{Entry}
-use Rattle.fabric_model.proofs.Apart.{AreApart}
+use Rattle.fabric_model.proofs.Apart.{AreApart, All-every}
 use Rattle.fabric_model.proofs.Within.{All-flat_map, All-item_if, All-single, if-when}
-use Rattle.fabric_module.specs.Names.{port_name, enable_name, outside_name, input_port_name, output_name, register_name, read_name, memory_name}
-use Rattle.fabric_module.specs.Written.{output_port, input_port, pin_ports}
+use Rattle.fabric_module.specs.Names.{pad_name, port_name, enable_name, outside_name, pll_name, input_port_name, output_name, register_name, read_name, memory_name}
+use Rattle.fabric_module.specs.Written.{output_port, input_port, pin_ports, ports_of}
+use Rattle.fabric_module.proofs.Configured.{each-name}
 use Rattle.fabric_module.specs.Matching.{HasValues, HasWires, Matches}
 use Rattle.fabric_module.proofs.Lists.{map-map}
 use Rattle.pin_file.specs.declared.pin_name.PinName.{PinName}
@@ -33,7 +35,7 @@ use Rattle.port_names.specs.Law.{SameState}
 use Rattle.port_names.specs.Named.{given_name, name_by, enable_by, outside_by, named_port, named_enable, named_input, named_input_port, named_pin_ports, named_ports, named_output, renaming_by, pin_renaming, port_renaming}
 use Rattle.port_names.specs.Matching.{MatchesNamed}
 use Rattle.port_names.proofs.Lists.{PartsDiffer, value_in-only, value_in-later}
-use Rattle.port_names.proofs.Fresh.{IsPort, PortsDiffer, enable-in, outside-in, port-in, old-pin}
+use Rattle.port_names.proofs.Fresh.{IsPort, PortsDiffer, enable-in, outside-in, port-in, old-pin, old-entries}
 
 -- ---- the new name of a pin's port
 
@@ -76,6 +78,29 @@ outside-given : (pin : Pin) → has_outside pin ≡ true → (given : Option (Li
     → unwrap_or (value_in (renaming_by pin given) (outside_name pin.x pin.y pin.n)) (outside_name pin.x pin.y pin.n) ≡ outside_by (outside_name pin.x pin.y pin.n) given
 outside-given pin outside None = refl
 outside-given pin outside (Some name) = ap (λ found. unwrap_or found (outside_name pin.x pin.y pin.n)) (outside-flags pin name (is_switched pin) (has_outside pin) outside)
+
+-- a pin has no port with the name of a PLL's output
+module _ (pll : PllSource) where
+  abbrev NotOfPll : List ℕ → Type 0
+  NotOfPll name = bytes_eq name (pll_name pll.x pll.y pll.output) ≡ false
+
+  pad-not_pll : (x y n : ℕ) → NotOfPll (pad_name x y n)
+  unfolding pad_name pll_name
+  pad-not_pll x y n = refl
+
+  enable-not_pll : (pin : Pin) → NotOfPll (enable_name pin)
+  unfolding pad_name enable_name pll_name
+  enable-not_pll pin = refl
+
+  outside-not_pll : (x y n : ℕ) → NotOfPll (outside_name x y n)
+  unfolding pad_name outside_name pll_name
+  outside-not_pll x y n = refl
+
+  pins-not_pll : (pins : List Pin) → All (λ (port : Port). NotOfPll port.name) (flat_map pin_ports pins)
+  pins-not_pll pins =
+      All-flat_map (λ (port : Port). NotOfPll port.name) pin_ports pins
+      (All-every (λ pin. All (λ (port : Port). NotOfPll port.name) (pin_ports pin))
+      (λ pin. each-name NotOfPll pin (pad-not_pll pin.x pin.y pin.n) (enable-not_pll pin) (outside-not_pll pin.x pin.y pin.n)) pins)
 
 module _ (named : List PinName) where
   -- a name that no port of a pin has isn't replaced with the names of the pin
@@ -161,10 +186,22 @@ module _ (named : List PinName) where
         (All-item_if IsInputShown (has_input pin) (PadPort pin.x pin.y pin.n) (shown-port pin there))
         (if-when IsInputShown (has_outside pin) (OutsidePort pin.x pin.y pin.n ∷ []) (λ outside. All-single IsInputShown (OutsidePort pin.x pin.y pin.n) (shown-outside pin there outside)))
 
+    -- the port of an output of a PLL keeps its name
+    shown-pll : (pll : PllSource) → IsInputShown (pll_input pll)
+    shown-pll pll =
+        let own = pll_name pll.x pll.y pll.output in
+        ap (λ found. unwrap_or found own)
+        (value_in-only [] (port_renaming named fabric.pins) own (old-entries named fabric.pins ported (NotOfPll pll) (pins-not_pll pll fabric.pins)))
+
+    shown-plls : All IsInputShown (map pll_input fabric.plls)
+    shown-plls = All-map IsInputShown pll_input fabric.plls (All-every (λ pll. IsInputShown (pll_input pll)) shown-pll fabric.plls)
+
     shown-inputs : All IsInputShown (inputs_of fabric)
     shown-inputs =
-        All-flat_map IsInputShown pin_inputs fabric.pins
-        (All-weaker (Contains fabric.pins) (λ pin. All IsInputShown (pin_inputs pin)) shown-inputs-of fabric.pins (All-contains_itself fabric.pins))
+        All-append IsInputShown (inputs_among fabric.pins) (map pll_input fabric.plls)
+        (All-flat_map IsInputShown pin_inputs fabric.pins
+        (All-weaker (Contains fabric.pins) (λ pin. All IsInputShown (pin_inputs pin)) shown-inputs-of fabric.pins (All-contains_itself fabric.pins)))
+        shown-plls
 
     output-shown : (passes : Bool) (own shown : List ℕ) → (passes ≡ true → to own ≡ shown)
         → map (renamed_port to) (item_if passes (output_port own)) ≡ item_if passes (output_port shown)
@@ -193,9 +230,11 @@ module _ (named : List PinName) where
         map-append (renamed_port to) (pin_ports pin) (flat_map pin_ports pins)
         ∙ ap₂ (λ (one two : List Port). one ++ two) (ports-of-pin pin (All-head (Contains fabric.pins) pin pins all)) (ports-below pins (All-tail (Contains fabric.pins) pin pins all))
 
-    pub shown-ports : map (renamed_port to) (flat_map pin_ports fabric.pins) ≡ named_ports named fabric.pins
+    pub shown-ports : map (renamed_port to) (ports_of fabric) ≡ named_ports named fabric
     unfolding named_ports
-    shown-ports = ports-below fabric.pins (All-contains_itself fabric.pins)
+    shown-ports =
+        map-append (renamed_port to) (flat_map pin_ports fabric.pins) (map input_port (map pll_input fabric.plls))
+        ∙ ap₂ (λ (one two : List Port). one ++ two) (ports-below fabric.pins (All-contains_itself fabric.pins)) (inputs-shown (map pll_input fabric.plls) shown-plls)
 
     -- ---- entries
 

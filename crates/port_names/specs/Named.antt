@@ -4,13 +4,13 @@ use Rattle.vlog_module.specs.declared.modules.Port.{Port}
 use Rattle.vlog_module.specs.Parts.{Parts}
 use Rattle.fabric_model.specs.declared.pin.Pin.{Pin}
 use Rattle.fabric_model.specs.declared.input_port.InputPort.{InputPort}
-use Rattle.fabric_model.specs.declared.input_port.InputPort.TheVariants.{Pad, Outside}
+use Rattle.fabric_model.specs.declared.input_port.InputPort.TheVariants.{Pad, Outside, Pll}
 use Rattle.fabric_model.specs.Tiles.{item_if}
 use Rattle.fabric_model.specs.Pins.{drives, is_switched, has_outside}
-use Rattle.fabric_model.specs.InputPorts.{pin_inputs}
+use Rattle.fabric_model.specs.InputPorts.{pin_inputs, pll_input}
 use Rattle.fabric_model.specs.Fabric.{Fabric}
 use Rattle.fabric_model.specs.Outputs.{Output}
-use Rattle.fabric_module.specs.Names.{pad_name, port_name, enable_name, outside_name}
+use Rattle.fabric_module.specs.Names.{pad_name, port_name, enable_name, outside_name, pll_name}
 use Rattle.fabric_module.specs.Written.{output_port, module_of}
 use Rattle.pin_file.specs.declared.place.PinPlace.{PinPlace}
 use Rattle.pin_file.specs.declared.place.PortPin.{PortPin}
@@ -73,10 +73,11 @@ named_port named pin = name_by (port_name pin) (given_name named pin)
 abbrev pub named_enable : List PinName → Pin → List ℕ
 named_enable named pin = enable_by (enable_name pin) (given_name named pin)
 
--- the name of an input port
+-- the name of an input port; that of an output of a PLL keeps its own
 abbrev pub named_input : List PinName → InputPort → List ℕ
 named_input named (Pad x y n) = name_by (pad_name x y n) (given_at named (record { x = x; y = y; pio = n }))
 named_input named (Outside x y n) = outside_by (outside_name x y n) (given_at named (record { x = x; y = y; pio = n }))
+named_input named (Pll x y output) = pll_name x y output
 
 -- the name of an output's port
 abbrev pub named_output : List PinName → Output → List ℕ
@@ -91,9 +92,9 @@ named_pin_ports named pin =
     item_if (drives pin) (output_port (named_port named pin))
     ++ (item_if (is_switched pin) (output_port (named_enable named pin)) ++ map (named_input_port named) (pin_inputs pin))
 
--- the ports of all pins
-unfoldable pub named_ports : List PinName → List Pin → List Port
-named_ports named pins = flat_map (named_pin_ports named) pins
+-- all ports: those of the pins, by pin, then the outputs of PLLs
+unfoldable pub named_ports : List PinName → Fabric → List Port
+named_ports named fabric = flat_map (named_pin_ports named) fabric.pins ++ map (named_input_port named) (map pll_input fabric.plls)
 
 -- ---- the renaming
 

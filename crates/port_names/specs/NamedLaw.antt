@@ -20,10 +20,10 @@ use Rattle.pin_file.specs.declared.pin_name.PinName.{PinName}
 use Rattle.port_names.specs.Named.{AreAccepted, named_module, named_ports}
 use Rattle.port_names.specs.Matching.{MatchesNamed}
 
--- A module has the ports of the pins, with the names that the pin file gives. The fabric with these options, whose LUTs read all inputs, has exactly one run for each list of events, and
+-- A module has the ports of the fabric, with the names that the pin file gives. The fabric with these options, whose LUTs read all inputs, has exactly one run for each list of events, and
 -- the module runs as it does: at the start and after each event the two hold the same values.
 pub record RunsNamed (named : List PinName) (options : FabricOptions) (db : Database) (image : Configuration) (made : Parts) : Type 0 where
-  pub ports : made.ports ≡ named_ports named (fabric_with (reading_all options) db image).pins
+  pub ports : made.ports ≡ named_ports named (fabric_with (reading_all options) db image)
   pub one_run : (events : List Event) → ExactlyOne (IsRun (fabric_with (reading_all options) db image) events)
   pub alike : (events : List Event) (entries : List Entry) → IsRun (fabric_with (reading_all options) db image) events entries
       → AllZip (MatchesNamed named (fabric_with (reading_all options) db image)) entries (module_run made (map module_event events))

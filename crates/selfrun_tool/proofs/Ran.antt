@@ -1,6 +1,6 @@
 -- The run of a design's module is the run of its fabric.
 use Rattle.std.proofs.Common.{◌≡◌, ℕ, ◌<◌, Bool, false, List, length, map, sym, ap, ◌∙◌, subst}
-use Rattle.std.specs.Prelude.{All, flat_map}
+use Rattle.std.specs.Prelude.{All}
 use Rattle.std.proofs.lemmas.List.{length-map}
 use Rattle.std.proofs.lemmas.List.Elements.{All-map}
 use Rattle.ice_image.specs.Configuration.{Configuration}
@@ -11,16 +11,14 @@ use Rattle.vlog_module.specs.declared.modules.Port.{Port}
 use Rattle.vlog_semantics.specs.declared.event.Event.{Event as ModuleEvent}
 use Rattle.vlog_semantics.specs.Named.{names_of}
 use Rattle.vlog_semantics.specs.Run.{input_names, module_run}
-use Rattle.fabric_model.specs.declared.pin.Pin.{Pin}
 use Rattle.fabric_model.specs.declared.input_port.InputPort.{InputPort}
-use Rattle.fabric_model.specs.InputPorts.{inputs_among}
-use Rattle.fabric_model.specs.Fabric.{fabric_with, inputs_of, reading_all}
+use Rattle.fabric_model.specs.Fabric.{Fabric, fabric_with, inputs_of, reading_all}
 use Rattle.fabric_model.proofs.Alike.{inputs-with}
 use Rattle.fabric.specs.Kept.{Kept}
 use Rattle.fabric.specs.Design.{IsDesignOf, IsDesign}
 use Rattle.fabric_module.specs.Matching.{module_event}
 use Rattle.fabric_module.specs.Names.{input_port_name}
-use Rattle.fabric_module.specs.Written.{pin_ports, module_of}
+use Rattle.fabric_module.specs.Written.{ports_of, module_of}
 use Rattle.fabric_module.proofs.Ports.{inputs-start}
 use Rattle.vlog_emit.specs.Runs.{RunsAs}
 use Rattle.selfrun_tool.specs.declared.counting.Ran.{Ran}
@@ -32,10 +30,10 @@ use Rattle.selfrun_tool.proofs.Runs.{bits-alike}
 -- ---- pins
 
 -- the module has an input for each input port
-inputs-count : (pins : List Pin) → length (input_names (flat_map pin_ports pins)) ≡ length (inputs_among pins)
-inputs-count pins =
-    let inputs = inputs_among pins in
-    ap (λ (names : List (List ℕ × Bool)). length (names_of names)) (inputs-start pins)
+inputs-count : (fabric : Fabric) → length (input_names (ports_of fabric)) ≡ length (inputs_of fabric)
+inputs-count fabric =
+    let inputs = inputs_of fabric in
+    ap (λ (names : List (List ℕ × Bool)). length (names_of names)) (inputs-start fabric)
     ∙ length-map (map (λ (port : InputPort). (input_port_name port, false)) inputs) (λ (entry : List ℕ × Bool). entry.0)
     ∙ length-map inputs (λ (port : InputPort). (input_port_name port, false))
 
@@ -48,10 +46,10 @@ inputs-named design name made m events is module_is events_are =
     let db = is.0 in
     let image = is.1 in
     let kept = is.2.kept in
-    let pins = (fabric_with design.parts.options db image).pins in
-    let ports : m.ports ≡ flat_map pin_ports pins = ap (λ (one : Parts). one.ports) (module_is db image is.2) in
+    let fabric = fabric_with design.parts.options db image in
+    let ports : m.ports ≡ ports_of fabric = ap (λ (one : Parts). one.ports) (module_is db image is.2) in
     let count : length design.inputs ≡ length (input_names m.ports) =
-    ap (λ (list : List InputPort). length list) kept.inputs ∙ sym (ap (λ (list : List Port). length (input_names list)) ports ∙ inputs-count pins) in
+    ap (λ (list : List InputPort). length list) kept.inputs ∙ sym (ap (λ (list : List Port). length (input_names list)) ports ∙ inputs-count fabric) in
     let among : All (λ (event : ModuleEvent). event.pin < length design.inputs) (map module_event (events_for design.inputs made)) =
     All-map (λ (event : ModuleEvent). event.pin < length design.inputs) module_event (events_for design.inputs made) (events-among design.inputs made) in
     subst (λ (n : ℕ). All (λ (event : ModuleEvent). event.pin < n) events) count

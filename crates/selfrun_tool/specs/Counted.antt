@@ -11,7 +11,7 @@ use Rattle.chipdb_reader.specs.Database.{Database}
 use Rattle.image_explain.specs.Explained.{explained}
 use Rattle.ice_gen.specs.declared.event.PinEvent.{PinEvent}
 use Rattle.fabric_model.specs.declared.input_port.InputPort.{InputPort}
-use Rattle.fabric_model.specs.declared.input_port.InputPort.TheVariants.{Pad, Outside}
+use Rattle.fabric_model.specs.declared.input_port.InputPort.TheVariants.{Pad, Outside, Pll}
 use Rattle.fabric_model.specs.Fabric.{fabric_of}
 use Rattle.fabric_model.specs.Cells.{cells_of}
 use Rattle.fabric_model.specs.Rams.{rams_of}
@@ -30,6 +30,7 @@ pin_row event = if event.second then 2 else 1
 abbrev pub is_port_of : PinEvent → InputPort → Bool
 is_port_of event (Pad x y n) = (x == 0) && ((y == pin_row event) && (n == 0))
 is_port_of event (Outside x y n) = false
+is_port_of event (Pll x y output) = false
 
 -- the event of a port by its index among the input ports; none if it isn't one of them
 abbrev pub event_at : Bool → Option ℕ → List Event

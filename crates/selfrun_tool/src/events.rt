@@ -21,7 +21,7 @@ fn is_port_of(event: PinEvent, port: InputPort) -> bool
 {
     match port {
         InputPort::Pad { x, y, n } => x == 0 && y == pin_row(event) && n == 0,
-        InputPort::Outside { .. } => false,
+        InputPort::Outside { .. } | InputPort::Pll { .. } => false,
     }
 }
 

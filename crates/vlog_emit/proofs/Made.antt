@@ -1,5 +1,5 @@
 -- The module of a design is that of each fabric whose design is kept, and it is well-formed and runs as the fabric.
-use Rattle.std.proofs.Common.{◌≡◌, ℕ, List, flat_map, sym, ap, ◌∙◌, subst}
+use Rattle.std.proofs.Common.{◌≡◌, ◌++◌, ℕ, List, map, flat_map, sym, ap, ap₂, ◌∙◌, subst}
 use Rattle.ice_image.specs.Configuration.{Configuration}
 use Rattle.chipdb_reader.specs.Database.{Database}
 use Rattle.vlog_module.specs.Names.{IsName}
@@ -9,9 +9,11 @@ use Rattle.fabric_model.specs.declared.options.FabricOptions.{FabricOptions}
 use Rattle.fabric_model.specs.Fabric.{Fabric, fabric_with}
 use Rattle.fabric.specs.Kept.{Kept, IsKeptOf}
 use Rattle.fabric.specs.Design.{IsDesign, IsDesignOf}
-use Rattle.fabric_module.specs.Written.{pin_ports, items_of, module_of}
+use Rattle.fabric_model.specs.InputPorts.{pll_input}
+use Rattle.fabric_module.specs.Written.{input_port, pin_ports, ports_of, items_of, module_of}
+use Rattle.fabric_module.proofs.Lists.{map-map}
 use Rattle.fabric_module.specs.Law.{ModuleIsFabric}
-use Rattle.vlog_emit.specs.Each.{EachFabric}
+use Rattle.vlog_emit.specs.Each.{EachFabric, pll_port}
 use Rattle.vlog_emit.specs.Runs.{RunsAs}
 
 parts-same : (one two : Parts) → one.name ≡ two.name → one.ports ≡ two.ports → one.items ≡ two.items → one ≡ two
@@ -21,14 +23,15 @@ parts-same one two of_name of_ports of_items =
     ∙ ap (λ i. record { name = two.name; ports = two.ports; items = i }) of_items)
 
 module _ (law : (options : FabricOptions) (db : Database) (image : Configuration) → ModuleIsFabric options db image) (design : Kept) (name : List ℕ) (is_name : IsName name) (made : Parts)
-    (of_name : made.name ≡ name) (of_ports : made.ports ≡ flat_map pin_ports design.parts.pins.items)
+    (of_name : made.name ≡ name) (of_ports : made.ports ≡ flat_map pin_ports design.parts.pins.items ++ map pll_port design.parts.plls.items)
     (of_items : EachFabric design (λ fabric. made.items ≡ items_of fabric design.order)) where
   -- the module of each fabric whose design is kept
   made-each : (fabric : Fabric) → IsKeptOf fabric design → made ≡ module_of fabric design.order name
   unfolding module_of
   made-each fabric kept =
-      parts-same made (record { name = name; ports = flat_map pin_ports fabric.pins; items = items_of fabric design.order }) of_name
-      (of_ports ∙ ap (flat_map pin_ports) kept.parts.pins) (of_items fabric kept)
+      parts-same made (record { name = name; ports = ports_of fabric; items = items_of fabric design.order }) of_name
+      (of_ports ∙ ap₂ (λ pins plls. flat_map pin_ports pins ++ map pll_port plls) kept.parts.pins kept.parts.plls
+      ∙ ap (λ more. flat_map pin_ports fabric.pins ++ more) (sym (map-map pll_input input_port fabric.plls))) (of_items fabric kept)
 
   pub made-is : (db : Database) (image : Configuration) → IsDesignOf db image design → made ≡ module_of (fabric_with design.parts.options db image) design.order name
   made-is db image of = made-each (fabric_with design.parts.options db image) of.kept

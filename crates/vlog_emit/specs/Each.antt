@@ -4,11 +4,15 @@ use Rattle.fabric_model.specs.declared.signal.Signal.{Signal}
 use Rattle.fabric_model.specs.declared.signal.Signal.TheVariants as signal
 use Rattle.fabric_model.specs.declared.register.LutTable.{LutTable}
 use Rattle.fabric_model.specs.declared.register.Register.{Register}
+use Rattle.fabric_model.specs.declared.pll.PllSource.{PllSource}
+use Rattle.fabric_model.specs.InputPorts.{pll_input}
 use Rattle.fabric_model.specs.Fabric.{Fabric}
 use Rattle.fabric_model.specs.Within.{IsNetIn}
 use Rattle.fabric_wiring.specs.declared.drive.Rule.{Rule}
 use Rattle.fabric_wiring.specs.declared.drive.Rule.TheVariants.{PinBit, Constant, Input, TableEntry, MajorityOf, RegisterBit, ReadBit, Copied}
 use Rattle.fabric.specs.Kept.{Kept, IsKeptOf}
+use Rattle.vlog_module.specs.declared.modules.Port.{Port}
+use Rattle.fabric_module.specs.Written.{input_port}
 
 -- something holds of each fabric whose design is kept
 abbrev pub EachFabric : Kept → (Fabric → Type 0) → Type 0
@@ -45,3 +49,7 @@ IsRuleIn design (MajorityOf a b c) = IsNetIn (nets_in design) a × IsNetIn (nets
 IsRuleIn design (RegisterBit place register) = IsRegisterIn design register
 IsRuleIn design (ReadBit ram bit) = ram < length design.parts.rams.items
 IsRuleIn design (Copied net) = net < nets_in design
+
+-- the port of an output of a PLL
+abbrev pub pll_port : PllSource → Port
+pll_port source = input_port (pll_input source)

@@ -61,7 +61,7 @@ fn items_of(alloc: Global, design: &Design) -> Result<Vec<Item>, AllocError>
 /// The module of a design, under a name.
 ///
 /// It runs as the fabric that the database and the image configure: at the start and after each event the two hold the same values.
-/// Its ports are the pins, its registers and memories are the state of registers and RAMs, and its wires are the classes of joined nets
+/// Its ports are the pins and the outputs of PLLs, its registers and memories are the state of registers and RAMs, and its wires are the classes of joined nets
 /// that have a driver, in the order of [`Design::order`]. If the LUTs of the design read only the inputs that they use, each other input
 /// of a LUT is written as 0.
 ///
@@ -85,7 +85,7 @@ pub fn emit(alloc: Global, design: &Design, name: &[u8]) -> Result<Module, Alloc
 {
     // Its clause says that the module is well-formed and runs as the fabric.
     module_is_fabric();
-    let ports = ports_of(alloc, design.pins())?;
+    let ports = ports_of(alloc, design.pins(), design.plls())?;
     let items = items_of(alloc, design)?;
     let name = Name::new(alloc, name)?;
     Ok(Module::of(name, ports, items))

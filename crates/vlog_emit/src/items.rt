@@ -50,6 +50,17 @@ fn append_outputs(alloc: Global, pin: &Pin, ports: &mut Vec<Port>) -> Result<(),
     Ok(())
 }
 
+/// An input port.
+pub(crate) fn input_port(alloc: Global, port: InputPort) -> Result<Port, AllocError>
+    ensures { IfOk result (λ made. made ≡ input_port port) }
+{
+    let name = input_port_name(alloc, &port)?;
+    Ok(Port {
+        name,
+        output: false,
+    })
+}
+
 /// Appends an input port, if a pin has it.
 fn append_input(
     alloc: Global,
@@ -60,11 +71,7 @@ fn append_input(
     ensures { OnOk result (ports.new.items ≡ ports.old.items ++ map input_port (item_if is_there port)) }
 {
     if is_there {
-        let name = input_port_name(alloc, &port)?;
-        ports.push(Port {
-            name,
-            output: false,
-        })?;
+        ports.push(input_port(alloc, port)?)?;
     }
     Ok(())
 }

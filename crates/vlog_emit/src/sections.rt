@@ -5,26 +5,42 @@ ghost use Rattle.fabric_model.specs.Within.{IsRamIn};
 ghost use Rattle.fabric_wiring.specs.Outputs.{output_of};
 ghost use Rattle.fabric.specs.Design.{IsDesign};
 ghost use Rattle.fabric_module.specs.Written.{pin_ports, register_item, read_register, ram_memory, class_wire, output_assign, register_items, read_items, write_items, start_items};
-ghost use Rattle.vlog_emit.specs.Each.{EachFabric, IsRegisterIn, IsSignalIn, nets_in};
+ghost use Rattle.vlog_emit.specs.Each.{EachFabric, IsRegisterIn, IsSignalIn, nets_in, pll_port};
 
 use crate::items::{
-    append_ports, append_read, append_register, append_write, class_wire, output_assign,
-    ram_memory, read_register, register_item,
+    append_ports, append_read, append_register, append_write, class_wire, input_port,
+    output_assign, ram_memory, read_register, register_item,
 };
 use fabric::Design;
-use fabric_model::{Pin, RamCell, Register};
+use fabric_model::{Pin, PllSource, RamCell, Register, pll_input};
 use fabric_module::memory_name;
 use fabric_wiring::Output;
 use std::alloc::{AllocError, Global};
 use vlog_module::{Item, Name, Port};
 
 /// The ports of pins.
-pub(crate) fn ports_of(alloc: Global, pins: &[Pin]) -> Result<Vec<Port>, AllocError>
+fn pin_ports(alloc: Global, pins: &[Pin]) -> Result<Vec<Port>, AllocError>
     ensures { IfOk result (λ ports. ports.items ≡ flat_map pin_ports pins.now) }
 {
     let mut ports = Vec::new(alloc);
     for pin in pins {
         append_ports(alloc, pin, &mut ports)?;
+    }
+    Ok(ports)
+}
+
+/// All ports: those of pins, then the outputs of PLLs.
+pub(crate) fn ports_of(
+    alloc: Global,
+    pins: &[Pin],
+    plls: &[PllSource],
+) -> Result<Vec<Port>, AllocError>
+    ensures { IfOk result (λ ports. ports.items ≡ flat_map pin_ports pins.now ++ map pll_port plls.now) }
+{
+    let mut ports = pin_ports(alloc, pins)?;
+    for source in plls {
+        let port = input_port(alloc, pll_input(*source))?;
+        ports.push(port)?;
     }
     Ok(ports)
 }

@@ -3,12 +3,9 @@ ghost use Rattle.std.specs.Prelude.{◌≡◌};
 
 use std::alloc::AllocError;
 
-/// Why the pins of an image aren't taken: the first cause that holds, with the first tile or pin that has it. Tiles are ordered by row,
-/// then by column.
+/// Why the pins of an image aren't taken: the first pin that isn't. Tiles are ordered by row, then by column.
 #[derive(Clone, Copy, Debug, PartialEq, Eq)]
 pub enum PinFault {
-    /// The io tile at (x, y) has a PLL that is on.
-    Pll { x: u8, y: u8 },
     /// Pin `pio` of the io tile at (x, y) isn't taken. Its PIN_TYPE is `pintype`.
     PinMode { x: u8, y: u8, pio: u8, pintype: u8 },
     /// Out of memory. It may come in place of any other answer.

@@ -1,32 +1,35 @@
 // Global nets.
-ghost use Rattle.std.specs.Prelude.{◌≡◌, ◌++◌, ◌&&◌, ◌==◌, bytes_eq, codes, map, IfOk, OnOk, Some};
+ghost use Rattle.std.specs.Prelude.{◌≡◌, ◌++◌, ◌&&◌, ◌==◌, bytes_eq, codes, find, map, option_copied, IfOk, OnOk, Some};
 ghost use Rattle.std.specs.List.{list_any};
 ghost use Rattle.ice_image.specs.Either.{configuration_of};
 ghost use Rattle.chipdb_reader.specs.Fit.{IsFit};
 ghost use Rattle.chipdb_reader.specs.Kept.{database_in};
 ghost use Rattle.fabric_model.specs.On.{is_extra_on};
-ghost use Rattle.fabric_model.specs.Pins.{global_pad, global_fabout, global_source, global_nets, globals_of, is_global_net, nets_from};
+ghost use Rattle.index_search.specs.Places.{gathered_below};
+ghost use Rattle.fabric_model.specs.Plls.{is_pin_at};
+ghost use Rattle.fabric_model.specs.Pins.{from_pad, global_pad, global_fabout, global_source, global_nets, is_global_net, nets_from};
 ghost use Rattle.fabric_model.specs.Nets.{ending_in};
 ghost use Rattle.fabric_model.specs.Tiles.{item_if};
 ghost use Rattle.fabric_parts.specs.Globals.{global_net, AreOneDevice};
 
 use chipdb_reader::{ChipDb, PinXy};
-use fabric_model::{GlobalFrom, GlobalNet, ShortText};
+use fabric_model::{GlobalFrom, GlobalNet, PllSource, ShortText, is_pin_at};
 use ice_image::AnyImage;
 use std::alloc::{AllocError, Global};
 
-/// The nets of global networks 0 to 7, with what drives them.
+/// The nets of global networks 0 to 7, with what drives them, given the outputs of PLLs.
 pub(crate) fn globals(
     alloc: Global,
     db: &ChipDb,
     image: &AnyImage,
+    sources: &[PllSource],
 ) -> Result<Vec<GlobalNet>, AllocError>
     requires { AreOneDevice db.now image.now }
-    ensures { IfOk result (λ globals. globals.items ≡ globals_of (database_in db.now) (configuration_of image.now)) }
+    ensures { IfOk result (λ globals. globals.items ≡ gathered_below 8 (λ g. nets_from (database_in db.now) g (global_source sources.now (database_in db.now) (configuration_of image.now) g))) }
 {
     let mut globals = Vec::new(alloc);
     for g in 0..8 {
-        append_global(&mut globals, db, image, g)?;
+        append_global(&mut globals, db, image, sources, g)?;
     }
     Ok(globals)
 }
@@ -36,12 +39,13 @@ fn append_global(
     globals: &mut Vec<GlobalNet>,
     db: &ChipDb,
     image: &AnyImage,
+    sources: &[PllSource],
     g: u8,
 ) -> Result<(), AllocError>
     requires { AreOneDevice db.now image.now }
-    ensures { OnOk result (globals.new.items ≡ globals.old.items ++ nets_from (database_in db.now) g (global_source (database_in db.now) (configuration_of image.now) g)) }
+    ensures { OnOk result (globals.new.items ≡ globals.old.items ++ nets_from (database_in db.now) g (global_source sources.now (database_in db.now) (configuration_of image.now) g)) }
 {
-    match global_source(db, image, g) {
+    match global_source(db, image, sources, g) {
         None => Ok(()),
         Some(from) => append_nets(globals, db, g, from),
     }
@@ -91,17 +95,38 @@ fn has_name(db: &ChipDb, net: u32, name: &[u8]) -> bool
     false
 }
 
-/// What drives a global network: its pad, if the image lets a pad drive it, else the net `fabout` of its tile.
-pub(crate) fn global_source(db: &ChipDb, image: &AnyImage, g: u8) -> Option<GlobalFrom>
-    requires { AreOneDevice db.now image.now }
-    ensures { result ≡ global_source (database_in db.now) (configuration_of image.now) g }
+/// The output of a PLL that has pin `n` of the tile at (x, y).
+fn source_at(sources: &[PllSource], x: u8, y: u8, n: u8) -> Option<&PllSource>
+    ensures { option_copied result ≡ find (λ source. is_pin_at x y n source.pin) sources.now }
 {
-    match global_pad(db, image, g) {
-        Some(pad) => Some(GlobalFrom::Pad {
+    sources.iter().find(|source| is_pin_at(x, y, n, source.pin))
+}
+
+/// What drives a global network that the image lets its pad drive: the pad, or the output of a PLL that has its pin.
+fn from_pad(sources: &[PllSource], pad: PinXy) -> GlobalFrom
+    ensures { result ≡ from_pad sources.now pad }
+{
+    match source_at(sources, pad.x, pad.y, pad.n) {
+        None => GlobalFrom::Pad {
             x: pad.x,
             y: pad.y,
             n: pad.n,
-        }),
+        },
+        Some(source) => GlobalFrom::Pll {
+            x: source.x,
+            y: source.y,
+            output: source.output,
+        },
+    }
+}
+
+/// What drives a global network: its pad, if the image lets a pad drive it, else the net `fabout` of its tile.
+fn global_source(db: &ChipDb, image: &AnyImage, sources: &[PllSource], g: u8) -> Option<GlobalFrom>
+    requires { AreOneDevice db.now image.now }
+    ensures { result ≡ global_source sources.now (database_in db.now) (configuration_of image.now) g }
+{
+    match global_pad(db, image, g) {
+        Some(pad) => Some(from_pad(sources, pad)),
         None => match global_fabout(db, g) {
             Some(net) => Some(GlobalFrom::Fabout { net }),
             None => None,

@@ -1,24 +1,26 @@
-// Pins and tiles that aren't taken.
-ghost use Rattle.std.specs.Prelude.{◌≡◌, ◌||◌, ◌&&◌, ◌==◌, not, codes, All};
+// Pins that aren't taken.
+ghost use Rattle.std.specs.Prelude.{◌≡◌, ◌||◌, ◌&&◌, ◌==◌, false, not, codes, All};
 ghost use Rattle.std.specs.List.{flat_map};
 ghost use Rattle.plane_map.specs.declared.tile.TileKind.TheVariants.{Io};
 ghost use Rattle.ice_image.specs.Either.{configuration_of};
 ghost use Rattle.chipdb_reader.specs.Kept.{database_in};
-ghost use Rattle.fabric_model.specs.PinTypes.{is_latched};
-ghost use Rattle.fabric_model.specs.Pins.{has_no_output, has_tri_state_output, has_plain_input, is_plain_input, is_registered_input, is_output_pin, drives, is_port, is_refused_with, is_refused_of_all};
+ghost use Rattle.fabric_model.specs.PinTypes.{is_latched, is_of_pll};
+ghost use Rattle.fabric_model.specs.Pins.{has_no_output, has_tri_state_output, has_plain_input, is_plain_input, is_registered_input, is_output_pin, drives, is_port, is_misread, is_refused_with, is_refused_of_all};
 ghost use Rattle.fabric_model.specs.On.{is_function_on};
 ghost use Rattle.fabric_model.specs.Tiles.{first_of};
 ghost use Rattle.fabric_model.specs.TilesOfKind.{HasTile};
-ghost use Rattle.fabric_parts.specs.PinFaults.{pll_at, pll_fault, pin_fault, is_refused, fault_of, is_type_port, is_refused_by_type};
+ghost use Rattle.fabric_model.specs.BelongTogether.{BelongTogether};
+ghost use Rattle.fabric_parts.specs.PinFaults.{pin_fault, is_refused, fault_of, is_type_port, is_refused_by_type};
 ghost use Rattle.fabric_parts.specs.PinRecords.{IsFoundPin};
 
+use crate::io::pin::is_net_read;
 use crate::io::pintype::{
     has_no_output, has_plain_input, has_tri_state_output, is_output_pin, is_plain_input,
     is_registered_input, pintype,
 };
 use crate::io::records::is_port;
-use chipdb_reader::{ChipDb, TileXy8};
-use fabric_model::{PadInput, Pin, is_any_on, is_on};
+use chipdb_reader::ChipDb;
+use fabric_model::{Links, PadInput, Pin, is_on};
 use ice_image::AnyImage;
 use plane_map::TileKind;
 
@@ -31,31 +33,20 @@ pub(crate) struct TypedPin {
     pub(crate) pintype: u8,
 }
 
-/// The first tile with a PLL that is on.
-pub(crate) fn first_pll(db: &ChipDb, image: &AnyImage, tiles: &[TileXy8]) -> Option<TileXy8>
-    requires { All (λ tile. HasTile image.now Io tile.x tile.y) tiles.now }
-    ensures { first_of (flat_map (λ tile. pll_at (database_in db.now) (configuration_of image.now) tile.x tile.y) tiles.now) ≡ pll_fault result }
-{
-    for tile in tiles {
-        if is_any_on(db, image, TileKind::Io, tile.x, tile.y, b"PLL.") {
-            return Some(*tile);
-        }
-    }
-    None
-}
-
 /// The first of these pins that isn't taken.
 pub(crate) fn first_refused(
     db: &ChipDb,
     image: &AnyImage,
+    links: &Links,
     all_pins: bool,
     pins: &[Pin],
 ) -> Option<TypedPin>
-    requires { All (IsFoundPin db.now image.now) pins.now }
+    requires together { BelongTogether db.now image.now links.now }
+    requires found { All (IsFoundPin all_pins db.now image.now) pins.now }
     ensures { first_of (flat_map (fault_of all_pins (database_in db.now) (configuration_of image.now)) pins.now) ≡ pin_fault result }
 {
     for pin in pins {
-        if let Some(refused) = refused(db, image, all_pins, *pin) {
+        if let Some(refused) = refused(db, image, links, all_pins, *pin) {
             return Some(refused);
         }
     }
@@ -63,12 +54,19 @@ pub(crate) fn first_refused(
 }
 
 /// The pin, if it isn't taken.
-fn refused(db: &ChipDb, image: &AnyImage, all_pins: bool, pin: Pin) -> Option<TypedPin>
-    requires { IsFoundPin db.now image.now pin }
+fn refused(
+    db: &ChipDb,
+    image: &AnyImage,
+    links: &Links,
+    all_pins: bool,
+    pin: Pin,
+) -> Option<TypedPin>
+    requires together { BelongTogether db.now image.now links.now }
+    requires found { IsFoundPin all_pins db.now image.now pin }
     ensures { first_of (fault_of all_pins (database_in db.now) (configuration_of image.now) pin) ≡ pin_fault result }
 {
     let pintype = pintype(db, image, pin.x, pin.y, pin.n);
-    if is_refused(db, image, all_pins, pin, pintype) {
+    if is_refused(db, image, links, all_pins, pin, pintype) {
         Some(TypedPin {
             x: pin.x,
             y: pin.y,
@@ -81,12 +79,20 @@ fn refused(db: &ChipDb, image: &AnyImage, all_pins: bool, pin: Pin) -> Option<Ty
 }
 
 /// Whether a pin, which has that type, isn't taken.
-fn is_refused(db: &ChipDb, image: &AnyImage, all_pins: bool, pin: Pin, pintype: u8) -> bool
-    requires { IsFoundPin db.now image.now pin }
+fn is_refused(
+    db: &ChipDb,
+    image: &AnyImage,
+    links: &Links,
+    all_pins: bool,
+    pin: Pin,
+    pintype: u8,
+) -> bool
+    requires together { BelongTogether db.now image.now links.now }
+    requires found { IsFoundPin all_pins db.now image.now pin }
     ensures { result ≡ is_refused all_pins (database_in db.now) (configuration_of image.now) pin pintype }
 {
     if all_pins {
-        is_refused_of_all(db, image, pin)
+        is_refused_of_all(db, image, links, pin)
     } else {
         is_refused_with(db, image, pin, pintype)
     }
@@ -96,11 +102,35 @@ fn is_refused(db: &ChipDb, image: &AnyImage, all_pins: bool, pin: Pin, pintype: 
 
 /// Whether a pin isn't taken if pins of every kind are.
 #[tactic(auto, unfolding(fabric_model::specs::Pins::is_refused_of_all))]
-fn is_refused_of_all(db: &ChipDb, image: &AnyImage, pin: Pin) -> bool
-    requires { HasTile image.now Io pin.x pin.y }
+fn is_refused_of_all(db: &ChipDb, image: &AnyImage, links: &Links, pin: Pin) -> bool
+    requires together { BelongTogether db.now image.now links.now }
+    requires tile { HasTile image.now Io pin.x pin.y }
     ensures { result ≡ is_refused_of_all (database_in db.now) (configuration_of image.now) pin }
 {
-    is_held(pin) || ((pin.is_global && pin.drives()) || is_half_pair(db, image, pin))
+    is_held(pin)
+        || ((pin.is_global && pin.drives())
+            || (is_half_pair(db, image, pin) || is_misread_of_pll(db, image, links, pin)))
+}
+
+/// Whether `io_n/D_IN_1` of a pin is read, or `io_n/D_IN_0` is and bits 1 and 0 of its type aren't 01.
+fn is_misread(db: &ChipDb, image: &AnyImage, links: &Links, pin: Pin) -> bool
+    requires together { BelongTogether db.now image.now links.now }
+    requires tile { HasTile image.now Io pin.x pin.y }
+    ensures { result ≡ is_misread (database_in db.now) (configuration_of image.now) pin.x pin.y pin.n }
+{
+    let Pin { x, y, n, .. } = pin;
+    is_net_read(db, links, x, y, n, b"/D_IN_1")
+        || (is_net_read(db, links, x, y, n, b"/D_IN_0")
+            && !has_plain_input(pintype(db, image, x, y, n)))
+}
+
+/// Whether the input side of a pin belongs to a PLL, and is read in a way that isn't taken.
+fn is_misread_of_pll(db: &ChipDb, image: &AnyImage, links: &Links, pin: Pin) -> bool
+    requires together { BelongTogether db.now image.now links.now }
+    requires tile { HasTile image.now Io pin.x pin.y }
+    ensures { result ≡ (is_of_pll pin.takes && is_misread (database_in db.now) (configuration_of image.now) pin.x pin.y pin.n) }
+{
+    matches!(pin.takes, PadInput::Nothing) && is_misread(db, image, links, pin)
 }
 
 /// Whether the input of a pin is read and a latch may hold it.
@@ -130,7 +160,7 @@ fn has_lvds(db: &ChipDb, image: &AnyImage, pin: Pin) -> bool
 
 /// Whether a pin, which has that type, isn't taken if not pins of every kind are.
 fn is_refused_with(db: &ChipDb, image: &AnyImage, pin: Pin, pintype: u8) -> bool
-    requires { IsFoundPin db.now image.now pin }
+    requires { IsFoundPin false db.now image.now pin }
     ensures { result ≡ is_refused_with (database_in db.now) (configuration_of image.now) pin.x pin.y pin.n pintype }
 {
     is_refused_by_type(db, image, pin, pintype)

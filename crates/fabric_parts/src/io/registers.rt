@@ -18,7 +18,7 @@ const SAME: u16 = 0xAAAA;
 pub fn pin_registers(alloc: Global, flips: usize, pins: &[Pin]) -> Result<Vec<Register>, AllocError>
     ensures { IfOk result (λ registers. registers.items ≡ pin_registers_of flips pins.now) }
 {
-    let signals = PinSignals::new(alloc, flips, pins)?;
+    let signals = PinSignals::new(alloc, flips, pins, &[])?;
     registers(alloc, &signals, pins)
 }
 
@@ -79,24 +79,11 @@ fn pin_register(
     })
 }
 
-/// Whether a register is clocked by `io_global/inclk`; the others are by `io_global/outclk`.
-fn is_of_inputs(register: PinRegister) -> bool
-    ensures { result ≡ is_of_inputs register }
-{
-    match register {
-        PinRegister::Input | PinRegister::SecondInput | PinRegister::InputClockEnable => true,
-        PinRegister::Output
-        | PinRegister::SecondOutput
-        | PinRegister::OutputClockEnable
-        | PinRegister::OutputEnable => false,
-    }
-}
-
 /// The net of the clock of a register.
 fn clock(pin: Pin, register: PinRegister) -> Option<u32>
     ensures { result ≡ (if is_of_inputs register then pin.inclk else pin.outclk) }
 {
-    if is_of_inputs(register) {
+    if register.is_of_inputs() {
         pin.inclk
     } else {
         pin.outclk

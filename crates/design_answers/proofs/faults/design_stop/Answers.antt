@@ -7,7 +7,7 @@ pub returns-in-PinMode : goal.returns-in-PinMode
 returns-in-PinMode c =
     let fault = c.in-PinMode in
     rw fault.is
-    (sym (c.at_tile-in-PinMode.ensures ∙ ap₂ (λ part cause. tile_text fault.x fault.y ++ part ++ cause) (ap phrase_text c.decimal-pin.ensures ∙ ap pin_text c.from.ensures) c.pintype_phrase.ensures))
+    (sym (c.at_tile.ensures ∙ ap₂ (λ part cause. tile_text fault.x fault.y ++ part ++ cause) (ap phrase_text c.decimal-pin.ensures ∙ ap pin_text c.from.ensures) c.pintype_phrase.ensures))
 
 pub returns-in-TwoDrivers : goal.returns-in-TwoDrivers
 returns-in-TwoDrivers c = rw c.in-TwoDrivers.is (sym c.at_net.ensures)

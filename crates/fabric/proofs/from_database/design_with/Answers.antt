@@ -1,4 +1,4 @@
-use Rattle.std.proofs.Common.{◌≡◌, refl, sym, ap, ◌∙◌, subst}
+use Rattle.std.proofs.Common.{◌≡◌, refl, sym, ap₂, ◌∙◌, subst}
 use Rattle.std.specs.Prelude.{None}
 use Rattle.ice_image.specs.Configuration.{Configuration}
 use Rattle.ice_image.specs.Either.{configuration_of, device_of}
@@ -6,7 +6,7 @@ use Rattle.chipdb_reader.specs.Database.{Database}
 use Rattle.chipdb_reader.specs.Kept.{database_in}
 use Rattle.fabric_model.specs.declared.options.FabricOptions.{FabricOptions}
 use Rattle.fabric_model.specs.Fabric.{fabric_with}
-use Rattle.fabric_model.specs.InputPorts.{inputs_among}
+use Rattle.fabric_model.specs.InputPorts.{inputs_with}
 use Rattle.fabric_model.specs.Faults.{design_fault}
 use Rattle.fabric_model.proofs.Alike.{design-value, design-run, clock_end-with}
 use Rattle.fabric_model.proofs.Once.{first-differ}
@@ -42,7 +42,7 @@ wire-requires c =
       own,
       (
         rams-kept c.in_ok-parts.parts.options db image (device_of c.args.image.now) same c.in_ok-parts.parts.rams.items own.rams,
-        first-differ c.in_ok-parts.parts.options db image,
+        first-differ c.in_ok-parts.parts.options db image c.in_ok-parts.ensures.fit,
       ),
     )
 
@@ -64,7 +64,7 @@ of-requires c =
       image,
       designed c.in_ok-parts.parts.options db image c.in_ok-parts.ensures.fit c.in_ok-wired.ensures.few (own-taken c.args.options db image c.in_ok-parts.parts c.in_ok-parts.ensures.options c.in_ok-parts.ensures.taken) c.in_ok-wired.ensures.taken
           (device_of c.args.image.now) refl c.in_ok-parts.parts refl (own-parts c.args.options db image c.in_ok-parts.parts c.in_ok-parts.ensures.options c.in_ok-parts.ensures.parts)
-          c.in_ok-inputs.inputs.items (c.in_ok-inputs.ensures ∙ ap inputs_among c.deref.ensures.value)
+          c.in_ok-inputs.inputs.items (c.in_ok-inputs.ensures ∙ ap₂ inputs_with c.deref.ensures.value c.deref-2.ensures.value)
           c.in_ok-wired.wired.outputs.items c.in_ok-wired.ensures.outputs
           c.in_ok-wired.wired.drivers c.in_ok-wired.ensures.drivers c.in_ok-wired.wired.order.items c.in_ok-wired.ensures.order
           c.in_ok-wired.wired.ends.items c.in_ok-wired.ensures.ends c.in_ok-wired.wired.words.items c.in_ok-wired.ensures.words,
@@ -76,7 +76,7 @@ returns-clause-design c =
     let image = configuration_of c.args.image.now in
     subst (IsDesignOf db image) (sym c.of.ensures) (designed c.in_ok-parts.parts.options db image c.in_ok-parts.ensures.fit c.in_ok-wired.ensures.few (own-taken c.args.options db image c.in_ok-parts.parts c.in_ok-parts.ensures.options c.in_ok-parts.ensures.taken) c.in_ok-wired.ensures.taken
     (device_of c.args.image.now) refl c.in_ok-parts.parts refl (own-parts c.args.options db image c.in_ok-parts.parts c.in_ok-parts.ensures.options c.in_ok-parts.ensures.parts)
-    c.in_ok-inputs.inputs.items (c.in_ok-inputs.ensures ∙ ap inputs_among c.deref.ensures.value)
+    c.in_ok-inputs.inputs.items (c.in_ok-inputs.ensures ∙ ap₂ inputs_with c.deref.ensures.value c.deref-2.ensures.value)
     c.in_ok-wired.wired.outputs.items c.in_ok-wired.ensures.outputs
     c.in_ok-wired.wired.drivers c.in_ok-wired.ensures.drivers c.in_ok-wired.wired.order.items c.in_ok-wired.ensures.order
     c.in_ok-wired.wired.ends.items c.in_ok-wired.ensures.ends c.in_ok-wired.wired.words.items c.in_ok-wired.ensures.words)

@@ -5,4 +5,4 @@ use Rattle.fabric_wiring.specs.Drives.{drive_of}
 use Rattle.fabric_wiring.proofs.pins.append_globals.Given as goal
 
 abbrev pub invariant-loop-global : goal.invariant-loop-global
-invariant-loop-global l = map drive_of l.drives.items ≡ map drive_of l.initial.drives.items ++ flat_map (global_drives l.signals.pins) (take l.global-index l.globals)
+invariant-loop-global l = map drive_of l.drives.items ≡ map drive_of l.initial.drives.items ++ flat_map (global_drives l.signals.pins l.signals.plls) (take l.global-index l.globals)

@@ -17,5 +17,5 @@ returns c =
     ∙ ap (λ (all : List KeptKey). unwrap_or (position (λ (other : KeptKey). is_same_key (key_of c.key_in.result) (key_of other)) all) (length all)) c.deref.ensures.value
     ∙ ap (λ (one : PinKey). unwrap_or (position (λ (other : KeptKey). is_same_key one (key_of other)) kept) (length kept)) c.key_in.ensures
     ∙ place_said kept key c.self.inside.pins.now c.self.invariant.keys_are in
-    ap (λ index. signal.Register index) (c.in_ok-index_behind.ensures ∙ ap (λ n. c.self.inside.flips + n) place)
+    ap (λ index. signal.Register index) (c.in_ok-index_after.ensures ∙ ap (λ n. c.self.inside.flips + n) place)
     ∙ ap (λ (of : SignalsOf). register_in of.flips of.pins c.args.pin c.args.register) c.self.view_is

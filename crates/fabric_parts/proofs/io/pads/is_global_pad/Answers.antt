@@ -3,7 +3,8 @@ use Rattle.index_search.specs.Places.{any_below}
 use Rattle.index_search.proofs.Places.{any_below-more, any_below-at}
 use Rattle.ice_image.specs.Either.{configuration_of}
 use Rattle.chipdb_reader.specs.Kept.{database_in}
-use Rattle.fabric_model.specs.Pins.{global_pad, is_pin_at}
+use Rattle.fabric_model.specs.Plls.{is_pin_at}
+use Rattle.fabric_model.specs.Pins.{global_pad}
 use Rattle.fabric_parts.proofs.io.pads.is_global_pad.Goals as goal
 
 pub loop-g-init : goal.loop-g-init

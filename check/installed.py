@@ -163,7 +163,7 @@ def try_arguments(tries):
     gets(["icebox_vlog", "none.asc"], vlog + [small, "none.asc"])
     gets(["icebox_stat", "odd.asc"], stat + [small, "odd.asc"])
 
-    # options with values, names behind --
+    # options with values, names after --
     gets(["icebox_explain", "-t", "1 1", "b.asc"], layout + [large, "-t", "1 1", "b.asc"])
     gets(["icebox_explain", "b.asc", "-t", "1 1"], layout + [large, "b.asc", "-t", "1 1"])
     gets(["icebox_explain", "--layout", "a.asc", "b.asc"], [large, "--layout", "a.asc", "b.asc"])

@@ -100,7 +100,7 @@ def of_page(name):
 
 
 def many_names():
-    """The small database with names behind its own that fill more than one chunk."""
+    """The small database with names after its own that fill more than one chunk."""
     nets = "".join(".net %d\n1 1 %s_%d\n" % (net, "name" * 15, net) for net in range(6, 1506))
     return DATABASE.replace("14 18 6", "14 18 1506").replace(".buffer 1 1", nets + ".buffer 1 1")
 

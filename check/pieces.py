@@ -3,7 +3,7 @@
 
 Usage: check/pieces.py
 
-It packs a small text and unpacks its bitstream, from standard input and from a file, and then the same behind 4,000,000 bytes that
+It packs a small text and unpacks its bitstream, from standard input and from a file, and then the same after 4,000,000 bytes that
 mean nothing: empty lines before the text, bytes A before the bitstream. What is written must be the same, and the second run must
 ask for memory no more often than the first and take at most 256 KiB more. The requests are counted by valgrind, the memory by GNU
 time.
@@ -47,12 +47,12 @@ def peak(tool, source, given):
     return runs[0][0], min(int(said) for _, said in runs)
 
 
-def try_pieces(tally, tool, source, alone, behind):
-    """Compares how often a tool asks for memory and how much it takes, over a small input and behind many bytes."""
+def try_pieces(tally, tool, source, alone, after):
+    """Compares how often a tool asks for memory and how much it takes, over a small input and after many bytes."""
     written, least = peak(tool, source, alone)
-    same, more = peak(tool, source, behind)
-    few, many = requests(tool, source, alone), requests(tool, source, behind)
-    what = "%s of %s: %d requests for memory, %d KiB; behind 4,000,000 bytes %d requests, %d KiB" % (
+    same, more = peak(tool, source, after)
+    few, many = requests(tool, source, alone), requests(tool, source, after)
+    what = "%s of %s: %d requests for memory, %d KiB; after 4,000,000 bytes %d requests, %d KiB" % (
         tool, "standard input" if source is None else "a file", few, least, many, more)
     fault = written != same and "another file is written" or many > few and "it asks more often"
     tally.tell(what, fault or more > least + MOST_MORE and "it takes more than %d KiB more" % MOST_MORE)

@@ -3,7 +3,7 @@
 
 Usage: check/real.py DESIGNS
 
-DESIGNS is a folder with these files for each design, the device's digits and a `k` behind the last `_` of NAME, as in counter_1k:
+DESIGNS is a folder with these files for each design, the device's digits and a `k` after the last `_` of NAME, as in counter_1k:
 
     NAME.asc.gz             the text of the design
     NAME.explain.gz         what icebox_explain writes of it

@@ -10,7 +10,7 @@ its own, this project packs and unpacks the last text under a layout file, and w
 Wall times are medians of 20 rounds of 5 runs each, by hyperfine or, where that isn't installed and for a tool that reads
 standard input, by a loop here. In each
 round the tools take turns, and the first one is another than in the last round. The ratio is this project's time by the
-stock tool's, the median over the rounds, with the middle half of the rounds behind it. The peak memory is the greatest
+stock tool's, the median over the rounds, with the middle half of the rounds after it. The peak memory is the greatest
 of 20 runs, by GNU time or, where that isn't installed, as the system tells it of a child, which is never less than what
 this script takes itself.
 """
@@ -77,7 +77,7 @@ def peak_memory(command, source, work):
 
 
 def measure(commands, source, work):
-    """The part of the table's line behind the text's name."""
+    """The part of the table's line after the text's name."""
     times, memory = ([], []), [0, 0]
     for number in range(ROUNDS):
         for which in (0, 1) if number % 2 == 0 else (1, 0):
@@ -92,7 +92,7 @@ def measure(commands, source, work):
 
 def line_of(tool, name, commands, source, work, measured=measure):
     """The table's line of two commands with that standard input, and whether both are taken. `OUTPUT` among their words is a file
-    that each of them writes. What is `measured` of them gives the line's part behind the name."""
+    that each of them writes. What is `measured` of them gives the line's part after the name."""
     head = "%-14s %-13s" % (tool, name)
     commands = [[os.path.join(work, output) if word == "OUTPUT" else word for word in command]
                 for command, output in zip(commands, ("first.out", "second.out"))]
@@ -153,7 +153,7 @@ def stream_of(text, work):
 
 
 def lines_of_text(program, text, work):
-    """What is measured of each text: the tool, the input's name, the words behind the tool and the standard input."""
+    """What is measured of each text: the tool, the input's name, the words after the tool and the standard input."""
     stream = stream_of(text, work)
     yield "icepack", os.path.basename(text), [text, "OUTPUT"], os.devnull
     if subprocess.run([program, "icepack", text, stream], stderr=subprocess.DEVNULL).returncode == 0:

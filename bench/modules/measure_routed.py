@@ -26,7 +26,7 @@ def in_brackets(times):
 
 
 def measure_processor(rounds, commands, source, work):
-    """The part of the table's line behind the text's name."""
+    """The part of the table's line after the text's name."""
     times = ([], [])
     for number in range(rounds):
         for which in (0, 1) if number % 2 == 0 else (1, 0):

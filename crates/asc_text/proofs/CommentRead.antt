@@ -226,9 +226,9 @@ last-from (suc n) k test within here =
     ]
 
 -- a line after another statement than that of the comment is none of the comment's
-line-behind : (lines : List (List ℕ)) (m n : ℕ) → 0 < m → begins_with_dot (line_at lines m) ≡ true → m ≤ n → comment_line lines 0 n ≡ []
+line-after : (lines : List (List ℕ)) (m n : ℕ) → 0 < m → begins_with_dot (line_at lines m) ≡ true → m ≤ n → comment_line lines 0 n ≡ []
 unfolding dot_before
-line-behind lines m n some dot from =
+line-after lines m n some dot from =
     let line = line_at lines n in
     elim (cases_eq n m) [
       | inl here ↦
@@ -289,7 +289,7 @@ comment-is lines cs n are stands within dot calm =
     ∙ lines-all cs
     in
     let back : gathered_below rest (λ k. given (1 + count + k)) ≡ [] =
-    gathered_below-none rest (λ k. given (1 + count + k)) (λ k below. line-behind lines (suc count) (1 + count + k) (omega arith) dot (omega arith))
+    gathered_below-none rest (λ k. given (1 + count + k)) (λ k below. line-after lines (suc count) (1 + count + k) (omega arith) dot (omega arith))
     in
     ap (comment_from lines n) last
     ∙ ap (λ lines. Some lines) (ap (λ n. gathered_below n given) sum ∙ gathered_below-sum (1 + count) rest given ∙ (λ i. front i ++ back i) ∙ append-nil cs)

@@ -70,8 +70,8 @@ lines_of-lf_at text len at high =
     let within : len < length text = ltb-true len (length text) parts.0 in
     let is : get_or text len 0 ≡ 10 = eqb-true (get_or text len 0) 10 parts.1 in
     let next : suc len ≡ len + 1 = omega arith in
-    let behind : drop len text ≡ 10 ∷ drop (len + 1) text = drop-cons text len 0 within ∙ (λ i. is i ∷ drop (next i) text) in
-    let cut : text ≡ take len text ++ (10 ∷ drop (len + 1) text) = sym (take-append-drop len text) ∙ ap (λ more. take len text ++ more) behind in
+    let following : drop len text ≡ 10 ∷ drop (len + 1) text = drop-cons text len 0 within ∙ (λ i. is i ∷ drop (next i) text) in
+    let cut : text ≡ take len text ++ (10 ∷ drop (len + 1) text) = sym (take-append-drop len text) ∙ ap (λ more. take len text ++ more) following in
     let plain = All-weaker (λ byte. 33 ≤ byte) (λ byte. 32 ≤ byte) (λ byte some. omega arith) (take len text) high in
     (ap lines_of cut ∙ lines_of-plain (take len text) (drop (len + 1) text) plain, omega (arith, length-drop (len + 1) text))
 

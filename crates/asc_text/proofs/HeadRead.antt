@@ -21,7 +21,7 @@ use Rattle.asc_text.specs.Faults.{is_warm_boot, is_range, is_no_sleep}
 use Rattle.asc_text.specs.Meaning.{warm_boot_in, range_in, no_sleep_in}
 use Rattle.asc_text.specs.Canonical.{with_word, warm_boot_lines, range_lines, no_sleep_lines}
 use Rattle.asc_text.proofs.PieceRead.{Piece, rows_below}
-use Rattle.asc_text.proofs.PiecesRead.{all_lines, some_piece, some_piece-nothing, first_piece, some_statement, first_statement, some_piece-one, first_piece-append, cause_behind, was_given, IsFine, AreFine, AreFine-append}
+use Rattle.asc_text.proofs.PiecesRead.{all_lines, some_piece, some_piece-nothing, first_piece, some_statement, first_statement, some_piece-one, first_piece-append, cause_after, was_given, IsFine, AreFine, AreFine-append}
 use Rattle.asc_text.proofs.Spelled.{IsSpelled, device-spelled, warm_boot-spelled, medium-spelled, high-spelled, no_sleep-spelled}
 use Rattle.ice_image.specs.Bits.{set_extras}
 use Rattle.asc_text.proofs.PiecesWritten.{all_lines-append, gathered-none, append-none, first-none, AreFine-none, AreFine-one, Knows, Knows-more, kind_pieces, grid_pieces, row_pieces, all_tile_pieces, all_extra_pieces, extras-none, extras-give}
@@ -90,7 +90,7 @@ head-lines device warm_boot range no_sleep =
 
 -- a statement to which no lines belong is right if it has no cause
 alone-fine : (layouts : Layouts) (past : List Piece) (statement : Statement) (head : List ℕ) → IsSpelled head statement → has_rows (Some statement) ≡ false → is_comment (Some statement) ≡ false
-    → cause_behind layouts (first_statement device_in past) (was_given past statement) statement ≡ None → IsFine layouts past (alone statement head)
+    → cause_after layouts (first_statement device_in past) (was_given past statement) statement ≡ None → IsFine layouts past (alone statement head)
 alone-fine layouts past statement head spelled rowless calm none = record {
   is = record { spells = spelled.spells; dot = spelled.dot; count = sym (ap rows_below rowless); calm = calm; plain = All-cons IsPlain head [] spelled.plain (All-nil IsPlain) };
   cause = none;
@@ -105,10 +105,10 @@ device-fine layouts (Some lines) device = alone-fine layouts (comment_pieces (So
 
 -- so is a setting after the device, if it wasn't given
 setting-fine : (layouts : Layouts) (device : DeviceName) (past : List Piece) (statement : Statement) (head : List ℕ) → Knows device past → IsSpelled head statement
-    → has_rows (Some statement) ≡ false → is_comment (Some statement) ≡ false → was_given past statement ≡ false → cause_behind layouts (Some device) false statement ≡ None
+    → has_rows (Some statement) ≡ false → is_comment (Some statement) ≡ false → was_given past statement ≡ false → cause_after layouts (Some device) false statement ≡ None
     → AreFine layouts past (alone statement head ∷ [])
 setting-fine layouts device past statement head knows spelled rowless calm new none =
-    AreFine-one layouts past (alone statement head) (alone-fine layouts past statement head spelled rowless calm ((λ i. cause_behind layouts (knows i) (new i) statement) ∙ none))
+    AreFine-one layouts past (alone statement head) (alone-fine layouts past statement head spelled rowless calm ((λ i. cause_after layouts (knows i) (new i) statement) ∙ none))
 
 -- so is warm boot
 warm_boot-fine : (layouts : Layouts) (device : DeviceName) (past : List Piece) (warm_boot : Bool) → Knows device past → some_statement is_warm_boot past ≡ false → AreFine layouts past (warm_boot_pieces warm_boot)

@@ -184,22 +184,22 @@ HasTaken-stops s first text count left between fault some has told =
 -- ---- the first fault
 
 -- The fault of a line that is refused is that of the text.
-pub stopped : (layouts : Layouts) (text : List ℕ) (front lines behind : List (List ℕ)) (count : ℕ) (s : ReaderState) (fault : AscFault) → AreLayouts layouts → lines_of text ≡ front ++ (lines ++ behind) → TakesEach (begun layouts) front s
+pub stopped : (layouts : Layouts) (text : List ℕ) (front lines following : List (List ℕ)) (count : ℕ) (s : ReaderState) (fault : AscFault) → AreLayouts layouts → lines_of text ≡ front ++ (lines ++ following) → TakesEach (begun layouts) front s
     → count ≡ length front → StopsIn s count lines fault → Tells (asc_fault_of layouts text) fault
-stopped layouts text front lines behind count s fault are parts taken counted stops =
+stopped layouts text front lines following count s fault are parts taken counted stops =
     let before = front ++ stops.before in
-    let after = stops.line ∷ (stops.more ++ behind) in
+    let after = stops.line ∷ (stops.more ++ following) in
     let all : lines_of text ≡ before ++ after =
     parts
-    ∙ ap (λ ls. front ++ (ls ++ behind)) stops.parts
-    ∙ ap (λ ls. front ++ ls) (append_assoc stops.before (stops.line ∷ stops.more) behind)
+    ∙ ap (λ ls. front ++ (ls ++ following)) stops.parts
+    ∙ ap (λ ls. front ++ ls) (append_assoc stops.before (stops.line ∷ stops.more) following)
     ∙ sym (append_assoc front stops.before after) in
     let n = length before in
     let read = HasRead-from layouts before after stops.between are (TakesEach-then (begun layouts) s stops.between front stops.before taken stops.taken) in
     let many : n ≡ length front + length stops.before = length-append front stops.before in
     let place : count + length stops.before + 1 ≡ n + 1 = omega (arith, counted, many) in
     let at : ℕ → Type 0 = λ k. Tells (fault_with (line_refusal stops.between stops.between.expected stops.line) k (tile_named (statement_of stops.between.expected stops.line))) fault in
-    refused layouts text stops.line n (stops.more ++ behind) stops.between fault
+    refused layouts text stops.line n (stops.more ++ following) stops.between fault
     (subst (λ (ls : List (List ℕ)). HasRead layouts ls n stops.between) (sym all) read)
     (ap (drop n) all ∙ drop-append_seam before after)
     (subst at place stops.told)

@@ -74,12 +74,12 @@ depth-in lines n piece is stands top (suc (suc r)) within =
     rw next (depth-step lines (n + suc r) ∙ ap (λ depth. depth_after depth (has_rows (statement_in (line_at lines (n + suc r))))) before ∙ depth_after-next (suc r) _ (omega arith) below.1 ∙ omega arith)
 
 -- the depth after the last line of a piece
-depth-behind : (lines : List (List ℕ)) (n : ℕ) (opens : Bool) (count : ℕ) → count ≡ rows_below opens → depth_at lines (n + count) ≡ count
+depth-after : (lines : List (List ℕ)) (n : ℕ) (opens : Bool) (count : ℕ) → count ≡ rows_below opens → depth_at lines (n + count) ≡ count
     → (0 ≡ count → has_rows (statement_in (line_at lines n)) ≡ opens) → depth_at lines (n + suc count) ≡ 0
-depth-behind lines n true count is last opens =
+depth-after lines n true count is last opens =
     let next : n + suc count ≡ suc (n + count) = omega arith in
     rw next (depth-step lines (n + count) ∙ ap (λ depth. depth_after depth (has_rows (statement_in (line_at lines (n + count))))) (last ∙ is))
-depth-behind lines n false count is last opens =
+depth-after lines n false count is last opens =
     let next : n + suc count ≡ suc n = omega arith in
     let same : n + count ≡ n = omega arith in
     let top : depth_at lines n ≡ 0 = ap (depth_at lines) (sym same) ∙ last ∙ is in
@@ -89,7 +89,7 @@ depth-behind lines n false count is last opens =
 -- the line after a piece belongs to no statement
 depth-next : (lines : List (List ℕ)) (n : ℕ) (piece : Piece) → IsPiece piece → Stands lines n (piece_lines piece) → depth_at lines n ≡ 0 → depth_at lines (n + suc (length piece.rows)) ≡ 0
 depth-next lines n piece is stands top =
-    depth-behind lines n (has_rows (Some piece.statement)) (length piece.rows) is.count (depth-in lines n piece is stands top (length piece.rows) (omega arith))
+    depth-after lines n (has_rows (Some piece.statement)) (length piece.rows) is.count (depth-in lines n piece is stands top (length piece.rows) (omega arith))
     (λ none. ap has_rows (ap statement_in (line-head lines piece.rows n piece.head stands) ∙ is.spells))
 
 -- what holds of the lines of a piece

@@ -1,5 +1,5 @@
 -- Texts that are written piece by piece.
-use Rattle.std.proofs.Common.{◌≡◌, ℕ, ◌+◌, ◌-◌, ◌*◌, Bool, ◌<◌, ◌≤◌, List, [], ◌∷◌, ◌++◌, length, get_or, take, drop, map, Some, None, refl, ap, sym, ◌∙◌, subst, add-one, append_assoc, append-nil, arith}
+use Rattle.std.proofs.Common.{◌≡◌, ℕ, ◌+◌, ◌-◌, Bool, ◌<◌, ◌≤◌, List, [], ◌∷◌, ◌++◌, length, get_or, take, drop, map, Some, None, refl, ap, sym, ◌∙◌, add-one, append_assoc, append-nil, arith}
 use Rattle.std.proofs.lemmas.List.{map-append, take_more, take_all, length-map, length-take-le, get_or-map, get_or-take, get_or-set_same, get_or-set_other}
 use Rattle.std.proofs.lemmas.Bool.{cases_eq}
 use Rattle.std.proofs.lemmas.Grind.{flat_map-append, same_number_lists}
@@ -166,13 +166,13 @@ text-written image start head tiles extras start_is head_is tiles_are extras_are
     lines-joined [] tiles extras _ (all_extra_lines image) two extras_are
 
 -- so are the tiles between the lines before and after them
-pub around-written : (image : Configuration) (start head around : List ℕ) (behind : ℕ) → start ≡ [] → head ≡ start ++ text_of (head_lines image) → behind ≡ length head → around ≡ head ++ text_of (all_extra_lines image)
-    → take behind around ++ text_of (all_tile_lines image) ++ drop behind around ≡ asc_text_of image
-around-written image start head around behind start_is head_is behind_is around_is =
+pub around-written : (image : Configuration) (start head around : List ℕ) (following : ℕ) → start ≡ [] → head ≡ start ++ text_of (head_lines image) → following ≡ length head → around ≡ head ++ text_of (all_extra_lines image)
+    → take following around ++ text_of (all_tile_lines image) ++ drop following around ≡ asc_text_of image
+around-written image start head around following start_is head_is after_is around_is =
     let extras : List ℕ = text_of (all_extra_lines image) in
-    let front : take behind around ≡ head = ap (λ n. take n around) behind_is ∙ ap (take (length head)) around_is ∙ take-append_seam head extras in
-    let back : drop behind around ≡ extras = ap (λ n. drop n around) behind_is ∙ ap (drop (length head)) around_is ∙ drop-append_seam head extras in
-    ap (λ text. text ++ text_of (all_tile_lines image) ++ drop behind around) front
+    let front : take following around ≡ head = ap (λ n. take n around) after_is ∙ ap (take (length head)) around_is ∙ take-append_seam head extras in
+    let back : drop following around ≡ extras = ap (λ n. drop n around) after_is ∙ ap (drop (length head)) around_is ∙ drop-append_seam head extras in
+    ap (λ text. text ++ text_of (all_tile_lines image) ++ drop following around) front
     ∙ ap (λ text. head ++ text_of (all_tile_lines image) ++ text) back
     ∙ text-written image start head (head ++ text_of (all_tile_lines image)) ((head ++ text_of (all_tile_lines image)) ++ extras) start_is head_is refl refl
 

@@ -123,8 +123,8 @@ was_given past (RamData x y) = some_statement (names_ram x y) past
 was_given past statement = false
 
 -- what is wrong with a statement after these pieces, whose device is that one
-abbrev pub cause_behind : Layouts → Option DeviceName → Bool → Statement → Option AscCause
-cause_behind layouts device given statement =
+abbrev pub cause_after : Layouts → Option DeviceName → Bool → Statement → Option AscCause
+cause_after layouts device given statement =
     or_else (missing_device device statement)
     (or_else (unknown_device statement)
     (or_else (tile_cause device statement)
@@ -147,7 +147,7 @@ pub record Holds (layouts : Layouts) (lines : List (List ℕ)) (n : ℕ) (past :
 -- a piece is right after those pieces
 pub record IsFine (layouts : Layouts) (past : List Piece) (piece : Piece) : Type 0 where
   pub is : IsPiece piece
-  pub cause : cause_behind layouts (first_statement device_in past) (was_given past piece.statement) piece.statement ≡ None
+  pub cause : cause_after layouts (first_statement device_in past) (was_given past piece.statement) piece.statement ≡ None
   pub rows : (r : ℕ) → r < length piece.rows → row_cause (Some piece.statement) (trimmed (line_at piece.rows r)) ≡ None
 
 -- the test of one piece more
@@ -227,7 +227,7 @@ sound-head layouts lines n past piece holds fine stands =
     let said : statement_in (line_at lines n) ≡ Some piece.statement = ap statement_in line ∙ fine.is.spells in
     cause_at-statement layouts lines n holds.top (omega (arith, stands.fits)) (ap begins_with_dot line ∙ fine.is.dot)
     ∙ ap (statement_cause layouts lines n) said
-    ∙ (λ i. cause_behind layouts (holds.device i) (repeated-is layouts lines n past holds piece.statement i) piece.statement)
+    ∙ (λ i. cause_after layouts (holds.device i) (repeated-is layouts lines n past holds piece.statement i) piece.statement)
     ∙ fine.cause
 
 -- and so are those below it

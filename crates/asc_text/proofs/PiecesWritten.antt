@@ -33,7 +33,7 @@ use Rattle.ice_image.specs.Owned.{is_extra}
 use Rattle.asc_text.specs.Faults.{cause_if, is_same_kind, kind_cause, names_tile, names_ram}
 use Rattle.asc_text.specs.Canonical.{grid_line, row_line, tile_lines, memory_line, ram_lines, lines_of_tile_at, all_tile_lines, extra_line, all_extra_lines}
 use Rattle.asc_text.proofs.PieceRead.{Piece, IsPiece, piece_lines}
-use Rattle.asc_text.proofs.PiecesRead.{all_lines, some_piece, first_piece, some_statement, first_statement, some_piece-append, some_piece-one, first_piece-append, cause_behind, IsFine, AreFine, AreFine-append}
+use Rattle.asc_text.proofs.PiecesRead.{all_lines, some_piece, first_piece, some_statement, first_statement, some_piece-append, some_piece-one, first_piece-append, cause_after, IsFine, AreFine, AreFine-append}
 use Rattle.asc_text.proofs.RowsRead.{trimmed-row_line, plain-row_line, is_row-row_line, trimmed-encoded, plain-encoded, is_memory_line-encoded, words_bytes, length-words_bytes, IsBytes-words_bytes, word-row_from-lt}
 use Rattle.asc_text.proofs.Spelled.{tile-spelled, ram-spelled, extra-spelled}
 
@@ -192,7 +192,7 @@ pub tile-fine : (layouts : Layouts) (image : Configuration) (x y : ℕ) (kind : 
 tile-fine layouts image x y kind past small_x small_y is knows new = record {
   is = tile-is image x y kind small_x small_y;
   cause =
-      (λ i. cause_behind layouts (knows i) (new i) (Tile kind x y))
+      (λ i. cause_after layouts (knows i) (new i) (Tile kind x y))
       ∙ ap (λ there. or_else (kind_cause there kind) None) is
       ∙ ap (λ same. or_else (cause_if (not same) (Kind kind)) None) (same_kind kind);
   rows = λ r within.
@@ -266,7 +266,7 @@ pub ram-fine : (layouts : Layouts) (image : Configuration) (x y : ℕ) (past : L
 ram-fine layouts image x y past small_x small_y is knows new = record {
   is = ram-is image x y small_x small_y;
   cause =
-      (λ i. cause_behind layouts (knows i) (new i) (RamData x y))
+      (λ i. cause_after layouts (knows i) (new i) (RamData x y))
       ∙ ap (λ there. or_else (kind_cause there RamB) None) is;
   rows = λ r within.
       let inside : r < 16 = omega (arith, length-single 16 (memory_line image x y)) in
@@ -425,7 +425,7 @@ extra-fine layouts layout at past has extra knows =
     record {
       is = record { spells = spelled.spells; dot = spelled.dot; count = refl; calm = refl; plain = All-cons IsPlain (extra_line at) [] spelled.plain (All-nil IsPlain) };
       cause =
-          ap (λ device. cause_behind layouts device false (ExtraBit at.bank at.px at.py)) knows
+          ap (λ device. cause_after layouts device false (ExtraBit at.bank at.px at.py)) knows
           ∙ ap (λ (layout : Layout). or_else (cause_if (not (is_extra layout at)) ExtraPlace) None) has
           ∙ ap (λ good. or_else (cause_if (not good) ExtraPlace) None) extra;
       rows = λ r within. absurd (omega arith);

@@ -5,7 +5,7 @@ use Rattle.std.proofs.lemmas.Bool.{cases_lt, cases_Bool, and_parts, false≢true
 use Rattle.std.proofs.lemmas.Slice.Eq.{bytes_eq-Decides}
 use Rattle.std.proofs.lemmas.List.{get_or-drop, get_or_past}
 use Rattle.text_lines.specs.Lines.{lines_of, line_at, trimmed}
-use Rattle.text_lines.specs.Words.{first_word, behind_word, words_of, number_of, numbers_of}
+use Rattle.text_lines.specs.Words.{first_word, after_word, words_of, number_of, numbers_of}
 use Rattle.text_lines.specs.declared.words.Separators.TheVariants.{Spaces}
 use Rattle.layout_file.specs.declared.layouts.Layouts.{Layouts}
 use Rattle.plane_map.specs.declared.tile.TileKind.{TileKind}
@@ -15,7 +15,7 @@ use Rattle.asc_text.specs.declared.statement.Statement.TheVariants.{Comment, Dev
 use Rattle.asc_text.specs.declared.fault.TileXy.{TileXy}
 use Rattle.asc_text.specs.declared.fault.AscCause.{AscCause}
 use Rattle.asc_text.specs.declared.fault.AscCause.TheVariants.{Hex}
-use Rattle.asc_text.specs.Statements.{begins_with_dot, statement_in, spelled, comment_keyword, device_keyword, warm_boot_keyword, range_keyword, no_sleep_keyword, tile_keyword, ram_data_keyword, extra_bit_keyword, symbol_keyword, device_of_words, warm_boot_of_words, range_of_words, no_sleep_of_words, tile_of_numbers, ram_data_of_numbers, extra_bit_of_numbers, symbol_of_parts, name_behind}
+use Rattle.asc_text.specs.Statements.{begins_with_dot, statement_in, spelled, comment_keyword, device_keyword, warm_boot_keyword, range_keyword, no_sleep_keyword, tile_keyword, ram_data_keyword, extra_bit_keyword, symbol_keyword, device_of_words, warm_boot_of_words, range_of_words, no_sleep_of_words, tile_of_numbers, ram_data_of_numbers, extra_bit_of_numbers, symbol_of_parts, name_after}
 use Rattle.asc_text.specs.Rows.{is_memory_line}
 use Rattle.asc_text.specs.Blocks.{has_rows, depth_at, statement_over, statement_at}
 use Rattle.asc_text.specs.Faults.{asc_fault_of, fault_at, fault_with, cause_at, row_cause, statement_cause, tile_named}
@@ -80,12 +80,12 @@ no_symbol (Some net) [] = refl
 no_symbol (Some net) (byte ∷ bytes) = refl
 
 -- a RAM's statement has the keyword of one
-spelled-keyword : (word behind : List ℕ) → is_ram_data (spelled word behind) ≡ true → bytes_eq word ram_data_keyword ≡ true
-spelled-keyword word behind is =
-    let words = words_of Spaces behind in
+spelled-keyword : (word following : List ℕ) → is_ram_data (spelled word following) ≡ true → bytes_eq word ram_data_keyword ≡ true
+spelled-keyword word following is =
+    let words = words_of Spaces following in
     let numbers = numbers_of words in
     let last = neither (bytes_eq word extra_bit_keyword) (extra_bit_of_numbers numbers) _ (no_extra_bit numbers)
-    (neither (bytes_eq word symbol_keyword) (symbol_of_parts (number_of (first_word Spaces behind)) (name_behind behind)) None (no_symbol (number_of (first_word Spaces behind)) (name_behind behind)) refl) in
+    (neither (bytes_eq word symbol_keyword) (symbol_of_parts (number_of (first_word Spaces following)) (name_after following)) None (no_symbol (number_of (first_word Spaces following)) (name_after following)) refl) in
     not_other (bytes_eq word ram_data_keyword) (ram_data_of_numbers numbers) _ last
     (not_first (bytes_eq word (tile_keyword RamT)) (tile_of_numbers RamT numbers) _ (no_tile RamT numbers)
     (not_first (bytes_eq word (tile_keyword RamB)) (tile_of_numbers RamB numbers) _ (no_tile RamB numbers)
@@ -103,8 +103,8 @@ unfolding statement_in
 ram_line-from line is =
     elim (cases_Bool (begins_with_dot line)) [
       | inl dot ↦
-          let spelled_so : is_ram_data (spelled (first_word Spaces (trimmed line)) (behind_word Spaces (trimmed line))) ≡ true = rw dot at is in
-          rw (dot, spelled-keyword (first_word Spaces (trimmed line)) (behind_word Spaces (trimmed line)) spelled_so) refl
+          let spelled_so : is_ram_data (spelled (first_word Spaces (trimmed line)) (after_word Spaces (trimmed line))) ≡ true = rw dot at is in
+          rw (dot, spelled-keyword (first_word Spaces (trimmed line)) (after_word Spaces (trimmed line)) spelled_so) refl
       | inr other ↦ absurd (false≢true (rw other at is))
     ]
 
@@ -121,9 +121,9 @@ unfolding statement_in
 ram_line-is line is some =
     let parts = and_parts (begins_with_dot line) (bytes_eq (first_word Spaces (trimmed line)) ram_data_keyword) is in
     let word = (bytes_eq-Decides (first_word Spaces (trimmed line)) ram_data_keyword).0 parts.1 in
-    let spelled_so : statement_in line ≡ ram_data_of_numbers (numbers_of (words_of Spaces (behind_word Spaces (trimmed line)))) =
-    rw parts.0 (ap (λ w. spelled w (behind_word Spaces (trimmed line))) word) in
-    rw spelled_so (ram_or_none (numbers_of (words_of Spaces (behind_word Spaces (trimmed line)))) (λ none. some (spelled_so ∙ none)))
+    let spelled_so : statement_in line ≡ ram_data_of_numbers (numbers_of (words_of Spaces (after_word Spaces (trimmed line)))) =
+    rw parts.0 (ap (λ w. spelled w (after_word Spaces (trimmed line))) word) in
+    rw spelled_so (ram_or_none (numbers_of (words_of Spaces (after_word Spaces (trimmed line)))) (λ none. some (spelled_so ∙ none)))
 
 -- ---- lines of a text without a fault
 

@@ -104,8 +104,8 @@ holds-whole layouts image under has =
     let stands : Stands lines 0 (front ++ rest) = stands-whole lines in
     let start : Holds layouts lines (length front) (comment_pieces image.comment) = holds-start layouts lines image.comment has (Stands-front lines 0 front rest stands) in
     let none : 0 + length front ≡ length front = omega arith in
-    let behind : Stands lines (length front) rest = subst (λ n. Stands lines n rest) none (Stands-back lines 0 front rest stands) in
-    subst (λ n. Holds layouts lines n (whole_pieces image)) (sym (length-append front rest)) (all_more layouts lines (length front) (comment_pieces image.comment) (body_pieces image) start (body-fine layouts image under) behind)
+    let following : Stands lines (length front) rest = subst (λ n. Stands lines n rest) none (Stands-back lines 0 front rest stands) in
+    subst (λ n. Holds layouts lines n (whole_pieces image)) (sym (length-append front rest)) (all_more layouts lines (length front) (comment_pieces image.comment) (body_pieces image) start (body-fine layouts image under) following)
 
 -- ---- the bits
 
@@ -250,24 +250,24 @@ comment-read layouts None has lines n body stands within dot holds calm =
 comment-read layouts (Some cs) has lines n body stands within dot holds calm = comment-is lines cs n has stands within dot holds.calm
 
 -- the line after the comment is the device's
-line-behind : (image : Configuration) → begins_with_dot (line_at (written_lines image) (length (comment_lines image.comment))) ≡ true
+line-after : (image : Configuration) → begins_with_dot (line_at (written_lines image) (length (comment_lines image.comment))) ≡ true
 unfolding all_lines
-line-behind image =
+line-after image =
     let settings = image.settings in
     let rest = (warm_boot_pieces settings.warm_boot ++ (range_pieces settings.range ++ no_sleep_pieces settings.no_sleep)) ++ (all_tile_pieces image ++ all_extra_pieces image) in
     ap begins_with_dot (get_or_at (comment_lines image.comment) (with_word device_keyword (device_word image.layout.device)) (all_lines rest) [] (length (comment_lines image.comment)) refl)
 
 -- there is one
-some-behind : (image : Configuration) → length (comment_lines image.comment) < length (written_lines image)
+some-after : (image : Configuration) → length (comment_lines image.comment) < length (written_lines image)
 unfolding all_lines
-some-behind image = omega (arith, length-append (comment_lines image.comment) (all_lines (body_pieces image)))
+some-after image = omega (arith, length-append (comment_lines image.comment) (all_lines (body_pieces image)))
 
 -- the comment is the image's
 comment-whole : (layouts : Layouts) (image : Configuration) → HasLayout layouts image.layout → HasCommentLines image.comment → comment_before (written_lines image) (length (written_lines image)) ≡ image.comment
 comment-whole layouts image under has =
     let lines = written_lines image in
     comment-read layouts image.comment has lines (length lines) (body_pieces image) (Stands-front lines 0 (comment_lines image.comment) (all_lines (body_pieces image)) (stands-whole lines))
-    (some-behind image) (line-behind image) (holds-whole layouts image under has) (calm-pieces layouts (comment_pieces image.comment) (body_pieces image) (body-fine layouts image under))
+    (some-after image) (line-after image) (holds-whole layouts image under has) (calm-pieces layouts (comment_pieces image.comment) (body_pieces image) (body-fine layouts image under))
 
 -- the settings are the image's
 settings-whole : (layouts : Layouts) (image : Configuration) → HasLayout layouts image.layout → HasCommentLines image.comment → settings_before (written_lines image) (length (written_lines image)) ≡ image.settings

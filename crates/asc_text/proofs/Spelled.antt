@@ -9,7 +9,7 @@ use Rattle.std.specs.List.{list_all}
 use Rattle.std.specs.Prelude.{All, decimal, nat_le}
 use Rattle.text_lines.specs.Lines.{trimmed, before_rest}
 use Rattle.text_lines.specs.declared.words.Separators.TheVariants.{Spaces}
-use Rattle.text_lines.specs.Words.{pieces_of, words_of, from_word, first_word, behind_word, numbers_of}
+use Rattle.text_lines.specs.Words.{pieces_of, words_of, from_word, first_word, after_word, numbers_of}
 use Rattle.text_lines.specs.Written.{IsPlain}
 use Rattle.text_lines.proofs.Spaced.{words_of-separator, words_of-two, words_of-three}
 use Rattle.text_lines.proofs.Numbers.{numbers_of-two, numbers_of-three}
@@ -124,9 +124,9 @@ plain-grid keyword x y plain small_x small_y =
     plain-with_word (with_word keyword (decimal x)) (decimal y) (plain-with_word keyword (decimal x) (plain-literal keyword plain) (decimal-plain x (omega arith))) (decimal-plain y (omega arith))
 
 -- a line that nothing is trimmed from
-says-whole : (line : List ℕ) → trimmed line ≡ line → begins_with_dot line ≡ true → statement_in line ≡ spelled (first_word Spaces line) (behind_word Spaces line)
+says-whole : (line : List ℕ) → trimmed line ≡ line → begins_with_dot line ≡ true → statement_in line ≡ spelled (first_word Spaces line) (after_word Spaces line)
 unfolding statement_in
-says-whole line whole dot = rw dot (ap (λ line. spelled (first_word Spaces line) (behind_word Spaces line)) whole)
+says-whole line whole dot = rw dot (ap (λ line. spelled (first_word Spaces line) (after_word Spaces line)) whole)
 
 -- the statement of a tile
 pub tile-spelled : (kind : TileKind) (x y : ℕ) → x < 1000000000 → y < 1000000000 → IsSpelled (grid_line (tile_keyword kind) x y) (Tile kind x y)

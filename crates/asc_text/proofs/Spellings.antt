@@ -10,8 +10,8 @@ use Rattle.asc_text.specs.inside.Keywords.{keyword_of, spelled_as}
 
 -- the statement of a keyword, if there is one
 abbrev pub spelled_where : Option Keyword → List ℕ → Option Statement
-spelled_where None behind = None
-spelled_where (Some keyword) behind = spelled_as keyword behind
+spelled_where None following = None
+spelled_where (Some keyword) following = spelled_as keyword following
 
 -- a word and the keyword that it is
 record Entry : Type 0 where
@@ -45,25 +45,25 @@ first_in (e ∷ rest) word = cond (bytes_eq word e.word) (Some e.keyword) (first
 
 -- and its statement
 abbrev spelled_in : List Entry → List ℕ → List ℕ → Option Statement
-spelled_in [] word behind = None
-spelled_in (e ∷ rest) word behind = cond (bytes_eq word e.word) (spelled_as e.keyword behind) (spelled_in rest word behind)
+spelled_in [] word following = None
+spelled_in (e ∷ rest) word following = cond (bytes_eq word e.word) (spelled_as e.keyword following) (spelled_in rest word following)
 
 -- a choice of two keywords is one of their statements
-choice : (test : Bool) (keyword : Keyword) (other : Option Keyword) (behind : List ℕ) (spelling : Option Statement) → spelled_where other behind ≡ spelling
-    → spelled_where (cond test (Some keyword) other) behind ≡ cond test (spelled_as keyword behind) spelling
-choice true keyword other behind spelling e = refl
-choice false keyword other behind spelling e = e
+choice : (test : Bool) (keyword : Keyword) (other : Option Keyword) (following : List ℕ) (spelling : Option Statement) → spelled_where other following ≡ spelling
+    → spelled_where (cond test (Some keyword) other) following ≡ cond test (spelled_as keyword following) spelling
+choice true keyword other following spelling e = refl
+choice false keyword other following spelling e = e
 
-spelled_in-is : (table : List Entry) (word behind : List ℕ) → spelled_where (first_in table word) behind ≡ spelled_in table word behind
-spelled_in-is [] word behind = refl
-spelled_in-is (e ∷ rest) word behind =
-    choice (bytes_eq word e.word) e.keyword (first_in rest word) behind (spelled_in rest word behind) (spelled_in-is rest word behind)
+spelled_in-is : (table : List Entry) (word following : List ℕ) → spelled_where (first_in table word) following ≡ spelled_in table word following
+spelled_in-is [] word following = refl
+spelled_in-is (e ∷ rest) word following =
+    choice (bytes_eq word e.word) e.keyword (first_in rest word) following (spelled_in rest word following) (spelled_in-is rest word following)
 
 -- a statement is that of its keyword
-spelled-is : (word behind : List ℕ) → spelled_where (keyword_of word) behind ≡ spelled word behind
+spelled-is : (word following : List ℕ) → spelled_where (keyword_of word) following ≡ spelled word following
 unfolding keyword_of
-spelled-is word behind = spelled_in-is entries word behind
+spelled-is word following = spelled_in-is entries word following
 
 -- the same by what the keyword is known to be
-pub spelled_by_keyword : (word behind : List ℕ) (keyword : Option Keyword) → keyword ≡ keyword_of word → spelled word behind ≡ spelled_where keyword behind
-spelled_by_keyword word behind keyword is = sym (spelled-is word behind) ∙ ap (λ k. spelled_where k behind) (sym is)
+pub spelled_by_keyword : (word following : List ℕ) (keyword : Option Keyword) → keyword ≡ keyword_of word → spelled word following ≡ spelled_where keyword following
+spelled_by_keyword word following keyword is = sym (spelled-is word following) ∙ ap (λ k. spelled_where k following) (sym is)

@@ -9,11 +9,11 @@ use Rattle.std.specs.Prelude.{All, ◌==◌, ◌&&◌, nat_lt, nat_le, codes, If
 use Rattle.std.specs.List.{list_all}
 use Rattle.std.specs.Char.{is_ascii_digit}
 use Rattle.text_lines.specs.declared.words.Separators.TheVariants.{Spaces}
-use Rattle.text_lines.specs.Words.{is_separator, is_number, number_of, from_word, first_word, behind_word}
+use Rattle.text_lines.specs.Words.{is_separator, is_number, number_of, from_word, first_word, after_word}
 use Rattle.text_lines.specs.Numbers.{StartsWithNumber}
 use Rattle.text_lines.proofs.Spaced.{IsWord, from_word-inner}
 use Rattle.asc_text.specs.declared.statement.Statement.TheVariants.{Symbol}
-use Rattle.asc_text.specs.Statements.{name_behind, spelled, symbol_of_parts}
+use Rattle.asc_text.specs.Statements.{name_after, spelled, symbol_of_parts}
 
 -- ---- a word with a space after it
 
@@ -34,8 +34,8 @@ begins-free (byte ∷ word) rest some free = from_word-inner Spaces byte (word +
 first-is : (word rest : List ℕ) → IsWord Spaces word → first_word Spaces (word ++ (32 ∷ rest)) ≡ word
 first-is word rest is = ap (λ line. take_while (λ byte. not (is_separator Spaces byte)) line) (begins-free word rest is.some is.free) ∙ taken-free word rest is.free
 
-behind-is : (word rest : List ℕ) → IsWord Spaces word → behind_word Spaces (word ++ (32 ∷ rest)) ≡ 32 ∷ rest
-behind-is word rest is =
+after-is : (word rest : List ℕ) → IsWord Spaces word → after_word Spaces (word ++ (32 ∷ rest)) ≡ 32 ∷ rest
+after-is word rest is =
     ap (λ first. drop (length first) (from_word Spaces (word ++ (32 ∷ rest)))) (first-is word rest is)
     ∙ ap (λ line. drop (length word) line) (begins-free word rest is.some is.free)
     ∙ drop-append_seam word (32 ∷ rest)
@@ -69,28 +69,28 @@ named : (number : ℕ) (name : List ℕ) → 0 < length name → symbol_of_parts
 named number [] some = absurd (omega arith)
 named number (byte ∷ name) some = refl
 
-parts-are : (text : List ℕ) (number : ℕ) (name : List ℕ) → StartsWithNumber 32 text number name → (number_of (first_word Spaces (32 ∷ text)) ≡ Some number) × (name_behind (32 ∷ text) ≡ name)
+parts-are : (text : List ℕ) (number : ℕ) (name : List ℕ) → StartsWithNumber 32 text number name → (number_of (first_word Spaces (32 ∷ text)) ≡ Some number) × (name_after (32 ∷ text) ≡ name)
 unfolding from_word
 parts-are text number name starts =
     let word = number-word starts.digits number starts.number_is in (
       ap (λ t. number_of (first_word Spaces t)) starts.text_is ∙ ap number_of (first-is starts.digits name word) ∙ starts.number_is,
-      ap (λ t. drop 1 (behind_word Spaces t)) starts.text_is ∙ ap (drop 1) (behind-is starts.digits name word),
+      ap (λ t. drop 1 (after_word Spaces t)) starts.text_is ∙ ap (drop 1) (after-is starts.digits name word),
     )
 
 -- the keyword, a space, a number, a space and a name
 spells : (line text : List ℕ) (number : ℕ) (name : List ℕ) → line ≡ 46 ∷ 115 ∷ 121 ∷ 109 ∷ 32 ∷ text → StartsWithNumber 32 text number name → 0 < length name
-    → spelled (first_word Spaces line) (behind_word Spaces line) ≡ Some (Symbol number)
+    → spelled (first_word Spaces line) (after_word Spaces line) ≡ Some (Symbol number)
 unfolding from_word
 spells line text number name is starts some =
     let parts = parts-are text number name starts in
-    ap (λ l. spelled (first_word Spaces l) (behind_word Spaces l)) is
-    ∙ ap (λ net. symbol_of_parts net (name_behind (32 ∷ text))) parts.0
+    ap (λ l. spelled (first_word Spaces l) (after_word Spaces l)) is
+    ∙ ap (λ net. symbol_of_parts net (name_after (32 ∷ text))) parts.0
     ∙ ap (symbol_of_parts (Some number)) parts.1
     ∙ named number name some
 
 -- the same if the keyword and the space are found at the front of a line
-pub spells-behind : (line : List ℕ) (found : Option ℕ) → take 5 line ≡ codes ".sym " → IfSome found (λ number. (name : List ℕ) × StartsWithNumber 32 (drop 5 line) number name × (0 < length name))
-    → IfSome found (λ number. spelled (first_word Spaces line) (behind_word Spaces line) ≡ Some (Symbol number))
-spells-behind line None front starts = tt
-spells-behind line (Some number) front starts =
+pub spells-after : (line : List ℕ) (found : Option ℕ) → take 5 line ≡ codes ".sym " → IfSome found (λ number. (name : List ℕ) × StartsWithNumber 32 (drop 5 line) number name × (0 < length name))
+    → IfSome found (λ number. spelled (first_word Spaces line) (after_word Spaces line) ≡ Some (Symbol number))
+spells-after line None front starts = tt
+spells-after line (Some number) front starts =
     spells line (drop 5 line) number starts.0 (sym (take-append-drop 5 line) ∙ ap (λ first. first ++ drop 5 line) front) starts.1 starts.2

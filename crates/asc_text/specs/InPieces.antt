@@ -8,6 +8,6 @@ use Rattle.asc_text.specs.Canonical.{all_tile_lines}
 -- the bytes that it writes: the lines before the tiles, the tiles, and the lines after them
 abbrev pub canonical_in : CanonicalText → List ℕ
 canonical_in text =
-    take text.behind text.around.items
+    take text.following text.around.items
     ++ text_of (all_tile_lines (configuration_of text.image))
-    ++ drop text.behind text.around.items
+    ++ drop text.following text.around.items

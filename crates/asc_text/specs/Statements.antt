@@ -3,7 +3,7 @@
 use Rattle.std.specs.Prelude.{ℕ, Bool, true, false, List, [], ◌∷◌, drop, get_or, codes, bytes_eq, ◌==◌, if◌then◌else◌, Option, Some, None}
 use Rattle.text_lines.specs.Lines.{trimmed}
 use Rattle.text_lines.specs.declared.words.Separators.TheVariants.{Spaces}
-use Rattle.text_lines.specs.Words.{words_of, first_word, behind_word, number_of, numbers_of}
+use Rattle.text_lines.specs.Words.{words_of, first_word, after_word, number_of, numbers_of}
 use Rattle.plane_map.specs.DeviceWords.{device_named}
 use Rattle.plane_map.specs.declared.tile.TileKind.{TileKind}
 use Rattle.plane_map.specs.declared.tile.TileKind.TheVariants.{Io, Logic, RamB, RamT}
@@ -114,26 +114,26 @@ symbol_of_parts (Some net) [] = None
 symbol_of_parts None name = None
 
 -- the text after the first word and one space
-abbrev pub name_behind : List ℕ → List ℕ
-name_behind line = drop 1 (behind_word Spaces line)
+abbrev pub name_after : List ℕ → List ℕ
+name_after line = drop 1 (after_word Spaces line)
 
 -- ---- statements
 
 -- the statement of a keyword and the text after it
 abbrev pub spelled : List ℕ → List ℕ → Option Statement
-spelled keyword behind =
+spelled keyword following =
     if bytes_eq keyword comment_keyword then Some Comment
-    else if bytes_eq keyword device_keyword then device_of_words (words_of Spaces behind)
-    else if bytes_eq keyword warm_boot_keyword then warm_boot_of_words (words_of Spaces behind)
-    else if bytes_eq keyword range_keyword then range_of_words (words_of Spaces behind)
-    else if bytes_eq keyword no_sleep_keyword then no_sleep_of_words (words_of Spaces behind)
-    else if bytes_eq keyword (tile_keyword Io) then tile_of_numbers Io (numbers_of (words_of Spaces behind))
-    else if bytes_eq keyword (tile_keyword Logic) then tile_of_numbers Logic (numbers_of (words_of Spaces behind))
-    else if bytes_eq keyword (tile_keyword RamB) then tile_of_numbers RamB (numbers_of (words_of Spaces behind))
-    else if bytes_eq keyword (tile_keyword RamT) then tile_of_numbers RamT (numbers_of (words_of Spaces behind))
-    else if bytes_eq keyword ram_data_keyword then ram_data_of_numbers (numbers_of (words_of Spaces behind))
-    else if bytes_eq keyword extra_bit_keyword then extra_bit_of_numbers (numbers_of (words_of Spaces behind))
-    else if bytes_eq keyword symbol_keyword then symbol_of_parts (number_of (first_word Spaces behind)) (name_behind behind)
+    else if bytes_eq keyword device_keyword then device_of_words (words_of Spaces following)
+    else if bytes_eq keyword warm_boot_keyword then warm_boot_of_words (words_of Spaces following)
+    else if bytes_eq keyword range_keyword then range_of_words (words_of Spaces following)
+    else if bytes_eq keyword no_sleep_keyword then no_sleep_of_words (words_of Spaces following)
+    else if bytes_eq keyword (tile_keyword Io) then tile_of_numbers Io (numbers_of (words_of Spaces following))
+    else if bytes_eq keyword (tile_keyword Logic) then tile_of_numbers Logic (numbers_of (words_of Spaces following))
+    else if bytes_eq keyword (tile_keyword RamB) then tile_of_numbers RamB (numbers_of (words_of Spaces following))
+    else if bytes_eq keyword (tile_keyword RamT) then tile_of_numbers RamT (numbers_of (words_of Spaces following))
+    else if bytes_eq keyword ram_data_keyword then ram_data_of_numbers (numbers_of (words_of Spaces following))
+    else if bytes_eq keyword extra_bit_keyword then extra_bit_of_numbers (numbers_of (words_of Spaces following))
+    else if bytes_eq keyword symbol_keyword then symbol_of_parts (number_of (first_word Spaces following)) (name_after following)
     else None
 
 -- a line that begins with a dot is a statement
@@ -143,8 +143,8 @@ begins_with_dot line = get_or line 0 0 == 46
 -- the statement that a line is, if it is a valid one
 unfoldable pub statement_in : List ℕ → Option Statement
 statement_in line =
-    if begins_with_dot line then spelled (first_word Spaces (trimmed line)) (behind_word Spaces (trimmed line)) else None
+    if begins_with_dot line then spelled (first_word Spaces (trimmed line)) (after_word Spaces (trimmed line)) else None
 
 -- the name that a line gives to a net, if it gives one
 unfoldable pub name_in : List ℕ → List ℕ
-name_in line = name_behind (behind_word Spaces (trimmed line))
+name_in line = name_after (after_word Spaces (trimmed line))

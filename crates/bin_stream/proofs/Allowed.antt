@@ -10,11 +10,11 @@ Follows before [] = Unit {0}
 Follows before (command ∷ commands) = IsAllowedAfter before command × Follows (before ++ command ∷ []) commands
 
 -- the same by places
-abbrev pub IsAllowedBehind : List Command → List Command → Type 0
-IsAllowedBehind before commands = (k : ℕ) (command : Command) → slice_get commands k ≡ Some command → IsAllowedAfter (before ++ take k commands) command
+abbrev pub AreAllowedAfter : List Command → List Command → Type 0
+AreAllowedAfter before commands = (k : ℕ) (command : Command) → slice_get commands k ≡ Some command → IsAllowedAfter (before ++ take k commands) command
 
 -- from the places to the recursion
-Follows-from_places : (before commands : List Command) → IsAllowedBehind before commands → Follows before commands
+Follows-from_places : (before commands : List Command) → AreAllowedAfter before commands → Follows before commands
 Follows-from_places before [] allowed = tt
 Follows-from_places before (command ∷ commands) allowed = (
   subst (λ all. IsAllowedAfter all command) (append-nil before) (allowed 0 command refl),
@@ -23,7 +23,7 @@ Follows-from_places before (command ∷ commands) allowed = (
 )
 
 -- from the recursion to the places
-places-from_Follows : (before commands : List Command) → Follows before commands → IsAllowedBehind before commands
+places-from_Follows : (before commands : List Command) → Follows before commands → AreAllowedAfter before commands
 places-from_Follows before [] follows k command is = absurd cc
 places-from_Follows before (first ∷ commands) follows zero command is =
     let same : first ≡ command = cc in

@@ -34,7 +34,7 @@ pub record AreWritten (image : Configuration) (all : List ℕ) : Type 0 where
 pub assembled : (image : Configuration) (all : List ℕ) → AreWritten image all → all ≡ canonical_bytes image
 unfolding canonical_bytes
 assembled image all w =
-    let behind : drop w.start w.at_checked ≡ checked_bytes image = ap (drop w.start) w.checked ∙ drop_at w.at_reset (checked_bytes image) w.start (sym w.start_is) in
+    let following : drop w.start w.at_checked ≡ checked_bytes image = ap (drop w.start) w.checked ∙ drop_at w.at_reset (checked_bytes image) w.start (sym w.start_is) in
     let value = two_bytes (check_value (bits_of (checked_bytes image))) in
     let comment : w.at_comment ≡ comment_bytes image.comment = w.comment ∙ ap (λ bytes. bytes ++ comment_bytes image.comment) w.first in
     let range : w.at_range ≡ w.at_preamble ++ range_command image.settings.range = w.range ∙ ap (λ n. w.at_preamble ++ spelling (Short range_opcode (n ∷ []))) w.number_is in
@@ -43,5 +43,5 @@ assembled image all w =
     w.last
     ∙ ap (λ bytes. bytes ++ 0 ∷ []) (w.wake_up
     ∙ ap (λ bytes. bytes ++ wake_up_command) (w.value
-    ∙ ap (λ bytes. w.at_checked ++ two_bytes (check_value (bits_of bytes))) behind
+    ∙ ap (λ bytes. w.at_checked ++ two_bytes (check_value (bits_of bytes))) following
     ∙ ap (λ bytes. bytes ++ value) (w.checked ∙ ap (λ bytes. bytes ++ checked_bytes image) front)))

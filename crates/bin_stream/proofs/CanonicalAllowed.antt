@@ -30,9 +30,9 @@ allowed-at before (first ∷ commands) are (suc k) command is =
 
 -- commands that are allowed one after the other, and more after them
 allowed-append : (before first more : List Command) → AllowedFrom before first → AllowedFrom (before ++ first) more → AllowedFrom before (first ++ more)
-allowed-append before [] more are behind = subst (λ list. AllowedFrom list more) (append-nil before) behind
-allowed-append before (command ∷ first) more are behind =
-    (are.0, allowed-append (before ++ command ∷ []) first more are.1 (subst (λ list. AllowedFrom list more) (sym (append_assoc before (command ∷ []) first)) behind))
+allowed-append before [] more are following = subst (λ list. AllowedFrom list more) (append-nil before) following
+allowed-append before (command ∷ first) more are following =
+    (are.0, allowed-append (before ++ command ∷ []) first more are.1 (subst (λ list. AllowedFrom list more) (sym (append_assoc before (command ∷ []) first)) following))
 
 -- ---- data
 

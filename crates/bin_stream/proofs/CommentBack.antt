@@ -33,9 +33,9 @@ unfolding pieces_of
 pieces_of-lines [] are = refl
 pieces_of-lines (line ∷ lines) are =
     let here = All-head IsCommentLine line lines are in
-    let behind = ended_lines lines ++ 0 ∷ 0xFF ∷ [] in
-    ap pieces_of (append_assoc (line ++ 0 ∷ []) (ended_lines lines) (0 ∷ 0xFF ∷ []) ∙ append_assoc line (0 ∷ []) behind)
-    ∙ pieces_of-line line behind here.printable
+    let following = ended_lines lines ++ 0 ∷ 0xFF ∷ [] in
+    ap pieces_of (append_assoc (line ++ 0 ∷ []) (ended_lines lines) (0 ∷ 0xFF ∷ []) ∙ append_assoc line (0 ∷ []) following)
+    ∙ pieces_of-line line following here.printable
     ∙ ap (λ more. line ∷ more) (pieces_of-lines lines (All-tail IsCommentLine line lines are))
 
 -- lines pass, and the empty pieces after them don't

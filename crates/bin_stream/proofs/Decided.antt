@@ -10,7 +10,7 @@ use Rattle.bin_stream.specs.State.{device_after}
 use Rattle.bin_stream.specs.Refusals.{Fault, fault_at, first_fault}
 use Rattle.bin_stream.specs.Front.{preamble, preamble_offset}
 use Rattle.bin_stream.specs.Meaning.{meaning}
-use Rattle.bin_stream.specs.Spelling.{Spells, FailsAt, IsRefused, IsFront, commands_from, image_of, read_behind, device_or, bin_read_of, IsDecided}
+use Rattle.bin_stream.specs.Spelling.{Spells, FailsAt, IsRefused, IsFront, commands_from, image_of, read_after, device_or, bin_read_of, IsDecided}
 use Rattle.bin_stream.specs.declared.fault.BinCause.TheVariants.{NoPreamble}
 use Rattle.bin_stream.proofs.Allowed.{Follows-from_IsAllowed, IsAllowed-from_Follows, Follows-right}
 use Rattle.bin_stream.proofs.ManyCommands.{Woken, Failed, length-spelled, commands_from-woken, commands_from-failed, commands_from-Ok, commands_from-Err}
@@ -18,13 +18,13 @@ use Rattle.bin_stream.proofs.PreamblePlace.{preamble_offset-splits}
 use Rattle.bin_stream.proofs.DeviceKnown.{device_after-woken, device_after-known}
 
 -- what is read after a front and the preamble
-read-front : (layouts : Layouts) (bytes front behind : List ℕ) → IsFront front bytes → bytes ≡ front ++ preamble ++ behind → bin_read_of layouts bytes ≡ image_of layouts front (commands_from (length bytes + 1) [] (length front + 4) behind)
+read-front : (layouts : Layouts) (bytes front following : List ℕ) → IsFront front bytes → bytes ≡ front ++ preamble ++ following → bin_read_of layouts bytes ≡ image_of layouts front (commands_from (length bytes + 1) [] (length front + 4) following)
 unfolding bin_read_of
-read-front layouts bytes front behind front_is spelled_is =
+read-front layouts bytes front following front_is spelled_is =
     let n = length front in
-    let before : take n bytes ≡ front = ap (take n) (spelled_is ∙ append_assoc front preamble behind) ∙ take_at front (preamble ++ behind) n refl in
-    let after : drop (n + 4) bytes ≡ behind = ap (drop (n + 4)) spelled_is ∙ drop_at (front ++ preamble) behind (n + 4) (length-append front preamble) in
-    ap (read_behind layouts bytes) front_is
+    let before : take n bytes ≡ front = ap (take n) (spelled_is ∙ append_assoc front preamble following) ∙ take_at front (preamble ++ following) n refl in
+    let after : drop (n + 4) bytes ≡ following = ap (drop (n + 4)) spelled_is ∙ drop_at (front ++ preamble) following (n + 4) (length-append front preamble) in
+    ap (read_after layouts bytes) front_is
     ∙ ap₂ (λ f b. image_of layouts f (commands_from (length bytes + 1) [] (n + 4) b)) before after
 
 -- there are no more commands than bytes
@@ -68,7 +68,7 @@ layout-meant layout front commands = refl
 spelled-woken : (layouts : Layouts) → AreLayouts layouts → (bytes : List ℕ) (image : Configuration) (place : ℕ) (all : List Command) → preamble_offset bytes ≡ Some place → Woken [] (drop (place + 4) bytes) all → meaning (layout_for layouts (device_or (device_after all))) (take place bytes) all ≡ image → Spells layouts bytes image
 spelled-woken layouts are bytes image place all front_is woken means =
     let front = take place bytes in
-    let behind = drop (place + 4) bytes in
+    let following = drop (place + 4) bytes in
     let splits = preamble_offset-splits bytes place front_is in
     let commands = woken.commands in
     let wake_up = woken.wake_up in
@@ -98,21 +98,21 @@ spelled-woken layouts are bytes image place all front_is woken means =
     }
 
 -- an image that is read is spelled
-spelled-read : (layouts : Layouts) → AreLayouts layouts → (bytes : List ℕ) (image : Configuration) (place : Option ℕ) → preamble_offset bytes ≡ place → read_behind layouts bytes place ≡ Ok image → Spells layouts bytes image
+spelled-read : (layouts : Layouts) → AreLayouts layouts → (bytes : List ℕ) (image : Configuration) (place : Option ℕ) → preamble_offset bytes ≡ place → read_after layouts bytes place ≡ Ok image → Spells layouts bytes image
 spelled-read layouts are bytes image None front_is read = absurd cc
 spelled-read layouts are bytes image (Some place) front_is read =
-    let behind = drop (place + 4) bytes in
-    let few : length behind < length bytes + 1 = omega (arith, length-drop (place + 4) bytes) in
-    elim (cases_read (commands_from (length bytes + 1) [] (place + 4) behind)) [
+    let following = drop (place + 4) bytes in
+    let few : length following < length bytes + 1 = omega (arith, length-drop (place + 4) bytes) in
+    elim (cases_read (commands_from (length bytes + 1) [] (place + 4) following)) [
       | inr found ↦ let wrong : Err found.0 ≡ Ok image = sym (ap (image_of layouts (take place bytes)) found.1) ∙ read in absurd cc
       | inl found ↦
           let same : Ok (meaning (layout_for layouts (device_or (device_after found.0))) (take place bytes) found.0) ≡ Ok image = sym (ap (image_of layouts (take place bytes)) found.1) ∙ read in
-          spelled-woken layouts are bytes image place found.0 front_is (commands_from-Ok (length bytes + 1) [] (place + 4) behind found.0 few found.1) cc
+          spelled-woken layouts are bytes image place found.0 front_is (commands_from-Ok (length bytes + 1) [] (place + 4) following found.0 few found.1) cc
     ]
 
 -- a fault after a preamble and allowed commands
-failed-behind : (bytes : List ℕ) (fault : Fault) (place : ℕ) → preamble_offset bytes ≡ Some place → Failed [] (place + 4) (drop (place + 4) bytes) fault → FailsAt bytes fault
-failed-behind bytes fault place front_is failed =
+failed-after : (bytes : List ℕ) (fault : Fault) (place : ℕ) → preamble_offset bytes ≡ Some place → Failed [] (place + 4) (drop (place + 4) bytes) fault → FailsAt bytes fault
+failed-after bytes fault place front_is failed =
     let front = take place bytes in
     let splits = preamble_offset-splits bytes place front_is in
     let place_is : length front ≡ place = length-take-le place bytes (omega (arith, splits.0)) in
@@ -130,23 +130,23 @@ failed-behind bytes fault place front_is failed =
     }
 
 -- a fault that is read after the preamble is there
-failed-read : (layouts : Layouts) (bytes : List ℕ) (fault : Fault) (place : ℕ) → preamble_offset bytes ≡ Some place → read_behind layouts bytes (Some place) ≡ Err fault → FailsAt bytes fault
+failed-read : (layouts : Layouts) (bytes : List ℕ) (fault : Fault) (place : ℕ) → preamble_offset bytes ≡ Some place → read_after layouts bytes (Some place) ≡ Err fault → FailsAt bytes fault
 failed-read layouts bytes fault place front_is read =
-    let behind = drop (place + 4) bytes in
-    let few : length behind < length bytes + 1 = omega (arith, length-drop (place + 4) bytes) in
-    elim (cases_read (commands_from (length bytes + 1) [] (place + 4) behind)) [
+    let following = drop (place + 4) bytes in
+    let few : length following < length bytes + 1 = omega (arith, length-drop (place + 4) bytes) in
+    elim (cases_read (commands_from (length bytes + 1) [] (place + 4) following)) [
       | inl found ↦ let wrong : Ok (meaning (layout_for layouts (device_or (device_after found.0))) (take place bytes) found.0) ≡ Err fault = sym (ap (image_of layouts (take place bytes)) found.1) ∙ read in absurd cc
       | inr found ↦
           let same : Err found.0 ≡ Err fault = sym (ap (image_of layouts (take place bytes)) found.1) ∙ read in
           let fault_is : found.0 ≡ fault = cc in
-          failed-behind bytes fault place front_is (commands_from-Err (length bytes + 1) [] (place + 4) behind fault few (found.1 ∙ ap (λ f. Err f) fault_is))
+          failed-after bytes fault place front_is (commands_from-Err (length bytes + 1) [] (place + 4) following fault few (found.1 ∙ ap (λ f. Err f) fault_is))
     ]
 
 -- a fault that the relation has, and the one that is read, by the preamble's place
 refused-both : (layouts : Layouts) (bytes : List ℕ) (fault : Fault) (place : Option ℕ) → preamble_offset bytes ≡ place → IsRefused bytes fault ↔ (bin_read_of layouts bytes ≡ Err fault)
 unfolding bin_read_of
 refused-both layouts bytes fault None front_is =
-    let read : bin_read_of layouts bytes ≡ Err (fault_at (length bytes) NoPreamble) = ap (read_behind layouts bytes) front_is in (
+    let read : bin_read_of layouts bytes ≡ Err (fault_at (length bytes) NoPreamble) = ap (read_after layouts bytes) front_is in (
       λ refused. let is : fault ≡ fault_at (length bytes) NoPreamble = rw front_is at refused in read ∙ ap (λ f. Err f) (sym is),
       λ found. let same : Err (fault_at (length bytes) NoPreamble) ≡ Err fault = sym read ∙ found in
           let is : fault ≡ fault_at (length bytes) NoPreamble = cc in
@@ -154,7 +154,7 @@ refused-both layouts bytes fault None front_is =
     )
 refused-both layouts bytes fault (Some place) front_is = (
   λ refused. read-failed layouts bytes fault (rw front_is at refused),
-  λ found. rw front_is (failed-read layouts bytes fault place front_is (sym (ap (read_behind layouts bytes) front_is) ∙ found)),
+  λ found. rw front_is (failed-read layouts bytes fault place front_is (sym (ap (read_after layouts bytes) front_is) ∙ found)),
 )
 
 -- An image or a fault, and only one.

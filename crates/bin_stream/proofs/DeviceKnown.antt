@@ -2,7 +2,7 @@
 use Rattle.std.proofs.Common.{◌≡◌, ℕ, zero, suc, ◌<◌, Bool, true, false, not, List, [], ◌∷◌, ◌++◌, length, take, slice_get, Option, Some, None, ◌==◌, ◌⊎◌, refl, sym, ap, ap₂, ◌∙◌, inl, inr, arith}
 use Rattle.std.proofs.lemmas.Bool.{cases_eq, and_parts, eqb-true, ne_eqb}
 use Rattle.std.proofs.lemmas.List.{take-append-le, length_push}
-use Rattle.shared_lemmas.proofs.Pushes.{slice_get-append, slice_get-behind}
+use Rattle.shared_lemmas.proofs.Pushes.{slice_get-append, slice_get-after}
 use Rattle.index_search.specs.Places.{first_below, any_below, or_else}
 use Rattle.index_search.proofs.Places.{first_below-more, first_below-same, any_below-place, or_else-none}
 use Rattle.plane_map.specs.declared.device.DeviceName.{DeviceName}
@@ -49,7 +49,7 @@ device_after-woken commands wake_up wakes =
     let all = commands ++ wake_up ∷ [] in
     let given : ℕ → Option DeviceName = λ k. device_in (take k all) (slice_get all k) in
     let earlier : ℕ → Option DeviceName = λ k. device_in (take k commands) (slice_get commands k) in
-    let last : given n ≡ None = ap (device_in (take n all)) (slice_get-behind commands wake_up []) ∙ device_in-wake_up (take n all) wake_up wakes in
+    let last : given n ≡ None = ap (device_in (take n all)) (slice_get-after commands wake_up []) ∙ device_in-wake_up (take n all) wake_up wakes in
     let same = λ (k : ℕ) (within : k < n). ap₂ device_in (take-append-le k commands (wake_up ∷ []) (omega arith)) (slice_get-append commands (wake_up ∷ []) k within) in
     ap (λ m. first_below m given) (length_push commands wake_up)
     ∙ first_below-more n given

@@ -115,8 +115,8 @@ bit_at-written width height first count bits rows x y grid within column row =
             let e : y ≡ first + (y - first) = omega arith in
             let here : get_or (placed first part rows) y [] ≡ get_or part (y - first) [] = ap (λ y. get_or (placed first part rows) y []) e ∙ get_or-placed first (y - first) part rows [] (omega arith) above in
             rw passes (ap (λ bits. get_or bits x false) here ∙ bit_at-rows_of width count bits x (y - first) column (omega arith))
-        | inr behind ↦
-            let fails : (nat_le first y && nat_lt y (first + count)) ≡ false = and_right (nat_le first y) (nat_lt y (first + count)) (le-ltb y (first + count) behind) in
+        | inr following ↦
+            let fails : (nat_le first y && nat_lt y (first + count)) ≡ false = and_right (nat_le first y) (nat_lt y (first + count)) (le-ltb y (first + count) following) in
             rw fails (ap (λ bits. get_or bits x false) (get_or-placed_after first y part rows [] (omega arith) above))
       ]
     ]

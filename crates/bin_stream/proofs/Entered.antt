@@ -23,7 +23,7 @@ use Rattle.bin_stream.specs.declared.fault.BinCause.{BinCause}
 use Rattle.bin_stream.specs.declared.fault.BinFault.{BinFault}
 use Rattle.bin_stream.specs.declared.fault.BinCause.TheVariants.{NoDevice}
 use Rattle.bin_stream.proofs.OneCommand.{kind-from, body-ends}
-use Rattle.bin_stream.proofs.Steps.{behind_payload, with_payload, read_fault, read_command, length-payload, spelled_short, short_cause-is, after_short-is, held_after-short, held_after-data}
+use Rattle.bin_stream.proofs.Steps.{after_payload, with_payload, read_fault, read_command, length-payload, spelled_short, short_cause-is, after_short-is, held_after-short, held_after-data}
 use Rattle.bin_stream.proofs.Drawn.{device_if-is, Holds-short, Holds-data}
 
 -- a fault that was reported of an equal value
@@ -60,11 +60,11 @@ short-no_data (Mode number) = refl
 -- what was read by an opcode and a number is the first command
 pub shows-first : (commands : List Command) (place : ℕ) (bytes : List ℕ) (parsed : Parsed) → head_fault place bytes ≡ None → IsOf (first_byte bytes / 16) (number_of (payload_in bytes)) parsed → Shows (first_command commands bytes) parsed
 shows-first commands place bytes (ParsedData kind) fine is =
-    let command_is = read_command commands place bytes fine ∙ ap (λ kind. command_of commands (first_byte bytes / 16) (payload_in bytes) kind (behind_payload bytes)) is in
+    let command_is = read_command commands place bytes fine ∙ ap (λ kind. command_of commands (first_byte bytes / 16) (payload_in bytes) kind (after_payload bytes)) is in
     subst (λ (command : Command). Shows command (ParsedData kind)) (sym command_is) refl
 shows-first commands place bytes (ParsedShort short) fine is =
     let no_data : data_kind (first_byte bytes / 16) (number_of (payload_in bytes)) ≡ None = ap₂ data_kind is.0 is.1 ∙ short-no_data short in
-    let command_is = read_command commands place bytes fine ∙ ap (λ kind. command_of commands (first_byte bytes / 16) (payload_in bytes) kind (behind_payload bytes)) no_data in
+    let command_is = read_command commands place bytes fine ∙ ap (λ kind. command_of commands (first_byte bytes / 16) (payload_in bytes) kind (after_payload bytes)) no_data in
     subst (λ (command : Command). Shows command (ParsedShort short)) (sym command_is) is
 
 module _ (layouts : Layouts) (commands : List Command) (place size : ℕ) (bytes : List ℕ) (held : Held) (image : Option AnyImage) (fine : head_fault place bytes ≡ None) (size_is : size ≡ head_size bytes) (stands : Stands layouts commands held image) where
@@ -90,12 +90,12 @@ module _ (layouts : Layouts) (commands : List Command) (place size : ℕ) (bytes
     spelled_whole = ap (λ size. take size bytes) size_is ∙ spelled_short place bytes fine
 
     short_is : first_command commands bytes ≡ short
-    short_is = read_command commands place bytes fine ∙ ap (λ kind. command_of commands opcode payload kind (behind_payload bytes)) no_data
+    short_is = read_command commands place bytes fine ∙ ap (λ kind. command_of commands opcode payload kind (after_payload bytes)) no_data
 
     short_fault : first_fault commands place bytes ≡ fault_where place (short_cause_by (checked held (take size bytes)) (opcode_in command) (number_in command))
     short_fault =
         read_fault commands place bytes fine
-        ∙ ap (λ kind. payload_fault commands place opcode payload kind (behind_payload bytes)) no_data
+        ∙ ap (λ kind. payload_fault commands place opcode payload kind (after_payload bytes)) no_data
         ∙ ap (fault_where place) (short_cause-is commands opcode payload)
         ∙ ap₂ (λ held spelled. fault_where place (short_cause_by (checked held spelled) opcode number)) (sym stands.held_is) (sym spelled_whole)
         ∙ ap₂ (λ opcode number. fault_where place (short_cause_by (checked held (take size bytes)) opcode number)) says.0 says.1
@@ -125,8 +125,8 @@ module _ (layouts : Layouts) (commands : List Command) (place size : ℕ) (bytes
   -- ---- data
 
   module _ (kind : PlaneKind) (is_data : data_kind opcode number ≡ Some kind) where
-    behind : behind_payload bytes ≡ drop size bytes
-    behind =
+    following : after_payload bytes ≡ drop size bytes
+    following =
         let count : first_byte bytes % 16 ≡ length payload = sym (length-payload place bytes fine) in
         ap (λ count. drop count (drop 1 bytes)) count ∙ drop-drop (length payload) 1 bytes ∙ ap (λ n. drop n bytes) (omega (arith, size_is))
 
@@ -134,40 +134,40 @@ module _ (layouts : Layouts) (commands : List Command) (place size : ℕ) (bytes
     size_is_after = ap (λ held. held.width * held.height / 8) stands.held_is
 
     abbrev body : List ℕ
-    body = take (size_after commands) (behind_payload bytes)
+    body = take (size_after commands) (after_payload bytes)
 
     abbrev command : Command
     command = Data kind payload body
 
     data_is : first_command commands bytes ≡ command
-    data_is = read_command commands place bytes fine ∙ ap (λ kind. command_of commands opcode payload kind (behind_payload bytes)) is_data
+    data_is = read_command commands place bytes fine ∙ ap (λ kind. command_of commands opcode payload kind (after_payload bytes)) is_data
 
     pub data_fault-is : first_fault commands place bytes ≡ or_else (fault_where place (data_cause_by held (device_if image) kind)) (body_fault (held.width * held.height / 8) (place + size) (drop size bytes))
     data_fault-is =
         let start : place + 1 + length payload ≡ place + size = omega (arith, size_is) in
         read_fault commands place bytes fine
-        ∙ ap (λ kind. payload_fault commands place opcode payload kind (behind_payload bytes)) is_data
-        ∙ ap (λ fixed. or_else (fault_where place (data_cause_by (held_after commands) fixed kind)) (body_fault (size_after commands) (place + 1 + length payload) (behind_payload bytes))) (sym (device_if-is layouts commands image stands.drawn))
-        ∙ ap₂ (λ start bytes. or_else (fault_where place (data_cause_by (held_after commands) (device_if image) kind)) (body_fault (size_after commands) start bytes)) start behind
+        ∙ ap (λ kind. payload_fault commands place opcode payload kind (after_payload bytes)) is_data
+        ∙ ap (λ fixed. or_else (fault_where place (data_cause_by (held_after commands) fixed kind)) (body_fault (size_after commands) (place + 1 + length payload) (after_payload bytes))) (sym (device_if-is layouts commands image stands.drawn))
+        ∙ ap₂ (λ start bytes. or_else (fault_where place (data_cause_by (held_after commands) (device_if image) kind)) (body_fault (size_after commands) start bytes)) start following
         ∙ ap (λ held. or_else (fault_where place (data_cause_by held (device_if image) kind)) (body_fault (held.width * held.height / 8) (place + size) (drop size bytes))) (sym stands.held_is)
 
     module _ (allowed : first_fault commands place bytes ≡ None) where
-      ended : (size_after commands ≤ length (behind_payload bytes)) × (drop (size_after commands) (behind_payload bytes) ≡ 0 ∷ 0 ∷ drop 2 (drop (size_after commands) (behind_payload bytes)))
+      ended : (size_after commands ≤ length (after_payload bytes)) × (drop (size_after commands) (after_payload bytes) ≡ 0 ∷ 0 ∷ drop 2 (drop (size_after commands) (after_payload bytes)))
       ended =
-          let none : data_fault commands kind place (place + 1 + length payload) (behind_payload bytes) ≡ None = ap (λ kind. payload_fault commands place opcode payload kind (behind_payload bytes)) (sym is_data) ∙ sym (read_fault commands place bytes fine) ∙ allowed in
-          body-ends (size_after commands) (place + 1 + length payload) (behind_payload bytes) (or_else-neither (fault_where place (data_cause commands kind)) (body_fault (size_after commands) (place + 1 + length payload) (behind_payload bytes)) none).1
+          let none : data_fault commands kind place (place + 1 + length payload) (after_payload bytes) ≡ None = ap (λ kind. payload_fault commands place opcode payload kind (after_payload bytes)) (sym is_data) ∙ sym (read_fault commands place bytes fine) ∙ allowed in
+          body-ends (size_after commands) (place + 1 + length payload) (after_payload bytes) (or_else-neither (fault_where place (data_cause commands kind)) (body_fault (size_after commands) (place + 1 + length payload) (after_payload bytes)) none).1
 
       length-spelling : length (spelling command) ≡ size + size_after commands + 2
       length-spelling =
-          let body_long : length body ≡ size_after commands = length-take-le (size_after commands) (behind_payload bytes) ended.0 in
+          let body_long : length body ≡ size_after commands = length-take-le (size_after commands) (after_payload bytes) ended.0 in
           omega (arith, size_is, length-append (payload ++ body) (0 ∷ 0 ∷ []), length-append payload body)
 
-      whole : bytes ≡ spelling command ++ drop 2 (drop (size_after commands) (behind_payload bytes))
+      whole : bytes ≡ spelling command ++ drop 2 (drop (size_after commands) (after_payload bytes))
       whole =
-          let more = drop 2 (drop (size_after commands) (behind_payload bytes)) in
+          let more = drop 2 (drop (size_after commands) (after_payload bytes)) in
           let no_opcode : first_byte bytes / 16 ≡ 0 = (kind-from opcode number kind is_data).0 in
           let head : first_byte bytes ≡ length payload = omega (arith, length-payload place bytes fine) in
-          let back : behind_payload bytes ≡ body ++ (0 ∷ 0 ∷ more) = sym (take-append-drop (size_after commands) (behind_payload bytes)) ∙ ap (λ rest. body ++ rest) ended.1 in
+          let back : after_payload bytes ≡ body ++ (0 ∷ 0 ∷ more) = sym (take-append-drop (size_after commands) (after_payload bytes)) ∙ ap (λ rest. body ++ rest) ended.1 in
           let rest : drop 1 bytes ≡ payload ++ (body ++ (0 ∷ 0 ∷ more)) = sym (take-append-drop (first_byte bytes % 16) (drop 1 bytes)) ∙ ap (λ rest. payload ++ rest) back in
           (with_payload place bytes fine).0
           ∙ ap₂ (λ head rest. head ∷ rest) head (rest ∙ sym (append_assoc payload body (0 ∷ 0 ∷ more)) ∙ sym (append_assoc (payload ++ body) (0 ∷ 0 ∷ []) more))
@@ -175,12 +175,12 @@ module _ (layouts : Layouts) (commands : List Command) (place size : ℕ) (bytes
       pub data_entered : AreLayouts layouts → (end : ℕ) (after : Held) (shown : Option AnyImage) → end ≡ size + held.width * held.height / 8 + 2 → after ≡ after_data held kind (take end bytes) → IsDrawnOn layouts kind held (take (held.width * held.height / 8) (drop size bytes)) image shown → IsEntered layouts commands place bytes end false after shown
       data_entered are end after shown end_is after_is drawn =
           let exact : length (spelling command) ≡ end = omega (arith, length-spelling, size_is_after) in
-          let spelled_is : take end bytes ≡ spelling command = ap (take end) whole ∙ take_at (spelling command) (drop 2 (drop (size_after commands) (behind_payload bytes))) end exact in
+          let spelled_is : take end bytes ≡ spelling command = ap (take end) whole ∙ take_at (spelling command) (drop 2 (drop (size_after commands) (after_payload bytes))) end exact in
           let kept : after ≡ held_after (commands ++ command ∷ []) =
           after_is
           ∙ ap₂ (λ held bytes. after_data held kind bytes) stands.held_is spelled_is
           ∙ held_after-data commands kind payload body in
-          let body_is : take (held.width * held.height / 8) (drop size bytes) ≡ body = ap₂ take size_is_after (sym behind) in
+          let body_is : take (held.width * held.height / 8) (drop size bytes) ≡ body = ap₂ take size_is_after (sym following) in
           let D : Held → List ℕ → Type 0 = λ held body. IsDrawnOn layouts kind held body image shown in
           let drawn_on : IsDrawnOn layouts kind (held_after commands) body image shown = subst (λ (held : Held). D held body) stands.held_is (subst (λ (body : List ℕ). D held body) body_is drawn) in
           let P : Command → Type 0 = λ command. Stands layouts (commands ++ command ∷ []) after shown in

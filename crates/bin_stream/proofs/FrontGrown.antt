@@ -70,14 +70,14 @@ preamble_offset-grown bytes more place is =
 
 -- ---- a search from a place on
 
-at-behind : (bytes : List ℕ) (start j : ℕ) → is_preamble_at (drop start bytes) j ≡ is_preamble_at bytes (start + j)
-at-behind bytes start j =
+at-after : (bytes : List ℕ) (start j : ℕ) → is_preamble_at (drop start bytes) j ≡ is_preamble_at bytes (start + j)
+at-after bytes start j =
     ap (λ (rest : List ℕ). bytes_eq (take 4 rest) preamble) (drop-drop j start bytes)
 
 -- what is found from a place on, before which there is none
-found-behind : (bytes : List ℕ) (start k : ℕ) → ((j : ℕ) → j < start → is_preamble_at bytes j ≡ false) → preamble_offset (drop start bytes) ≡ Some k → preamble_offset bytes ≡ Some (start + k)
+found-after : (bytes : List ℕ) (start k : ℕ) → ((j : ℕ) → j < start → is_preamble_at bytes j ≡ false) → preamble_offset (drop start bytes) ≡ Some k → preamble_offset bytes ≡ Some (start + k)
 unfolding preamble_offset
-found-behind bytes start k before is =
+found-after bytes start k before is =
     let rest = drop start bytes in
     let facts = least_below-place (length rest) (is_preamble_at rest) k is in
     least_below-first (length bytes) (start + k) (is_preamble_at bytes) (omega (arith, length-drop start bytes))
@@ -85,19 +85,19 @@ found-behind bytes start k before is =
       | inl early ↦ before j early
       | inr late ↦
           let e : start + (j - start) ≡ j = omega arith in
-          ap (is_preamble_at bytes) (sym e) ∙ sym (at-behind bytes start (j - start)) ∙ none-before rest k (j - start) is (omega arith)
+          ap (is_preamble_at bytes) (sym e) ∙ sym (at-after bytes start (j - start)) ∙ none-before rest k (j - start) is (omega arith)
     ])
-    (sym (at-behind bytes start k) ∙ facts.passes)
+    (sym (at-after bytes start k) ∙ facts.passes)
 
-none-behind : (bytes : List ℕ) (start : ℕ) → ((j : ℕ) → j < start → is_preamble_at bytes j ≡ false) → preamble_offset (drop start bytes) ≡ None → preamble_offset bytes ≡ None
+none-after : (bytes : List ℕ) (start : ℕ) → ((j : ℕ) → j < start → is_preamble_at bytes j ≡ false) → preamble_offset (drop start bytes) ≡ None → preamble_offset bytes ≡ None
 unfolding preamble_offset
-none-behind bytes start before is =
+none-after bytes start before is =
     let rest = drop start bytes in
     least_below-none (length bytes) (is_preamble_at bytes) (λ j lt. elim (cases_lt j start) [
       | inl early ↦ before j early
       | inr late ↦
           let e : start + (j - start) ≡ j = omega arith in
-          ap (is_preamble_at bytes) (sym e) ∙ sym (at-behind bytes start (j - start)) ∙ none-within rest (j - start) is (omega (arith, length-drop start bytes))
+          ap (is_preamble_at bytes) (sym e) ∙ sym (at-after bytes start (j - start)) ∙ none-within rest (j - start) is (omega (arith, length-drop start bytes))
     ])
 
 -- ---- the comment
@@ -140,10 +140,10 @@ module _ (bytes piece : List ℕ) (none : preamble_offset bytes ≡ None) where
 
   -- the first one is found from there on
   pub found-grown : (searched found : ℕ) → searched ≡ length bytes - 3 → preamble_offset (drop searched all) ≡ Some found → preamble_offset all ≡ Some (searched + found)
-  found-grown searched found is there = found-behind all searched found (λ j lt. early j (omega arith)) there
+  found-grown searched found is there = found-after all searched found (λ j lt. early j (omega arith)) there
 
   pub none-grown : (searched : ℕ) → searched ≡ length bytes - 3 → preamble_offset (drop searched all) ≡ None → preamble_offset all ≡ None
-  none-grown searched is there = none-behind all searched (λ j lt. early j (omega arith)) there
+  none-grown searched is there = none-after all searched (λ j lt. early j (omega arith)) there
 
 module _ (bytes last piece : List ℕ) (keeps : KeepsPlain bytes last) where
   abbrev whole : List ℕ
@@ -200,17 +200,17 @@ module _ (last piece edge : List ℕ) (three : length last ≡ 3) (edge_is : edg
             ap (λ bytes. is_preamble_at bytes j) edge-joined ∙ at-grown edge (drop 3 piece) j room ∙ none-within edge j none (omega arith)
       ]
 
-  behind-last : drop 3 (last ++ piece) ≡ piece
-  behind-last = drop_at last piece 3 three
+  after-last : drop 3 (last ++ piece) ≡ piece
+  after-last = drop_at last piece 3 three
 
   -- else the first one of the piece
-  pub found-behind_edge : (found : ℕ) → preamble_offset edge ≡ None → preamble_offset piece ≡ Some found → preamble_offset (last ++ piece) ≡ Some (3 + found)
-  found-behind_edge found none is = found-behind (last ++ piece) 3 found (none-edge none) (ap preamble_offset behind-last ∙ is)
+  pub found-after_edge : (found : ℕ) → preamble_offset edge ≡ None → preamble_offset piece ≡ Some found → preamble_offset (last ++ piece) ≡ Some (3 + found)
+  found-after_edge found none is = found-after (last ++ piece) 3 found (none-edge none) (ap preamble_offset after-last ∙ is)
 
-  pub none-behind_edge : preamble_offset edge ≡ None → preamble_offset piece ≡ None → preamble_offset (last ++ piece) ≡ None
-  none-behind_edge none is = none-behind (last ++ piece) 3 (none-edge none) (ap preamble_offset behind-last ∙ is)
+  pub none-after_edge : preamble_offset edge ≡ None → preamble_offset piece ≡ None → preamble_offset (last ++ piece) ≡ None
+  none-after_edge none is = none-after (last ++ piece) 3 (none-edge none) (ap preamble_offset after-last ∙ is)
 
   -- which follows from where it ends
-  pub start-behind_edge : (start : Option ℕ) → preamble_offset edge ≡ None → IfSome start (λ start. (4 ≤ start) × (start ≤ length piece)) → IfSome start (λ start. preamble_offset piece ≡ Some (start - 4)) → IfSome start (λ start. preamble_offset (last ++ piece) ≡ Some (start - 1))
-  start-behind_edge None none within found = tt
-  start-behind_edge (Some start) none within found = found-behind_edge (start - 4) none found ∙ ap (λ n. Some n) (omega (arith, within.0))
+  pub start-after_edge : (start : Option ℕ) → preamble_offset edge ≡ None → IfSome start (λ start. (4 ≤ start) × (start ≤ length piece)) → IfSome start (λ start. preamble_offset piece ≡ Some (start - 4)) → IfSome start (λ start. preamble_offset (last ++ piece) ≡ Some (start - 1))
+  start-after_edge None none within found = tt
+  start-after_edge (Some start) none within found = found-after_edge (start - 4) none found ∙ ap (λ n. Some n) (omega (arith, within.0))

@@ -29,7 +29,7 @@ unfolding preamble_offset
 front_place front rest clear =
     let bytes = front ++ (preamble ++ rest) in
     let long : length bytes ≡ length front + suc (suc (suc (suc (length rest)))) = length-append front (preamble ++ rest) in
-    let here : is_preamble_at bytes (length front) ≡ true = ap (λ behind. bytes_eq (take 4 behind) preamble) (drop_at front (preamble ++ rest) (length front) refl) in
+    let here : is_preamble_at bytes (length front) ≡ true = ap (λ following. bytes_eq (take 4 following) preamble) (drop_at front (preamble ++ rest) (length front) refl) in
     least_below-first (length bytes) (length front) (is_preamble_at bytes) (omega arith) (λ j before.
     false_from_ne_true (is_preamble_at bytes j) (λ there.
     let two = preamble-bytes (drop j bytes) there in

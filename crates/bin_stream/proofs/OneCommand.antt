@@ -16,13 +16,13 @@ use Rattle.bin_stream.specs.declared.fault.BinCause.TheVariants.{Truncated, Long
 -- ---- an allowed command
 
 -- what is wrong with a command, by the parts of its first byte
-pub fault-head : (before : List Command) (place head count opcode : ℕ) (rest payload behind : List ℕ) → head % 16 ≡ count → head / 16 ≡ opcode → count < 5 → count ≤ length rest → take count rest ≡ payload → drop count rest ≡ behind → first_fault before place (head ∷ rest) ≡ payload_fault before place opcode payload (data_kind opcode (number_of payload)) behind
-fault-head before place head count opcode rest payload behind count_is opcode_is short within taken dropped =
+pub fault-head : (before : List Command) (place head count opcode : ℕ) (rest payload following : List ℕ) → head % 16 ≡ count → head / 16 ≡ opcode → count < 5 → count ≤ length rest → take count rest ≡ payload → drop count rest ≡ following → first_fault before place (head ∷ rest) ≡ payload_fault before place opcode payload (data_kind opcode (number_of payload)) following
+fault-head before place head count opcode rest payload following count_is opcode_is short within taken dropped =
     rw (count_is, opcode_is, le-ltb 4 count (omega arith), le-ltb (length rest) count within, taken, dropped) refl
 
 -- the first command, by the parts of its first byte
-command-head : (before : List Command) (head count opcode : ℕ) (rest payload behind : List ℕ) → head % 16 ≡ count → head / 16 ≡ opcode → take count rest ≡ payload → drop count rest ≡ behind → first_command before (head ∷ rest) ≡ command_of before opcode payload (data_kind opcode (number_of payload)) behind
-command-head before head count opcode rest payload behind count_is opcode_is taken dropped =
+command-head : (before : List Command) (head count opcode : ℕ) (rest payload following : List ℕ) → head % 16 ≡ count → head / 16 ≡ opcode → take count rest ≡ payload → drop count rest ≡ following → first_command before (head ∷ rest) ≡ command_of before opcode payload (data_kind opcode (number_of payload)) following
+command-head before head count opcode rest payload following count_is opcode_is taken dropped =
     rw (count_is, opcode_is, taken, dropped) refl
 
 -- the kind that the numbers of data begin
@@ -48,12 +48,12 @@ first_fault-none before (Short opcode payload) place rest allowed =
     ∙ ap (λ kind. payload_fault before place opcode payload kind rest) allowed.1
     ∙ ap (fault_where place) allowed.2
 first_fault-none before (Data kind payload body) place rest allowed =
-    let behind = body ++ 0 ∷ 0 ∷ rest in
+    let following = body ++ 0 ∷ 0 ∷ rest in
     let start = place + 1 + length payload in
     ap (λ bytes. first_fault before place (length payload ∷ bytes)) (data-joined payload body rest)
-    ∙ fault-head before place (length payload) (length payload) 0 (payload ++ behind) payload behind (omega (arith, allowed.0)) (omega (arith, allowed.0)) allowed.0 (omega (arith, length-append payload behind)) (take_at payload behind (length payload) refl) (drop_at payload behind (length payload) refl)
-    ∙ ap (λ kind. payload_fault before place 0 payload kind behind) (kind-begun kind payload allowed.1)
-    ∙ ap (λ cause. or_else (fault_where place cause) (body_fault (size_after before) start behind)) allowed.2
+    ∙ fault-head before place (length payload) (length payload) 0 (payload ++ following) payload following (omega (arith, allowed.0)) (omega (arith, allowed.0)) allowed.0 (omega (arith, length-append payload following)) (take_at payload following (length payload) refl) (drop_at payload following (length payload) refl)
+    ∙ ap (λ kind. payload_fault before place 0 payload kind following) (kind-begun kind payload allowed.1)
+    ∙ ap (λ cause. or_else (fault_where place cause) (body_fault (size_after before) start following)) allowed.2
     ∙ body-fits (size_after before) start body rest allowed.3
 
 -- an allowed command is the first one at the place where it is spelled
@@ -62,10 +62,10 @@ first_command-is before (Short opcode payload) rest allowed =
     command-head before (16 * opcode + length payload) (length payload) opcode (payload ++ rest) payload rest (omega (arith, allowed.0)) (omega (arith, allowed.0)) (take_at payload rest (length payload) refl) (drop_at payload rest (length payload) refl)
     ∙ ap (λ kind. command_of before opcode payload kind rest) allowed.1
 first_command-is before (Data kind payload body) rest allowed =
-    let behind = body ++ 0 ∷ 0 ∷ rest in
+    let following = body ++ 0 ∷ 0 ∷ rest in
     ap (λ bytes. first_command before (length payload ∷ bytes)) (data-joined payload body rest)
-    ∙ command-head before (length payload) (length payload) 0 (payload ++ behind) payload behind (omega (arith, allowed.0)) (omega (arith, allowed.0)) (take_at payload behind (length payload) refl) (drop_at payload behind (length payload) refl)
-    ∙ ap (λ kind. command_of before 0 payload kind behind) (kind-begun kind payload allowed.1)
+    ∙ command-head before (length payload) (length payload) 0 (payload ++ following) payload following (omega (arith, allowed.0)) (omega (arith, allowed.0)) (take_at payload following (length payload) refl) (drop_at payload following (length payload) refl)
+    ∙ ap (λ kind. command_of before 0 payload kind following) (kind-begun kind payload allowed.1)
     ∙ ap (λ body. Data kind payload body) (take_at body (0 ∷ 0 ∷ rest) (size_after before) allowed.3)
 
 -- ---- bytes without a fault
@@ -133,29 +133,29 @@ body-ends size place bytes is =
     ]
 
 -- the command of a payload without a fault
-payload-begins : (before : List Command) (place opcode : ℕ) (payload behind : List ℕ) (kind : Option PlaneKind) → data_kind opcode (number_of payload) ≡ kind → length payload < 5 → payload_fault before place opcode payload kind behind ≡ None → Begins before ((16 * opcode + length payload) ∷ payload ++ behind)
-payload-begins before place opcode payload behind None begun short clear = record {
+payload-begins : (before : List Command) (place opcode : ℕ) (payload following : List ℕ) (kind : Option PlaneKind) → data_kind opcode (number_of payload) ≡ kind → length payload < 5 → payload_fault before place opcode payload kind following ≡ None → Begins before ((16 * opcode + length payload) ∷ payload ++ following)
+payload-begins before place opcode payload following None begun short clear = record {
   command = Short opcode payload;
-  rest = behind;
+  rest = following;
   spelled_is = refl;
   allowed = (short, begun, no_cause place (short_cause before opcode payload) clear);
 }
-payload-begins before place opcode payload behind (Some kind) begun short clear =
+payload-begins before place opcode payload following (Some kind) begun short clear =
     let start = place + 1 + length payload in
     let size = size_after before in
-    let parts = or_else-neither (fault_where place (data_cause before kind)) (body_fault size start behind) clear in
+    let parts = or_else-neither (fault_where place (data_cause before kind)) (body_fault size start following) clear in
     let begins = kind-from opcode (number_of payload) kind begun in
-    let body = body-ends size start behind parts.1 in
-    let whole : behind ≡ take size behind ++ 0 ∷ 0 ∷ drop 2 (drop size behind) = sym (take-append-drop size behind) ∙ ap (λ tail. take size behind ++ tail) body.1 in
+    let body = body-ends size start following parts.1 in
+    let whole : following ≡ take size following ++ 0 ∷ 0 ∷ drop 2 (drop size following) = sym (take-append-drop size following) ∙ ap (λ tail. take size following ++ tail) body.1 in
     let head : 16 * opcode + length payload ≡ length payload = omega (arith, begins.0) in
-    let tail = drop 2 (drop size behind) in
+    let tail = drop 2 (drop size following) in
     record {
-      command = Data kind payload (take size behind);
+      command = Data kind payload (take size following);
       rest = tail;
       spelled_is =
           ap₂ (λ first rest. first ∷ payload ++ rest) head whole
-          ∙ ap (λ bytes. length payload ∷ bytes) (sym (data-joined payload (take size behind) tail));
-      allowed = (short, begins.1, no_cause place (data_cause before kind) parts.0, length-take-le size behind body.0);
+          ∙ ap (λ bytes. length payload ∷ bytes) (sym (data-joined payload (take size following) tail));
+      allowed = (short, begins.1, no_cause place (data_cause before kind) parts.0, length-take-le size following body.0);
     }
 
 -- bytes without a fault begin with an allowed command
@@ -164,17 +164,17 @@ first_fault-begins before place [] clear = absurd cc
 first_fault-begins before place (head ∷ rest) clear =
     let count = head % 16 in
     let payload = take count rest in
-    let behind = drop count rest in
+    let following = drop count rest in
     elim (cases_lt 4 count) [
       | inl long ↦ let wrong : Some (fault_at place LongPayload) ≡ None = rw (lt-ltb 4 count long) at clear in absurd cc
       | inr short ↦ elim (cases_lt (length rest) count) [
         | inl lacks ↦ let wrong : Some (fault_at (place + 1 + length rest) Truncated) ≡ None = rw (le-ltb 4 count short, lt-ltb (length rest) count lacks) at clear in absurd cc
         | inr within ↦
             let as_long : length payload ≡ count = length-take-le count rest within in
-            let begins = payload-begins before place (head / 16) payload behind (data_kind (head / 16) (number_of payload)) refl (omega (arith, as_long))
-            (sym (fault-head before place head count (head / 16) rest payload behind refl refl (omega arith) within refl refl) ∙ clear) in
+            let begins = payload-begins before place (head / 16) payload following (data_kind (head / 16) (number_of payload)) refl (omega (arith, as_long))
+            (sym (fault-head before place head count (head / 16) rest payload following refl refl (omega arith) within refl refl) ∙ clear) in
             let whole : 16 * (head / 16) + length payload ≡ head = omega (arith, as_long) in
-            let same : (16 * (head / 16) + length payload) ∷ payload ++ behind ≡ head ∷ rest = ap₂ (λ first bytes. first ∷ bytes) whole (take-append-drop count rest) in
+            let same : (16 * (head / 16) + length payload) ∷ payload ++ following ≡ head ∷ rest = ap₂ (λ first bytes. first ∷ bytes) whole (take-append-drop count rest) in
             subst (Begins before) same begins
       ]
     ]

@@ -4,14 +4,14 @@ use Rattle.std.specs.Prelude.{Option, Some, None, slice_get}
 use Rattle.std.proofs.lemmas.List.{take-append-le, drop-append-le, drop_all, length_push}
 use Rattle.std.proofs.Math.Seq.{take-append_seam}
 use Rattle.bin_stream.proofs.ManyCommands.{spelled-push}
-use Rattle.shared_lemmas.proofs.Pushes.{slice_get-append, slice_get-behind}
+use Rattle.shared_lemmas.proofs.Pushes.{slice_get-append, slice_get-after}
 use Rattle.index_search.specs.Places.{any_below, last_below, first_below, or_else}
 use Rattle.index_search.proofs.Places.{any_below-more, any_below-same, last_below-more, last_below-same, last_below-place, first_below-more, first_below-same}
 use Rattle.plane_map.specs.declared.device.DeviceName.{DeviceName}
 use Rattle.plane_map.specs.declared.tile.Place.{Place}
 use Rattle.ice_image.specs.declared.planes.PlaneKind.{PlaneKind}
 use Rattle.bin_stream.specs.Commands.{Command, spelling, spelled, is_reset, width_opcode}
-use Rattle.bin_stream.specs.State.{has_opcode, number_in, last_index, given_or, last_of, width_given, width_after, device_in, device_after, behind_reset, covered}
+use Rattle.bin_stream.specs.State.{has_opcode, number_in, last_index, given_or, last_of, width_given, width_after, device_in, device_after, after_reset, covered}
 use Rattle.bin_stream.specs.Refusals.{gives_last_row, reached_in}
 use Rattle.bin_stream.specs.Meaning.{gives, bit_given, bit_where, plane_bit}
 
@@ -27,7 +27,7 @@ module _ (test : List Command → Option Command → Bool) where
 
   at-last : (commands : List Command) (command : Command) → at (commands ++ command ∷ []) (length commands) ≡ test commands (Some command)
   at-last commands command =
-      ap (λ before. test before (slice_get (commands ++ command ∷ []) (length commands))) (take-append_seam commands (command ∷ [])) ∙ ap (test commands) (slice_get-behind commands command [])
+      ap (λ before. test before (slice_get (commands ++ command ∷ []) (length commands))) (take-append_seam commands (command ∷ [])) ∙ ap (test commands) (slice_get-after commands command [])
 
   pub last-more : (commands : List Command) (command : Command) → last_below (length (commands ++ command ∷ [])) (λ k. test (take k (commands ++ command ∷ [])) (slice_get (commands ++ command ∷ []) k)) ≡ cond (test commands (Some command)) (Some (length commands)) (last_below (length commands) (λ k. test (take k commands) (slice_get commands k)))
   last-more commands command =
@@ -62,7 +62,7 @@ given_or-before commands command start None within = refl
 given_or-before commands command start (Some k) within = ap number_in (slice_get-append commands (command ∷ []) k (within k refl))
 
 chosen : (commands : List Command) (command : Command) (start : ℕ) (here : Bool) (place : Option ℕ) → ((k : ℕ) → place ≡ Some k → k < length commands) → given_or (commands ++ command ∷ []) (cond here (Some (length commands)) place) start ≡ cond here (number_in (Some command)) (given_or commands place start)
-chosen commands command start true place within = ap number_in (slice_get-behind commands command [])
+chosen commands command start true place within = ap number_in (slice_get-after commands command [])
 chosen commands command start false place within = given_or-before commands command start place within
 
 -- the value that it gives, if it has that opcode
@@ -79,7 +79,7 @@ width_given-before commands command None within = refl
 width_given-before commands command (Some k) within = ap (λ here. number_in here + 1) (slice_get-append commands (command ∷ []) k (within k refl))
 
 width_chosen : (commands : List Command) (command : Command) (here : Bool) (place : Option ℕ) → ((k : ℕ) → place ≡ Some k → k < length commands) → width_given (commands ++ command ∷ []) (cond here (Some (length commands)) place) ≡ cond here (number_in (Some command) + 1) (width_given commands place)
-width_chosen commands command true place within = ap (λ here. number_in here + 1) (slice_get-behind commands command [])
+width_chosen commands command true place within = ap (λ here. number_in here + 1) (slice_get-after commands command [])
 width_chosen commands command false place within = width_given-before commands command place within
 
 pub width_after-more : (commands : List Command) (command : Command) → width_after (commands ++ command ∷ []) ≡ cond (has_opcode width_opcode (Some command)) (number_in (Some command) + 1) (width_after commands)
@@ -97,7 +97,7 @@ device_after-more commands command =
     let n = length commands in
     let given : List Command → ℕ → Option DeviceName = λ commands k. device_in (take k commands) (slice_get commands k) in
     let last : given all n ≡ device_in commands (Some command) =
-    ap (λ before. device_in before (slice_get all n)) (take-append_seam commands (command ∷ [])) ∙ ap (device_in commands) (slice_get-behind commands command []) in
+    ap (λ before. device_in before (slice_get all n)) (take-append_seam commands (command ∷ [])) ∙ ap (device_in commands) (slice_get-after commands command []) in
     let before : (k : ℕ) → k < n → given all k ≡ given commands k =
     λ k lt. ap (λ before. device_in before (slice_get all k)) (take-append-le k commands (command ∷ []) (omega arith)) ∙ ap (device_in (take k commands)) (slice_get-append commands (command ∷ []) k lt) in
     ap (λ n. first_below n (given all)) (length_push commands command)
@@ -112,24 +112,24 @@ reached_in-more commands command = any-more gives_last_row commands command
 
 -- ---- what the check value covers
 
-behind_reset-more : (commands : List Command) (command : Command) (place : Option ℕ) → ((k : ℕ) → place ≡ Some k → k < length commands) → behind_reset (commands ++ command ∷ []) place ≡ behind_reset commands place ++ command ∷ []
-behind_reset-more commands command None within = refl
-behind_reset-more commands command (Some k) within =
+after_reset-more : (commands : List Command) (command : Command) (place : Option ℕ) → ((k : ℕ) → place ≡ Some k → k < length commands) → after_reset (commands ++ command ∷ []) place ≡ after_reset commands place ++ command ∷ []
+after_reset-more commands command None within = refl
+after_reset-more commands command (Some k) within =
     let lt : k < length commands = within k refl in
     drop-append-le (k + 1) commands (command ∷ []) (omega arith)
 
-covered_chosen : (commands : List Command) (command : Command) (here : Bool) (place : Option ℕ) → ((k : ℕ) → place ≡ Some k → k < length commands) → spelled (behind_reset (commands ++ command ∷ []) (cond here (Some (length commands)) place)) ≡ cond here [] (spelled (behind_reset commands place) ++ spelling command)
+covered_chosen : (commands : List Command) (command : Command) (here : Bool) (place : Option ℕ) → ((k : ℕ) → place ≡ Some k → k < length commands) → spelled (after_reset (commands ++ command ∷ []) (cond here (Some (length commands)) place)) ≡ cond here [] (spelled (after_reset commands place) ++ spelling command)
 unfolding spelled
 covered_chosen commands command true place within =
     ap spelled (drop_all (length commands + 1) (commands ++ command ∷ []) (omega (arith, length_push commands command)))
 covered_chosen commands command false place within =
-    ap spelled (behind_reset-more commands command place within) ∙ spelled-push (behind_reset commands place) command
+    ap spelled (after_reset-more commands command place within) ∙ spelled-push (after_reset commands place) command
 
 pub covered-more : (commands : List Command) (command : Command) → covered (commands ++ command ∷ []) ≡ cond (is_reset (Some command)) [] (covered commands ++ spelling command)
 unfolding covered
 covered-more commands command =
     let place = last_below (length commands) (λ k. is_reset (slice_get commands k)) in
-    ap (λ place. spelled (behind_reset (commands ++ command ∷ []) place)) (last-more (λ before here. is_reset here) commands command)
+    ap (λ place. spelled (after_reset (commands ++ command ∷ []) place)) (last-more (λ before here. is_reset here) commands command)
     ∙ covered_chosen commands command (is_reset (Some command)) place (λ k is. (last_below-place (length commands) k (λ k. is_reset (slice_get commands k)) is).0)
 
 -- ---- the planes' bits
@@ -142,7 +142,7 @@ bit_where-before at commands command (Some k) within =
 
 bit_chosen : (at : Place) (commands : List Command) (command : Command) (here : Bool) (place : Option ℕ) → ((k : ℕ) → place ≡ Some k → k < length commands) → bit_where at (commands ++ command ∷ []) (cond here (Some (length commands)) place) ≡ cond here (bit_given at commands (Some command)) (bit_where at commands place)
 bit_chosen at commands command true place within =
-    ap (λ before. bit_given at before (slice_get (commands ++ command ∷ []) (length commands))) (take-append_seam commands (command ∷ [])) ∙ ap (bit_given at commands) (slice_get-behind commands command [])
+    ap (λ before. bit_given at before (slice_get (commands ++ command ∷ []) (length commands))) (take-append_seam commands (command ∷ [])) ∙ ap (bit_given at commands) (slice_get-after commands command [])
 bit_chosen at commands command false place within = bit_where-before at commands command place within
 
 -- the bit at a place is the bit of the new command if it gives one

@@ -9,10 +9,10 @@ pub preamble_offset-splits : (bytes : List ℕ) (place : ℕ) → preamble_offse
 unfolding preamble_offset
 preamble_offset-splits bytes place is =
     let facts = least_below-place (length bytes) (is_preamble_at bytes) place is in
-    let behind = drop place bytes in
-    let first : take 4 behind ≡ preamble = (bytes_eq-Decides (take 4 behind) preamble).0 facts.passes in (
+    let following = drop place bytes in
+    let first : take 4 following ≡ preamble = (bytes_eq-Decides (take 4 following) preamble).0 facts.passes in (
       facts.within,
       sym (take-append-drop place bytes)
-          ∙ ap (λ b. take place bytes ++ b) (sym (take-append-drop 4 behind) ∙ ap₂ (λ a b. a ++ b) first (drop-drop 4 place bytes))
+          ∙ ap (λ b. take place bytes ++ b) (sym (take-append-drop 4 following) ∙ ap₂ (λ a b. a ++ b) first (drop-drop 4 place bytes))
           ∙ sym (append_assoc (take place bytes) preamble (drop (place + 4) bytes)),
     )

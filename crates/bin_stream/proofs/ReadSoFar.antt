@@ -16,7 +16,7 @@ use Rattle.bin_stream.specs.State.{device_after}
 use Rattle.bin_stream.specs.Refusals.{Fault, fault_at, first_fault, reached_in}
 use Rattle.bin_stream.specs.Front.{preamble_offset, comment_of}
 use Rattle.bin_stream.specs.Meaning.{meaning, planes_of, plane_bit}
-use Rattle.bin_stream.specs.Spelling.{first_command, commands_from, device_or, image_of, read_behind, bin_read_of, Tells}
+use Rattle.bin_stream.specs.Spelling.{first_command, commands_from, device_or, image_of, read_after, bin_read_of, Tells}
 use Rattle.bin_stream.specs.inside.Registers.{Held, held_first, held_after, settings_by}
 use Rattle.bin_stream.specs.inside.Step.{Refuses, IsEntered, HasRead, IsFinished, IsDrawn, IsBlank, Holds, Stands}
 use Rattle.bin_stream.specs.declared.fault.BinCause.TheVariants.{NoPreamble}
@@ -102,12 +102,12 @@ module _ (layouts : Layouts) (bytes : List ℕ) (start place : ℕ) (held : Held
 -- what is read after a preamble
 pub read_at : (layouts : Layouts) (bytes : List ℕ) (place : ℕ) → Some place ≡ preamble_offset bytes → bin_read_of layouts bytes ≡ image_of layouts (take place bytes) (commands_from (length bytes + 1) [] (place + 4) (drop (place + 4) bytes))
 unfolding bin_read_of
-read_at layouts bytes place is = ap (read_behind layouts bytes) (sym is)
+read_at layouts bytes place is = ap (read_after layouts bytes) (sym is)
 
 -- what is read if there is none
 pub read_nowhere : (layouts : Layouts) (bytes : List ℕ) → None ≡ preamble_offset bytes → bin_read_of layouts bytes ≡ Err (fault_at (length bytes) NoPreamble)
 unfolding bin_read_of
-read_nowhere layouts bytes is = ap (read_behind layouts bytes) (sym is)
+read_nowhere layouts bytes is = ap (read_after layouts bytes) (sym is)
 
 -- a fault that was reported of an equal reading
 pub Tells-by : (read other : Result Configuration Fault) (fault : BinFault) → read ≡ other → Tells other fault → Tells read fault

@@ -144,8 +144,8 @@ fit-is c is = record {
 }
 
 -- parts of a stream, grouped otherwise
-behind_front : (front a b c d e : List ℕ) → front ++ a ++ b ++ c ++ d ++ e ≡ front ++ (a ++ b ++ c ++ d ++ e)
-behind_front front a b c d e = simp append_assoc
+after_front : (front a b c d e : List ℕ) → front ++ a ++ b ++ c ++ d ++ e ≡ front ++ (a ++ b ++ c ++ d ++ e)
+after_front front a b c d e = simp append_assoc
 
 four_parts : (a b c d : List ℕ) → a ++ b ++ c ++ d ≡ a ++ (b ++ (c ++ d))
 four_parts a b c d = simp append_assoc
@@ -156,7 +156,7 @@ unfolding canonical_bytes
 bytes-are c =
     let front = comment_bytes c.comment ++ preamble in
     let first = range_command c.settings.range in
-    ap (λ bytes. bytes ++ 0 ∷ []) (behind_front front first reset_command (checked_bytes c) (value_bytes c) wake_up_command ∙ ap (λ bytes. front ++ bytes) (sym (spelled-all_commands c (range_number c.settings.range) (value_bytes c) refl)))
+    ap (λ bytes. bytes ++ 0 ∷ []) (after_front front first reset_command (checked_bytes c) (value_bytes c) wake_up_command ∙ ap (λ bytes. front ++ bytes) (sym (spelled-all_commands c (range_number c.settings.range) (value_bytes c) refl)))
 
 -- the settings that were written are read
 settings-back : (c : Configuration) → settings_of (commands_of c ++ wake_up ∷ []) ≡ c.settings

@@ -149,7 +149,7 @@ first-stays before place [] more =
 first-stays before place (head ∷ rest) more =
     let count = head % 16 in
     let payload = take count rest in
-    let behind = drop count rest in
+    let following = drop count rest in
     elim (cases_lt 4 count) [
       | inl long ↦ inr (rw (lt-ltb 4 count long) (refl, refl))
       | inr short ↦ elim (cases_lt (length rest) count) [
@@ -158,13 +158,13 @@ first-stays before place (head ∷ rest) more =
             inl (rw (le-ltb 4 count short, lt-ltb (length rest) count lacks) (ap (λ place. Some (fault_at place Truncated)) there))
         | inr within ↦
             let longer : count ≤ length (rest ++ more) = omega (arith, length-append rest more) in
-            let end : place + 1 + length payload + length behind ≡ place + suc (length rest) = omega (arith, length-take-le count rest within, length-drop count rest) in
-            let here = fault-head before place head count (head / 16) rest payload behind refl refl (omega arith) within refl refl in
-            let there = fault-head before place head count (head / 16) (rest ++ more) payload (behind ++ more) refl refl (omega arith) longer (take-append-le count rest more within) (drop-append-le count rest more within) in
-            let stays = payload-stays before place (head / 16) payload (data_kind (head / 16) (number_of payload)) behind more in
+            let end : place + 1 + length payload + length following ≡ place + suc (length rest) = omega (arith, length-take-le count rest within, length-drop count rest) in
+            let here = fault-head before place head count (head / 16) rest payload following refl refl (omega arith) within refl refl in
+            let there = fault-head before place head count (head / 16) (rest ++ more) payload (following ++ more) refl refl (omega arith) longer (take-append-le count rest more within) (drop-append-le count rest more within) in
+            let stays = payload-stays before place (head / 16) payload (data_kind (head / 16) (number_of payload)) following more in
             subst (Stays (first_fault before place (head ∷ rest)) (first_fault before place (head ∷ rest ++ more))) end
-            (subst (λ (found : Option Fault). Stays found (first_fault before place (head ∷ rest ++ more)) (place + 1 + length payload + length behind)) (sym here)
-            (subst (λ (longer : Option Fault). Stays (payload_fault before place (head / 16) payload (data_kind (head / 16) (number_of payload)) behind) longer (place + 1 + length payload + length behind)) (sym there) stays))
+            (subst (λ (found : Option Fault). Stays found (first_fault before place (head ∷ rest ++ more)) (place + 1 + length payload + length following)) (sym here)
+            (subst (λ (longer : Option Fault). Stays (payload_fault before place (head / 16) payload (data_kind (head / 16) (number_of payload)) following) longer (place + 1 + length payload + length following)) (sym there) stays))
       ]
     ]
 

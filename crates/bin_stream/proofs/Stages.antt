@@ -93,9 +93,9 @@ module _ (layouts : Layouts) (bytes : List ℕ) (comment : Option (List (List �
         most = m;
         enough = omega (arith, reading.offset_is);
         goes_on =
-            ap₂ (λ n behind. commands_from n [] (length front + 4) behind) count start-is
+            ap₂ (λ n following. commands_from n [] (length front + 4) following) count start-is
             ∙ commands_from-run m [] commands (length front + 4) rest (Follows-from_IsAllowed commands reading.allowed) reading.before
-            ∙ ap₂ (λ offset behind. commands_from m commands offset behind) (sym reading.offset_is) (sym rest-is);
+            ∙ ap₂ (λ offset following. commands_from m commands offset following) (sym reading.offset_is) (sym rest-is);
         stands = reading.stands;
       }
 
@@ -129,7 +129,7 @@ module _ (layouts : Layouts) (bytes : List ℕ) (comment : Option (List (List �
     spelled_is =
         ap (λ bytes. bytes ++ piece) reading.spelled_is
         ∙ append_assoc (front ++ preamble) (spelled commands ++ rest) piece
-        ∙ ap (λ behind. front ++ preamble ++ behind) (append_assoc (spelled commands) rest piece);
+        ∙ ap (λ following. front ++ preamble ++ following) (append_assoc (spelled commands) rest piece);
     front_is = preamble_offset-grown bytes piece (length front) reading.front_is;
     comment_is = reading.comment_is;
     allowed = reading.allowed;
@@ -154,7 +154,7 @@ module _ (layouts : Layouts) (bytes : List ℕ) (comment : Option (List (List �
           spelled_is =
               reading.spelled_is
               ∙ ap (λ rest. front ++ preamble ++ (spelled commands ++ rest)) begins.spelled_is
-              ∙ ap (λ behind. front ++ preamble ++ behind) (sym (append_assoc (spelled commands) (spelling command) begins.rest) ∙ ap₂ (λ spelled rest. spelled ++ rest) (sym push) (sym left));
+              ∙ ap (λ following. front ++ preamble ++ following) (sym (append_assoc (spelled commands) (spelling command) begins.rest) ∙ ap₂ (λ spelled rest. spelled ++ rest) (sym push) (sym left));
           front_is = reading.front_is;
           comment_is = reading.comment_is;
           allowed = IsAllowed-from_Follows (commands ++ command ∷ []) (Follows-push [] commands command (Follows-from_IsAllowed commands reading.allowed) begins.allowed);

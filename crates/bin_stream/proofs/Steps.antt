@@ -22,8 +22,8 @@ use Rattle.bin_stream.proofs.OneMore.{last_of-more, width_after-more, covered-mo
 -- ---- the parts of a command in bytes
 
 -- the bytes after the payload
-abbrev pub behind_payload : List ℕ → List ℕ
-behind_payload bytes = drop (first_byte bytes % 16) (drop 1 bytes)
+abbrev pub after_payload : List ℕ → List ℕ
+after_payload bytes = drop (first_byte bytes % 16) (drop 1 bytes)
 
 -- bytes with a payload have a first byte and the bytes of the payload
 pub with_payload : (place : ℕ) (bytes : List ℕ) → head_fault place bytes ≡ None → (bytes ≡ first_byte bytes ∷ drop 1 bytes) × (nat_lt 4 (first_byte bytes % 16) ≡ false) × (nat_lt (length (drop 1 bytes)) (first_byte bytes % 16) ≡ false)
@@ -42,13 +42,13 @@ with_payload place (head ∷ rest) none =
     ]
 
 -- what is wrong with its command is found after the payload
-pub read_fault : (commands : List Command) (place : ℕ) (bytes : List ℕ) → head_fault place bytes ≡ None → first_fault commands place bytes ≡ payload_fault commands place (first_byte bytes / 16) (payload_in bytes) (data_kind (first_byte bytes / 16) (number_of (payload_in bytes))) (behind_payload bytes)
+pub read_fault : (commands : List Command) (place : ℕ) (bytes : List ℕ) → head_fault place bytes ≡ None → first_fault commands place bytes ≡ payload_fault commands place (first_byte bytes / 16) (payload_in bytes) (data_kind (first_byte bytes / 16) (number_of (payload_in bytes))) (after_payload bytes)
 read_fault commands place [] none = absurd cc
 read_fault commands place (head ∷ rest) none =
     let parts = with_payload place (head ∷ rest) none in
     rw (parts.1, parts.2) refl
 
-pub read_command : (commands : List Command) (place : ℕ) (bytes : List ℕ) → head_fault place bytes ≡ None → first_command commands bytes ≡ command_of commands (first_byte bytes / 16) (payload_in bytes) (data_kind (first_byte bytes / 16) (number_of (payload_in bytes))) (behind_payload bytes)
+pub read_command : (commands : List Command) (place : ℕ) (bytes : List ℕ) → head_fault place bytes ≡ None → first_command commands bytes ≡ command_of commands (first_byte bytes / 16) (payload_in bytes) (data_kind (first_byte bytes / 16) (number_of (payload_in bytes))) (after_payload bytes)
 read_command commands place [] none = absurd cc
 read_command commands place (head ∷ rest) none = refl
 

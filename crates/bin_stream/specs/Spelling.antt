@@ -103,14 +103,14 @@ abbrev pub image_of : Layouts → List ℕ → Result (List Command) Fault → R
 image_of layouts front (Ok commands) = Ok (meaning (layout_for layouts (device_or (device_after commands))) front commands)
 image_of layouts front (Err fault) = Err fault
 
-abbrev pub read_behind : Layouts → List ℕ → Option ℕ → Result Configuration Fault
-read_behind layouts bytes None = Err (fault_at (length bytes) NoPreamble)
-read_behind layouts bytes (Some offset) =
+abbrev pub read_after : Layouts → List ℕ → Option ℕ → Result Configuration Fault
+read_after layouts bytes None = Err (fault_at (length bytes) NoPreamble)
+read_after layouts bytes (Some offset) =
     image_of layouts (take offset bytes) (commands_from (length bytes + 1) [] (offset + 4) (drop (offset + 4) bytes))
 
 -- the image that bytes spell under the layouts, or their fault
 unfoldable pub bin_read_of : Layouts → List ℕ → Result Configuration Fault
-bin_read_of layouts bytes = read_behind layouts bytes (preamble_offset bytes)
+bin_read_of layouts bytes = read_after layouts bytes (preamble_offset bytes)
 
 -- Each input has exactly one image or exactly one fault, and not both: the one that the program gives.
 pub record IsDecided (layouts : Layouts) (bytes : List ℕ) : Type 0 where

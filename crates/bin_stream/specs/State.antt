@@ -95,10 +95,10 @@ device_after commands = first_below (length commands) (λ k. device_in (take k c
 -- ---- the check value
 
 -- the commands after an index, or all of them if there is no index
-abbrev pub behind_reset : List Command → Option ℕ → List Command
-behind_reset commands None = commands
-behind_reset commands (Some index) = drop (index + 1) commands
+abbrev pub after_reset : List Command → Option ℕ → List Command
+after_reset commands None = commands
+after_reset commands (Some index) = drop (index + 1) commands
 
 -- the bytes that the check value covers: those after the last reset, or all if there was none
 unfoldable pub covered : List Command → List ℕ
-covered commands = spelled (behind_reset commands (last_below (length commands) (λ k. is_reset (slice_get commands k))))
+covered commands = spelled (after_reset commands (last_below (length commands) (λ k. is_reset (slice_get commands k))))

@@ -15,8 +15,8 @@ placed-append at part front back within =
     ap₂ (λ before after. before ++ part ++ after) (take-append-le at front back (omega arith)) (drop-append-le (at + length part) front back within) ∙ sym (append_assoc (take at front ++ part) (drop (at + length part) front) back)
 
 -- a part that lies in the second of two lists
-pub placed-behind : {A : Type 0} (at n : ℕ) (part front back : List A) → n ≡ length front + at → placed n part (front ++ back) ≡ front ++ placed at part back
-placed-behind {A} at n part front back place =
+pub placed-after : {A : Type 0} (at n : ℕ) (part front back : List A) → n ≡ length front + at → placed n part (front ++ back) ≡ front ++ placed at part back
+placed-after {A} at n part front back place =
     let past : n + length part ≡ length front + (at + length part) = omega arith in
     let head : take n (front ++ back) ≡ front ++ take at back = ap (λ k. take k (front ++ back)) place ∙ take-append-add front back at in
     let tail : drop (n + length part) (front ++ back) ≡ drop (at + length part) back = ap (λ k. drop k (front ++ back)) past ∙ drop-append-add front back (at + length part) in
@@ -73,7 +73,7 @@ packed-set (first ∷ words) zero at word part within small is =
     let e : 64 * 0 + at ≡ at = omega arith in
     ap (λ bits. bits ++ packed words) is ∙ sym (placed-append at part (word_bits 64 first) (packed words) (omega (arith, length-word_bits 64 first))) ∙ ap (λ n. placed n part (word_bits 64 first ++ packed words)) (sym e)
 packed-set (first ∷ words) (suc place) at word part within small is =
-    ap (λ bits. word_bits 64 first ++ bits) (packed-set words place at word part (omega arith) small is) ∙ sym (placed-behind (64 * place + at) (64 * suc place + at) part (word_bits 64 first) (packed words) (omega (arith, length-word_bits 64 first)))
+    ap (λ bits. word_bits 64 first ++ bits) (packed-set words place at word part (omega arith) small is) ∙ sym (placed-after (64 * place + at) (64 * suc place + at) part (word_bits 64 first) (packed words) (omega (arith, length-word_bits 64 first)))
 
 -- another word in place of the one that has a position
 pub packed-set_at : (words : List ℕ) (position word : ℕ) (part : List Bool) → position / 64 < length words → position % 64 + length part ≤ 64 → word_bits 64 word ≡ placed (position % 64) part (word_bits 64 (get_or words (position / 64) 0)) → packed (set words (position / 64) word) ≡ placed position part (packed words)

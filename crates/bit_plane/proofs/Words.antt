@@ -35,8 +35,8 @@ pub word_step : (bits : List Bool) (i word bit : ℕ) → 0 < i → i ≤ length
 word_step bits i word bit some within word_is bit_is =
     let e : i - 1 + 1 ≡ i = omega arith in
     let next = word_of-drop bits (i - 1) (omega arith) in
-    let behind : word_of (drop (i - 1 + 1) bits) ≡ word = ap (λ n. word_of (drop n bits)) e ∙ sym word_is in
-    omega (arith, next, behind, bit_is)
+    let following : word_of (drop (i - 1 + 1) bits) ≡ word = ap (λ n. word_of (drop n bits)) e ∙ sym word_is in
+    omega (arith, next, following, bit_is)
 
 -- a bit as a number
 pub bool_byte-is : (bit : Bool) → bool_byte bit ≡ bit_value bit

@@ -1,4 +1,5 @@
-// A plane that keeps its bits in words of 64 bits.
+// A plane that keeps its bits in words of 64, which run through all rows: a row needn't begin a word. So the bytes of a stream go in and out as
+// one run of bits, and a row that ends within a byte needs no care. Up to 64 bits of a row lie in two words at most.
 ghost use Rattle.std.specs.Prelude.{◌≡◌, ◌+◌, ◌*◌, ◌/◌, ◌^◌, ◌<◌, vec_len};
 ghost use Rattle.bit_plane.specs.inside.Packed.{IsClearFrom};
 

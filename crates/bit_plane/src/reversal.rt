@@ -1,4 +1,5 @@
-// Words with their bits in reverse order.
+// Words with their bits in reverse order. Pairs of bits are exchanged, then pairs of pairs, and so on. The kit's `reverse_bits` is a loop over
+// the bits, which stays one when it is compiled.
 ghost use Rattle.std.specs.Prelude.{◌≡◌, ℕ, ◌-◌, ◌<◌};
 ghost use Rattle.std.specs.Int.{bit_at};
 ghost use Rattle.bit_plane.specs.inside.Pairs.{ArePairs, partner};

@@ -15,8 +15,8 @@ use Rattle.boot_file.proofs.Order.{place-start, place-later, place-rises, start-
 
 -- ---- an offset and the images
 
-lies_in-behind : (images : List (List ℕ)) (options : Options) (offset index : ℕ) → end_of images options index ≤ offset → lies_in images options offset index ≡ false
-lies_in-behind images options offset index behind = rw (le-ltb offset (end_of images options index) behind) (and-false _)
+lies_in-after : (images : List (List ℕ)) (options : Options) (offset index : ℕ) → end_of images options index ≤ offset → lies_in images options offset index ≡ false
+lies_in-after images options offset index after = rw (le-ltb offset (end_of images options index) after) (and-false _)
 
 lies_in-ahead : (images : List (List ℕ)) (options : Options) (offset index : ℕ) → offset < place_of images options index → lies_in images options offset index ≡ false
 lies_in-ahead images options offset index ahead = rw (lt-leb (place_of images options index) offset ahead) refl
@@ -29,7 +29,7 @@ lies_in-within images options offset index from to =
 found-none : (images : List (List ℕ)) (options : Options) (offset index : ℕ) → start_of images options index ≤ offset → offset < place_of images options index
     → find (lies_in images options offset) (range_with_len 0 (length images)) ≡ None
 found-none images options offset index from to = find-none (lies_in images options offset) 0 (length images) (λ k within. elim (cases_lt k index) [
-  | inl less ↦ lies_in-behind images options offset (0 + k) (omega (arith, place-later images options (0 + k) index (omega arith)))
+  | inl less ↦ lies_in-after images options offset (0 + k) (omega (arith, place-later images options (0 + k) index (omega arith)))
   | inr more ↦ lies_in-ahead images options offset (0 + k) (omega (arith, place-rises images options index (0 + k) (omega arith)))
 ])
 
@@ -38,7 +38,7 @@ found-first : (images : List (List ℕ)) (options : Options) (offset index : ℕ
     → find (lies_in images options offset) (range_with_len 0 (length images)) ≡ Some index
 found-first images options offset index within from to = find-first (lies_in images options offset) 0 (length images) index index within (omega arith)
     (lies_in-within images options offset index from to)
-    (λ k below. lies_in-behind images options offset (0 + k)
+    (λ k below. lies_in-after images options offset (0 + k)
     (omega (arith, place-later images options (0 + k) index (omega arith), place-start images options index)))
 
 -- ---- the byte of an offset

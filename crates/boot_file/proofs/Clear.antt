@@ -61,12 +61,12 @@ long-enough bytes none = elim (cases_lt (length bytes) 160) [
 pub headers-clear : (bytes : List ℕ) → headers_fault bytes ≡ None → AreHeaders bytes
 unfolding headers_fault
 headers-clear bytes none =
-    let behind = or_else-other (short_fault bytes) _ none in
-    let last = or_else-other (header_fault bytes) _ behind in
+    let after = or_else-other (short_fault bytes) _ none in
+    let last = or_else-other (header_fault bytes) _ after in
     record {
       long = long-enough bytes (or_else-first (short_fault bytes) _ none);
       formed = λ offset below. passes (is_formed bytes offset)
-          (least_below-clear 160 offset (λ offset. not (is_formed bytes offset)) (none-mapped _ (unformed_offset bytes) (or_else-first (header_fault bytes) _ behind)) below);
+          (least_below-clear 160 offset (λ offset. not (is_formed bytes offset)) (none-mapped _ (unformed_offset bytes) (or_else-first (header_fault bytes) _ after)) below);
       within = λ entry below. passes (is_within bytes (entry_address bytes entry))
           (least_below-clear 4 entry (λ entry. not (is_within bytes (entry_address bytes entry))) (none-mapped _ (outside_entry bytes) (or_else-first (address_fault bytes) (power_fault bytes) last)) below);
       named = told-unless (is_named bytes (address_of bytes 0)) (PowerOn (address_of bytes 0)) (or_else-other (address_fault bytes) (power_fault bytes) last);

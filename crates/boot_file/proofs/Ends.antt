@@ -15,8 +15,8 @@ module _ (bytes : List ℕ) (address : ℕ) where
   ends offset = nat_lt address offset && is_named bytes offset
 
   -- such an offset is after the address
-  ends-behind : (offset : ℕ) → ends offset ≡ true → address < offset
-  ends-behind offset passes = ltb-true address offset (first_true (nat_lt address offset) (is_named bytes offset) passes)
+  ends-after : (offset : ℕ) → ends offset ≡ true → address < offset
+  ends-after offset passes = ltb-true address offset (first_true (nat_lt address offset) (is_named bytes offset) passes)
 
   -- and the address of an entry
   ends-entry : (offset : ℕ) → ends offset ≡ true → (entry : ℕ) × (entry < 4) × (entry_address bytes entry ≡ offset)
@@ -26,9 +26,9 @@ module _ (bytes : List ℕ) (address : ℕ) where
 
   -- the address of an entry after it is such an offset
   ends-at : (entry offset : ℕ) → entry < 4 → offset ≡ entry_address bytes entry → address < offset → ends offset ≡ true
-  ends-at entry offset within is behind =
+  ends-at entry offset within is after =
       let named : is_named bytes offset ≡ true = any_below-at 4 entry (λ k. entry_address bytes k == offset) within (eq-eqb (entry_address bytes entry) offset (sym is)) in
-      rw (lt-ltb address offset behind, named) refl
+      rw (lt-ltb address offset after, named) refl
 
   -- the least of the addresses after this one that the first entries name, and of the length
   pub record IsEnd (count end : ℕ) : Type 0 where
@@ -42,9 +42,9 @@ module _ (bytes : List ℕ) (address : ℕ) where
 
   -- an entry that ends the part earlier
   pub end-nearer : (count end other : ℕ) → count < 4 → other ≡ entry_address bytes count → address < other → other < end → IsEnd count end → IsEnd (count + 1) other
-  end-nearer count end other few is behind before so_far = record {
+  end-nearer count end other few is after before so_far = record {
     within = omega (arith, so_far.within);
-    named = λ below. ends-at count other few is behind;
+    named = λ below. ends-at count other few is after;
     least = λ entry below above. elim (cases_lt entry count) [
       | inl less ↦ omega (arith, so_far.least entry less above)
       | inr more ↦ let same : entry ≡ count = omega arith in omega (arith, ap (entry_address bytes) same)
@@ -71,7 +71,7 @@ module _ (bytes : List ℕ) (address : ℕ) where
     | inr fails ↦ fails
     | inl passes ↦
         let entry = ends-entry offset passes in
-        absurd (omega (arith, is.least entry.0 entry.1 (omega (arith, entry.2, ends-behind offset passes)), entry.2))
+        absurd (omega (arith, is.least entry.0 entry.1 (omega (arith, entry.2, ends-after offset passes)), entry.2))
   ]
 
   -- that is where the part ends
@@ -89,23 +89,23 @@ module _ (bytes : List ℕ) (address : ℕ) where
   bounds None is inside = (inside, omega arith)
   bounds (Some end) is inside =
       let least = least_below-place (length bytes) ends end is in
-      (ends-behind end least.passes, omega (arith, least.within))
+      (ends-after end least.passes, omega (arith, least.within))
 
   -- after its address, and within the file
   pub part_end-bounds : address < length bytes → (address < part_end bytes address) × (part_end bytes address ≤ length bytes)
   unfolding part_end
   part_end-bounds inside = bounds (least_below (length bytes) ends) refl inside
 
-  behind-all : (found : Option ℕ) (limit : ℕ) → least_below (length bytes) ends ≡ found → limit ≤ length bytes
+  after-all : (found : Option ℕ) (limit : ℕ) → least_below (length bytes) ends ≡ found → limit ≤ length bytes
       → ((entry : ℕ) → entry < 4 → address < entry_address bytes entry → limit ≤ entry_address bytes entry) → limit ≤ unwrap_or found (length bytes)
-  behind-all None limit is inside beyond = inside
-  behind-all (Some end) limit is inside beyond =
+  after-all None limit is inside beyond = inside
+  after-all (Some end) limit is inside beyond =
       let passes = (least_below-place (length bytes) ends end is).passes in
       let entry = ends-entry end passes in
-      omega (arith, entry.2, beyond entry.0 entry.1 (omega (arith, entry.2, ends-behind end passes)))
+      omega (arith, entry.2, beyond entry.0 entry.1 (omega (arith, entry.2, ends-after end passes)))
 
   -- not before an offset before which no entry names a greater address
   pub part_end-beyond : (limit : ℕ) → limit ≤ length bytes → ((entry : ℕ) → entry < 4 → address < entry_address bytes entry → limit ≤ entry_address bytes entry)
       → limit ≤ part_end bytes address
   unfolding part_end
-  part_end-beyond limit inside beyond = behind-all (least_below (length bytes) ends) limit refl inside beyond
+  part_end-beyond limit inside beyond = after-all (least_below (length bytes) ends) limit refl inside beyond

@@ -174,11 +174,11 @@ module _ (images : List (List ℕ)) (options : Options) (may : MayJoin images op
         omega (arith, file-length, ap (end_of images options) last)
   ]
 
-  pub place-behind : (index : ℕ) → 160 ≤ place index
-  place-behind index = omega (arith, start-first images options index, place-start images options index)
+  pub place-after : (index : ℕ) → 160 ≤ place index
+  place-after index = omega (arith, start-first images options index, place-start images options index)
 
   pub file-long : 160 ≤ length file
-  file-long = omega (arith, end-within 0 may.some, place-behind 0)
+  file-long = omega (arith, end-within 0 may.some, place-after 0)
 
   file-header : (offset : ℕ) → offset < 160 → byte_at file offset ≡ header_byte count place options offset
   file-header offset below =
@@ -222,12 +222,12 @@ module _ (images : List (List ℕ)) (options : Options) (may : MayJoin images op
   image-taken index below =
       let image = image_at images index in
       let size = length image in
-      let behind = drop (place index) file in
-      let room : size ≤ length behind = omega (arith, length-drop (place index) file, end-within index below) in
+      let after = drop (place index) file in
+      let room : size ≤ length after = omega (arith, length-drop (place index) file, end-within index below) in
       let byte = λ (k : ℕ). get_or image k 0 in
-      fill_by_all byte (take size behind) size 0 (length-take-le size behind room)
+      fill_by_all byte (take size after) size 0 (length-take-le size after room)
       (λ k inside.
-      get_or-take size behind k 0 inside ∙ get_or-drop (place index) file k 0
+      get_or-take size after k 0 inside ∙ get_or-drop (place index) file k 0
       ∙ file-byte (place index + k) (omega (arith, file-length, end-within index below))
       ∙ image-byte index k below inside)
       ∙ sym (fill_by_all byte image size 0 refl (λ k inside. refl))

@@ -25,7 +25,7 @@ use Rattle.boot_file.specs.Parts.{first_named, image_addresses, image_index, is_
 use Rattle.boot_file.specs.Meaning.{Means, PlacedImage}
 use Rattle.boot_file.specs.Joined.{JoinedMeans, joined_boot, placed}
 use Rattle.boot_file.proofs.Ends.{part_end-beyond}
-use Rattle.boot_file.proofs.JoinedBytes.{MayJoin, may_join, end-within, file-address, file-cold, file-formed, file-long, image-drop, place-behind}
+use Rattle.boot_file.proofs.JoinedBytes.{MayJoin, may_join, end-within, file-address, file-cold, file-formed, file-long, image-drop, place-after}
 
 -- ---- bitstreams
 
@@ -255,7 +255,7 @@ module _ (images : List (List ℕ)) (options : Options) (spelled : List Configur
       let inside = booted-within entry in
       ap (is_within file) (entry-is entry below)
       ∙ rw (
-        le-leb 160 (place index) (place-behind images options may index),
+        le-leb 160 (place index) (place-after images options may index),
         lt-ltb (place index) (length file) (omega (arith, end-within images options may index inside, image-some index inside)),
       ) refl
 

@@ -70,9 +70,9 @@ unfolding place_of boot_byte
 addresses_low = refl
 
 -- after the headers the first image, FF up to the second one, and the second
-behind_headers : drop 160 (boot_file two options) ≡ 1 ∷ 2 ∷ 3 ∷ replicate 93 0xFF ++ 4 ∷ []
+after_headers : drop 160 (boot_file two options) ≡ 1 ∷ 2 ∷ 3 ∷ replicate 93 0xFF ++ 4 ∷ []
 unfolding place_of boot_byte boot_file
-behind_headers = refl
+after_headers = refl
 
 -- ---- refusals
 

@@ -26,7 +26,7 @@ pub(crate) fn part_end(bytes: &[u8], address: u32) -> usize
     requires headers { 160 ≤ length bytes.now }
     requires within { address < length bytes.now }
     ensures is { result ≡ part_end bytes.now address }
-    ensures behind { address < result }
+    ensures after { address < result }
     ensures inside { result ≤ length bytes.now }
 {
     let mut end = bytes.len();

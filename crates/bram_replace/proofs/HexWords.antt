@@ -10,7 +10,7 @@ use Rattle.std.proofs.lemmas.Grind.{flat_map-append}
 use Rattle.std.proofs.lemmas.List.Sums.{take_while-cons}
 use Rattle.std.specs.Option.{option_map_or}
 use Rattle.hex.specs.Hex.{is_hex_digit, hex_digit_value}
-use Rattle.text_lines.specs.Words.{first_word, behind_word, from_word, is_separator}
+use Rattle.text_lines.specs.Words.{first_word, after_word, from_word, is_separator}
 use Rattle.text_lines.proofs.Spaced.{length-from_word}
 use Rattle.text_lines.specs.declared.words.Separators.TheVariants.{Whitespace}
 use Rattle.bram_replace.specs.declared.fault.HexFault.{HexFault}
@@ -261,7 +261,7 @@ take_while-few test (byte ∷ bytes) =
     ])
 
 -- a word and the text after it are no longer than the line
-pub word-room : (line word after : List ℕ) → word ≡ first_word Whitespace line → after ≡ behind_word Whitespace line → length word + length after ≤ length line
+pub word-room : (line word after : List ℕ) → word ≡ first_word Whitespace line → after ≡ after_word Whitespace line → length word + length after ≤ length line
 word-room line word after is rest =
     let start = from_word Whitespace line in
     omega (arith, ap length is, ap length rest, length-drop (length (first_word Whitespace line)) start, take_while-few (λ byte. not (is_separator Whitespace byte)) start, length-from_word Whitespace line)

@@ -7,7 +7,7 @@ use Rattle.index_search.specs.Places.{first_below, or_else}
 use Rattle.index_search.proofs.Places.{first_below-sum}
 use Rattle.index_search.proofs.Found.{or_else-first}
 use Rattle.text_lines.specs.Lines.{lines_of, line_at, trimmed}
-use Rattle.text_lines.specs.Words.{behind_word, first_word, numbers_of, words_of}
+use Rattle.text_lines.specs.Words.{after_word, first_word, numbers_of, words_of}
 use Rattle.text_lines.specs.declared.words.Separators.TheVariants.{Spaces}
 use Rattle.plane_map.specs.Layout.{kind_of, columns_in, IsTileBit}
 use Rattle.plane_map.proofs.Words.{upper-tile}
@@ -30,12 +30,12 @@ use Rattle.asc_text.proofs.RamLines.{fine, ram_line-from}
 -- ---- the numbers of the statement
 
 -- the statement of a RAM's contents by the text after its first word
-pub ram-spelled : (line : List ℕ) → is_ram_data (statement_in line) ≡ true → statement_in line ≡ ram_data_of_numbers (numbers_of (words_of Spaces (behind_word Spaces (trimmed line))))
+pub ram-spelled : (line : List ℕ) → is_ram_data (statement_in line) ≡ true → statement_in line ≡ ram_data_of_numbers (numbers_of (words_of Spaces (after_word Spaces (trimmed line))))
 unfolding statement_in
 ram-spelled line is =
     let parts = and_parts (begins_with_dot line) (bytes_eq (first_word Spaces (trimmed line)) ram_data_keyword) (ram_line-from line is) in
     let word = (bytes_eq-Decides (first_word Spaces (trimmed line)) ram_data_keyword).0 parts.1 in
-    rw parts.0 (ap (λ w. spelled w (behind_word Spaces (trimmed line))) word)
+    rw parts.0 (ap (λ w. spelled w (after_word Spaces (trimmed line))) word)
 
 -- it has a first word
 pub ram-word : (line : List ℕ) → is_ram_data (statement_in line) ≡ true → first_word Spaces (trimmed line) ≢ []
@@ -55,7 +55,7 @@ two-numbers (Some (x ∷ y ∷ z ∷ rest)) is = absurd (false≢true is)
 pub ram-numbers : (line : List ℕ) → is_ram_data (statement_in line) ≡ true → (x : ℕ) × (y : ℕ) × (statement_in line ≡ ram_data_of_numbers (Some (x ∷ y ∷ [])))
 ram-numbers line is =
     let spelled_so = ram-spelled line is in
-    let numbers = numbers_of (words_of Spaces (behind_word Spaces (trimmed line))) in
+    let numbers = numbers_of (words_of Spaces (after_word Spaces (trimmed line))) in
     let found = two-numbers numbers (subst (λ s. is_ram_data s ≡ true) spelled_so is) in
     (found.0, found.1, spelled_so ∙ ap ram_data_of_numbers found.2)
 

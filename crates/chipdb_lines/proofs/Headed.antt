@@ -24,13 +24,13 @@ unfolding link_of_words
 link-numbers chip first second third [] x y dst one two three some = absurd (true≢false some)
 link-numbers chip first second third (bit ∷ bits) x y dst one two three some = rw (numbers_of-three first second third x y dst one two three) refl
 
-pub link-usual : (chip : Chip) (words behind second bits : List ℕ) (x y dst : ℕ) → StartsWithNumber 32 words x behind → StartsWithNumber 32 behind y second → StartsWithNumber 32 second dst bits
+pub link-usual : (chip : Chip) (words after second bits : List ℕ) (x y dst : ℕ) → StartsWithNumber 32 words x after → StartsWithNumber 32 after y second → StartsWithNumber 32 second dst bits
     → has_none (words_in bits) ≡ false → link_of_words chip (words_in words) ≡ link_at chip.nets x y dst (kind_of chip.device x y) (words_in bits)
-link-usual chip words behind second bits x y dst one two three some =
+link-usual chip words after second bits x y dst one two three some =
     let parted : words_in words ≡ one.digits ∷ two.digits ∷ three.digits ∷ words_in bits =
-    number-before words behind x one ∙ ap (λ ws. one.digits ∷ ws) (number-before behind second y two ∙ ap (λ ws. two.digits ∷ ws) (number-before second bits dst three)) in
+    number-before words after x one ∙ ap (λ ws. one.digits ∷ ws) (number-before after second y two ∙ ap (λ ws. two.digits ∷ ws) (number-before second bits dst three)) in
     ap (link_of_words chip) parted ∙ link-numbers chip one.digits two.digits three.digits (words_in bits) x y dst one.number_is two.number_is three.number_is some
 
 -- a space before the words
-pub words-behind_space : (words : List ℕ) → words_in (32 ∷ words) ≡ words_in words
-words-behind_space words = words_of-separator SpacesAndTabs 32 words (space-parts SpacesAndTabs)
+pub words-after_space : (words : List ℕ) → words_in (32 ∷ words) ≡ words_in words
+words-after_space words = words_of-separator SpacesAndTabs 32 words (space-parts SpacesAndTabs)

@@ -42,8 +42,8 @@ bit-without_bracket inside row none =
     elim (cases_lt (position_or_len is_bracket inside) (length inside)) [
       | inl lt ↦ let chosen : position is_bracket inside ≡ Some (position_or_len is_bracket inside) = rw (lt-ltb (position_or_len is_bracket inside) (length inside) lt) refl in absurd cc
       | inr le ↦
-          let behind : after_first is_bracket inside ≡ [] = drop_of_length-le inside (omega arith) in
-          rw behind (bit-without_column row)
+          let after : after_first is_bracket inside ≡ [] = drop_of_length-le inside (omega arith) in
+          rw after (bit-without_column row)
     ]
 
 -- a statement without a word

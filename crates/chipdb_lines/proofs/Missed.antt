@@ -44,8 +44,8 @@ choice-space : (nets count : ℕ) (text : List ℕ) → HasChoice nets count tex
 choice-space nets count text has =
     let count_is : length has.values ≡ count = (choice-words nets count has.values has.src has.choice has.says).count_is in
     let some : 0 < length has.values = has.some in
-    let behind = 32 ∷ (has.src ++ (10 ∷ has.rest)) in
-    let size : length text ≡ length has.values + length behind = ap length has.text_is ∙ length-append has.values behind in
+    let after = 32 ∷ (has.src ++ (10 ∷ has.rest)) in
+    let size : length text ≡ length has.values + length after = ap length has.text_is ∙ length-append has.values after in
     (omega arith, omega arith, (λ i. get_or (has.text_is i) (sym count_is i) 0) ∙ get_or-append_seam has.values 32 (has.src ++ (10 ∷ has.rest)) 0)
 
 -- a text without that space begins with none
@@ -68,15 +68,15 @@ pub record HasNet (nets : ℕ) (values text : List ℕ) : Type 0 where
 same-front : (xs ys a b : List ℕ) → length xs ≡ length ys → xs ++ a ≡ ys ++ b → xs ≡ ys
 same-front xs ys a b count same = sym (take-append_seam xs a) ∙ (λ i. take (count i) (same i)) ∙ take-append_seam ys b
 
-same-behind : (xs ys a b : List ℕ) → length xs ≡ length ys → xs ++ a ≡ ys ++ b → a ≡ b
-same-behind xs ys a b count same = sym (drop-append_seam xs a) ∙ (λ i. drop (count i) (same i)) ∙ drop-append_seam ys b
+same-after : (xs ys a b : List ℕ) → length xs ≡ length ys → xs ++ a ≡ ys ++ b → a ≡ b
+same-after xs ys a b count same = sym (drop-append_seam xs a) ∙ (λ i. drop (count i) (same i)) ∙ drop-append_seam ys b
 
 pub choice-net : (nets : ℕ) (values text : List ℕ) → HasChoice nets (length values) (values ++ (32 ∷ text)) → HasNet nets values text
 choice-net nets values text has =
     let words = choice-words nets (length values) has.values has.src has.choice has.says in
-    let behind = has.src ++ (10 ∷ has.rest) in
-    let front : values ≡ has.values = same-front values has.values (32 ∷ text) (32 ∷ behind) (sym words.count_is) has.text_is in
-    let rest : text ≡ behind = ap (drop 1) (same-behind values has.values (32 ∷ text) (32 ∷ behind) (sym words.count_is) has.text_is) in
+    let after = has.src ++ (10 ∷ has.rest) in
+    let front : values ≡ has.values = same-front values has.values (32 ∷ text) (32 ∷ after) (sym words.count_is) has.text_is in
+    let rest : text ≡ after = ap (drop 1) (same-after values has.values (32 ∷ text) (32 ∷ after) (sym words.count_is) has.text_is) in
     record {
       number = words.number;
       rest = has.rest;

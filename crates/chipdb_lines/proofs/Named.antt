@@ -22,9 +22,9 @@ unblank-word name is =
     record { some = ltb-true 0 (length name) parts.0; free = λ k d lt. not-true (is_blank (get_or name k d)) (list_all-at (λ byte. not (is_blank byte)) name k d parts.1 lt) }
 
 -- three words
-pub name-words : (words behind name : List ℕ) (x y : ℕ) (one : StartsWithNumber 32 words x behind) (two : StartsWithNumber 32 behind y name) → (nat_lt 0 (length name) && list_all (λ byte. not (is_blank byte)) name) ≡ true
+pub name-words : (words after name : List ℕ) (x y : ℕ) (one : StartsWithNumber 32 words x after) (two : StartsWithNumber 32 after y name) → (nat_lt 0 (length name) && list_all (λ byte. not (is_blank byte)) name) ≡ true
     → words_in words ≡ one.digits ∷ two.digits ∷ name ∷ []
-name-words words behind name x y one two is =
+name-words words after name x y one two is =
     ap words_in (one.text_is ∙ ap (λ more. one.digits ++ (32 ∷ more)) two.text_is)
     ∙ words_of-three SpacesAndTabs one.digits two.digits name (number-word one.digits x one.number_is) (number-word two.digits y two.number_is) (unblank-word name is)
 
@@ -34,8 +34,8 @@ name-of_three : (device : DeviceName) (net x y : ℕ) (first second name : List 
 unfolding name_of
 name-of_three device net x y first second name one two inside = rw (numbers_of-two first second x y one two, inside) refl
 
-pub name-of_words : (device : DeviceName) (net : ℕ) (words behind name : List ℕ) (x y : ℕ) → StartsWithNumber 32 words x behind → StartsWithNumber 32 behind y name
+pub name-of_words : (device : DeviceName) (net : ℕ) (words after name : List ℕ) (x y : ℕ) → StartsWithNumber 32 words x after → StartsWithNumber 32 after y name
     → (nat_lt x (grid_width device) && nat_lt y (grid_height device)) ≡ true → (nat_lt 0 (length name) && list_all (λ byte. not (is_blank byte)) name) ≡ true
     → name_of device net (words_in words) ≡ Ok (record { net = net; x = x; y = y; name = name })
-name-of_words device net words behind name x y one two inside is =
-    ap (name_of device net) (name-words words behind name x y one two is) ∙ name-of_three device net x y one.digits two.digits name one.number_is two.number_is inside
+name-of_words device net words after name x y one two inside is =
+    ap (name_of device net) (name-words words after name x y one two is) ∙ name-of_three device net x y one.digits two.digits name one.number_is two.number_is inside

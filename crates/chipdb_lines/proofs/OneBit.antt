@@ -89,11 +89,11 @@ words-ended word (byte ∷ rest) is ends =
     ∙ ap (λ ws. word ∷ ws) (sym (words_of-separator SpacesAndTabs 32 rest (space-parts SpacesAndTabs)) ∙ ap (λ b. words_in (b ∷ rest)) (sym space))
 
 -- a bit's word at the front of a text
-pub bit-usual : (behind second rest : List ℕ) (row col : ℕ) → StartsWithNumber 91 behind row second → StartsWithNumber 93 second col rest → (get_or rest 0 32 == 32) ≡ true
-    → StartsWithWord (words_in (66 ∷ behind)) (Some (row, col)) (words_in rest)
-bit-usual behind second rest row col one two ends =
+pub bit-usual : (after second rest : List ℕ) (row col : ℕ) → StartsWithNumber 91 after row second → StartsWithNumber 93 second col rest → (get_or rest 0 32 == 32) ≡ true
+    → StartsWithWord (words_in (66 ∷ after)) (Some (row, col)) (words_in rest)
+bit-usual after second rest row col one two ends =
     let body : List ℕ = one.digits ++ (91 ∷ two.digits) in
-    let text : 66 ∷ behind ≡ word_of body ++ rest =
+    let text : 66 ∷ after ≡ word_of body ++ rest =
     ap (λ t. 66 ∷ t) (one.text_is ∙ ap (λ t. one.digits ++ (91 ∷ t)) two.text_is ∙ sym (append_assoc one.digits (91 ∷ two.digits) (93 ∷ rest)) ∙ sym (append_assoc body (93 ∷ []) rest)) in
     record {
       word = word_of body;

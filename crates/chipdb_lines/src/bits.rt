@@ -208,13 +208,13 @@ fn usual_bit(words: &[u8]) -> Option<NextBit<'_>>
     ensures shorter { IfSome result (λ next. length next.rest.now < length words.now) }
 {
     match words {
-        [b' ', behind @ ..] => bit_behind_space(behind),
+        [b' ', after @ ..] => bit_after_space(after),
         _ => bit_in_front(words),
     }
 }
 
 /// The fast path after the space before the word.
-fn bit_behind_space(words: &[u8]) -> Option<NextBit<'_>>
+fn bit_after_space(words: &[u8]) -> Option<NextBit<'_>>
     ensures words { IfSome result (λ next. StartsWithWord (words_in (32 ∷ words.now)) next.bit (words_in next.rest.now)) }
     ensures shorter { IfSome result (λ next. length next.rest.now < length words.now) }
 {
@@ -227,18 +227,18 @@ fn bit_in_front(words: &[u8]) -> Option<NextBit<'_>>
     ensures shorter { IfSome result (λ next. length next.rest.now < length words.now) }
 {
     match words {
-        [b'B', behind @ ..] => bit_behind(behind),
+        [b'B', after @ ..] => bit_after(after),
         _ => None,
     }
 }
 
 /// The fast path after the `B` of the word.
-fn bit_behind(words: &[u8]) -> Option<NextBit<'_>>
+fn bit_after(words: &[u8]) -> Option<NextBit<'_>>
     ensures words { IfSome result (λ next. StartsWithWord (words_in (66 ∷ words.now)) next.bit (words_in next.rest.now)) }
     ensures shorter { IfSome result (λ next. length next.rest.now < length words.now) }
 {
-    let (row, behind) = number_before(b'[', words)?;
-    let (col, rest) = number_before(b']', behind)?;
+    let (row, after) = number_before(b'[', words)?;
+    let (col, rest) = number_before(b']', after)?;
     if ends_word(rest) {
         Some(NextBit {
             bit: Some((row, col)),

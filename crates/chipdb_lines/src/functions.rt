@@ -44,7 +44,7 @@ pub fn function_item<'a>(
 {
     match split_word(Separators::SpacesAndTabs, words) {
         None => Err(DbLineRefusal::Cause(DbCause::Number)),
-        Some((name, behind)) => named_function(kind, name, behind, bits),
+        Some((name, after)) => named_function(kind, name, after, bits),
     }
 }
 
@@ -107,7 +107,7 @@ pub fn extra_item(device: DeviceName, words: &[u8]) -> Result<ExtraItem<'_>, DbC
 {
     match split_word(Separators::SpacesAndTabs, words) {
         None => Err(DbCause::Number),
-        Some((name, behind)) => match three_numbers(Separators::SpacesAndTabs, behind) {
+        Some((name, after)) => match three_numbers(Separators::SpacesAndTabs, after) {
             None => Err(DbCause::Number),
             Some((bank, x, y)) if is_in_planes(device, bank, x, y) => Ok(ExtraItem {
                 name,

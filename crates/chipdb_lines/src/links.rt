@@ -1,4 +1,5 @@
-// The statements `.buffer` and `.routing`, and their lines.
+// The statements `.buffer` and `.routing`, and their lines. A line in its usual form, the values, a space, a number and LF, is taken straight
+// from the text (`choice_line`). That is there for speed alone: the clauses of `read` would hold without it.
 ghost use Rattle.std.specs.Prelude.{◌≡◌, ◌≤◌, ◌<◌, ◌-◌, ◌^◌, ◌∷◌, ◌++◌, ◌==◌, ◌&&◌, ◌||◌, get_or, length, nat_lt, IfOk, IfSome, MatchOption, OnErr, false};
 ghost use Rattle.std.specs.Bool.{OnTrue};
 ghost use Rattle.std.specs.List.{list_all};
@@ -67,19 +68,19 @@ fn usual_head(words: &[u8]) -> Option<UsualHead<'_>>
         → link_of_words chip (words_in words.now) ≡ link_at chip.nets head.x head.y head.dst (kind_of chip.device head.x head.y) (words_in head.bits.now)) }
 {
     match words {
-        [b' ', behind @ ..] => head_behind_space(behind),
+        [b' ', after @ ..] => head_after_space(after),
         _ => None,
     }
 }
 
 /// The fast path after the first space.
-fn head_behind_space(words: &[u8]) -> Option<UsualHead<'_>>
+fn head_after_space(words: &[u8]) -> Option<UsualHead<'_>>
     ensures { IfSome result (λ head. (chip : Chip)
         → link_of_words chip (words_in (32 ∷ words.now)) ≡ link_at chip.nets head.x head.y head.dst (kind_of chip.device head.x head.y) (words_in head.bits.now)) }
 {
-    let (x, behind) = number_before(b' ', words)?;
-    let (y, behind) = number_before(b' ', behind)?;
-    let (dst, bits) = number_before(b' ', behind)?;
+    let (x, after) = number_before(b' ', words)?;
+    let (y, after) = number_before(b' ', after)?;
+    let (dst, bits) = number_before(b' ', after)?;
     if has_no_word(bits) {
         None
     } else {
@@ -121,9 +122,9 @@ fn head_words(words: &[u8]) -> Option<HeadWords<'_>>
         (λ head. (words_in words.now ≡ head.x.now ∷ head.y.now ∷ head.dst.now ∷ words_in head.bits.now)
         × (has_none (words_in head.bits.now) ≡ false)) }
 {
-    let (x, behind) = split_word(Separators::SpacesAndTabs, words)?;
-    let (y, behind) = split_word(Separators::SpacesAndTabs, behind)?;
-    let (dst, bits) = split_word(Separators::SpacesAndTabs, behind)?;
+    let (x, after) = split_word(Separators::SpacesAndTabs, words)?;
+    let (y, after) = split_word(Separators::SpacesAndTabs, after)?;
+    let (dst, bits) = split_word(Separators::SpacesAndTabs, after)?;
     if has_no_word(bits) {
         None
     } else {
@@ -175,7 +176,7 @@ pub fn choice_item(nets: u32, count: usize, words: &[u8]) -> Result<Choice, DbCa
 {
     match split_word(Separators::SpacesAndTabs, words) {
         None => Err(DbCause::Number),
-        Some((values, behind)) => match one_word(Separators::SpacesAndTabs, behind) {
+        Some((values, after)) => match one_word(Separators::SpacesAndTabs, after) {
             None => Err(DbCause::Number),
             Some(src) => choice_by(nets, count, values, number(src)),
         },
@@ -196,15 +197,15 @@ pub fn choice_line(nets: u32, count: usize, text: &[u8]) -> Option<ChoiceLine<'_
     requires { count ≤ 64 }
     ensures { MatchOption result (HasChoice nets count text.now → ⊥) (IsChoiceLine nets count text.now) }
 {
-    if has_space_behind(count, text) {
-        behind_values(nets, &text[..count], &text[count + 1..])
+    if has_space_after(count, text) {
+        after_values(nets, &text[..count], &text[count + 1..])
     } else {
         None
     }
 }
 
 /// Whether there is a space after the first `count` bytes, and `count` isn't 0.
-fn has_space_behind(count: usize, text: &[u8]) -> bool
+fn has_space_after(count: usize, text: &[u8]) -> bool
     ensures is { result ≡ (nat_lt 0 count && nat_lt count (length text.now) && (get_or text.now count 0 == 32)) }
     ensures inside { OnTrue result ((0 < count) × (count < length text.now) × (get_or text.now count 0 ≡ 32)) }
 {
@@ -212,7 +213,7 @@ fn has_space_behind(count: usize, text: &[u8]) -> bool
 }
 
 /// The fast path after the values and the space.
-fn behind_values<'a>(nets: u32, values: &[u8], text: &'a [u8]) -> Option<ChoiceLine<'a>>
+fn after_values<'a>(nets: u32, values: &[u8], text: &'a [u8]) -> Option<ChoiceLine<'a>>
     requires some { 0 < length values.now }
     requires few { length values.now ≤ 64 }
     ensures { MatchOption result (HasChoice nets (length values.now) (values.now ++ (32 ∷ text.now)) → ⊥)

@@ -1,4 +1,4 @@
-// Lines of the statement `.net`.
+// Lines of the statement `.net`. A line in its usual form is taken straight from the text (`usual_name`). That is there for speed alone.
 ghost use Rattle.std.specs.Prelude.{◌≡◌, ◌∷◌, ℕ, ◌&&◌, not, nat_lt, length, IfSome, Ok};
 ghost use Rattle.std.specs.List.{list_all};
 ghost use Rattle.text_lines.specs.Lines.{is_blank};
@@ -37,8 +37,8 @@ pub fn name_item(device: DeviceName, words: &[u8]) -> Result<NameItem<'_>, DbCau
 fn usual_name(device: DeviceName, words: &[u8]) -> Option<NameItem<'_>>
     ensures { IfSome result (λ item. (net : ℕ) → name_of device net (words_in words.now) ≡ Ok (name_named net item)) }
 {
-    let (x, behind) = number_before(b' ', words)?;
-    let (y, name) = number_before(b' ', behind)?;
+    let (x, after) = number_before(b' ', words)?;
+    let (y, name) = number_before(b' ', after)?;
     if is_in_grid(device, x, y) && is_one_word(name) {
         Some(NameItem {
             x: x as u8,
@@ -71,7 +71,7 @@ fn spaced_name(device: DeviceName, words: &[u8]) -> Result<NameItem<'_>, DbCause
 {
     match split_word(Separators::SpacesAndTabs, words) {
         None => Err(DbCause::Number),
-        Some((x, behind)) => name_in_column(device, x, behind),
+        Some((x, after)) => name_in_column(device, x, after),
     }
 }
 
@@ -86,7 +86,7 @@ fn name_in_column<'a>(
 {
     match split_word(Separators::SpacesAndTabs, words) {
         None => Err(DbCause::Number),
-        Some((y, behind)) => name_at(device, x, y, behind),
+        Some((y, after)) => name_at(device, x, y, after),
     }
 }
 

@@ -27,7 +27,7 @@ pub(crate) fn extra_cell(words: &[u8]) -> Below
 {
     match split_word(Separators::SpacesAndTabs, words) {
         None => Below::Passed,
-        Some((x, behind)) => cell_in_column(x, behind),
+        Some((x, after)) => cell_in_column(x, after),
     }
 }
 
@@ -39,7 +39,7 @@ fn cell_in_column(x: &[u8], words: &[u8]) -> Below
 {
     match split_word(Separators::SpacesAndTabs, words) {
         None => Below::Passed,
-        Some((y, behind)) => cell_at(x, y, behind),
+        Some((y, after)) => cell_at(x, y, after),
     }
 }
 
@@ -90,7 +90,7 @@ pub fn pll_item(words: &[u8]) -> Option<PllItem<'_>>
 {
     match split_word(Separators::SpacesAndTabs, words) {
         None => None,
-        Some((name, behind)) => item_named(name, behind),
+        Some((name, after)) => item_named(name, after),
     }
 }
 
@@ -102,7 +102,7 @@ fn item_named<'a>(name: &'a [u8], words: &'a [u8]) -> Option<PllItem<'a>>
 {
     match split_word(Separators::SpacesAndTabs, words) {
         None => None,
-        Some((x, behind)) => item_in_column(name, x, behind),
+        Some((x, after)) => item_in_column(name, x, after),
     }
 }
 
@@ -114,7 +114,7 @@ fn item_in_column<'a>(name: &'a [u8], x: &[u8], words: &'a [u8]) -> Option<PllIt
 {
     match split_word(Separators::SpacesAndTabs, words) {
         None => None,
-        Some((y, behind)) => item_at(name, x, y, behind),
+        Some((y, after)) => item_at(name, x, y, after),
     }
 }
 

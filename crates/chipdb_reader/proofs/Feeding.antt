@@ -58,12 +58,12 @@ Going-told text left old now (Memory e) going told = λ setting before more has.
 Going-told text left old now (At number cause) going told = λ setting before more has.
     let first = told.1 in
     let lines = going.lines in
-    let behind = first.line ∷ lines_of first.rest in
+    let following = first.line ∷ lines_of first.rest in
     let at = going.taken setting before has in
     let parts : before ++ lines_of text ++ more ≡ (before ++ lines) ++ (first.line ∷ (lines_of first.rest ++ more)) =
     ap (λ ls. before ++ ls ++ more) (going.parts ∙ ap (λ ls. lines ++ ls) first.lines)
-    ∙ ap (λ ls. ls ++ more) (sym (append_assoc before lines behind))
-    ∙ append_assoc (before ++ lines) behind more in
+    ∙ ap (λ ls. ls ++ more) (sym (append_assoc before lines following))
+    ∙ append_assoc (before ++ lines) following more in
     let count : number ≡ length (before ++ lines) + 1 = told.0 ∙ ap (λ k. k + 1) at.count_is in
     subst (λ (ls : List (List ℕ)). Tells (fault_of_lines ls) (At number cause)) (sym parts)
     (HasRead-told (before ++ lines) (lines_of first.rest ++ more) first.line now.reader (At number cause) at.read (count, first.refused))

@@ -21,7 +21,7 @@ use Rattle.chipdb_lines.specs.Statements.{Block, LinkHead, passed, of_device, gl
 use Rattle.chipdb_lines.specs.Items.{NameLine, LinkChoice}
 use Rattle.chipdb_reader.specs.Blocks.{block_by as block_at_place, block_over, chip_before, chip_in, own_words_at, statement_at, statement_over}
 use Rattle.chipdb_reader.specs.Database.{begun_at, is_pll_before, pll_tile_at, tile_in, Said, nothing, item, said_at, said_by, said_for, buffers_at, buffers_in, database_of, is_chosen_before, is_same_choice, link_of, new_choices, routings_at, routings_in}
-use Rattle.chipdb_reader.specs.Fit.{IsPlacedPll, IsExtraLine, IsFit, IsFunctionLine, IsGlobalInput, IsGlobalPin, IsLink, IsNameLine}
+use Rattle.chipdb_reader.specs.Fit.{IsExtraLine, IsFit, IsFunctionLine, IsGlobalInput, IsGlobalPin, IsLink, IsNameLine}
 use Rattle.chipdb_reader.proofs.Holds.{buffers_at-nothing, routings_at-nothing}
 use Rattle.chipdb_reader.proofs.FewDigits.{FewIf, number-few}
 use Rattle.chipdb_reader.proofs.PllsApart.{plls-apart, plls-all}

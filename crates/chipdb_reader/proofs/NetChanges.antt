@@ -29,14 +29,14 @@ abbrev EndsBy : ℕ → ℕ × Span → Type 0
 EndsBy place entry = entry.1.start + entry.1.count ≤ place
 
 -- the last net has none of the names that are there
-nothing-behind : (names : List NetName) (start : ℕ) → start ≡ length names → drop start names ≡ []
-nothing-behind names start is = drop_of_length-le names (omega (arith, is))
+nothing-after : (names : List NetName) (start : ℕ) → start ≡ length names → drop start names ≡ []
+nothing-after names start is = drop_of_length-le names (omega (arith, is))
 
 -- ---- a net is begun
 
 begun-names : (old new : Nets) (net : ℕ) → IsNetIndex old → old.last ≡ None → new.earlier ≡ old.earlier → new.last ≡ Some net → new.names ≡ old.names → new.start ≡ old.start → net_names new ≡ net_names old
 begun-names old new net indexed none earlier last names start =
-    let empty : drop old.start old.names.items ≡ [] = nothing-behind old.names.items old.start (indexed.idle none) in
+    let empty : drop old.start old.names.items ≡ [] = nothing-after old.names.items old.start (indexed.idle none) in
     let left : net_names new ≡ earlier_of old ++ [] =
     (λ i. flat_map (entry_names (names i).items) (earlier i).entries ++ last_names (last i) (drop (start i) (names i).items)) ∙ ap (λ ns. earlier_of old ++ names_with net ns) empty in
     let right : net_names old ≡ earlier_of old ++ [] = ap (λ o. earlier_of old ++ last_names o (drop old.start old.names.items)) none in
@@ -88,8 +88,8 @@ has-by true span found = sym (or-true (is_some found))
 has-by false span found = refl
 
 -- the names of a span that goes to the end
-names-behind : (names : List NetName) (span : Span) → span.start + span.count ≡ length names → names_in names span ≡ drop span.start names
-names-behind names span ends = take_all span.count (drop span.start names) (omega (arith, ends, length-drop span.start names))
+names-after : (names : List NetName) (span : Span) → span.start + span.count ≡ length names → names_in names span ≡ drop span.start names
+names-after names span ends = take_all span.count (drop span.start names) (omega (arith, ends, length-drop span.start names))
 
 pub closes-net : (old new : Nets) (net : ℕ) (span : Span) → IsNetIndex old → old.last ≡ Some net → span.start ≡ old.start → span.start + span.count ≡ length old.names.items
     → new.earlier.entries ≡ insert_entry nat_eq old.earlier.entries net span → Updates nat_eq old.earlier new.earlier net (Some span) → IsUnique nat_eq new.earlier
@@ -97,7 +97,7 @@ pub closes-net : (old new : Nets) (net : ℕ) (span : Span) → IsNetIndex old �
 closes-net old new net span indexed last starts ends entries updates unique none kept start index =
     let absent = indexed.apart net last in
     let all : List NetName = old.names.items in
-    let own : names_in all span ≡ drop old.start all = names-behind all span ends ∙ ap (λ n. drop n all) starts in
+    let own : names_in all span ≡ drop old.start all = names-after all span ends ∙ ap (λ n. drop n all) starts in
     let pushed : new.earlier.entries ≡ old.earlier.entries ++ (net, span) ∷ [] = entries ∙ insert_entry-new nat_eq old.earlier net span absent in
     let flat : earlier_of new ≡ earlier_of old ++ (names_with net (names_in all span) ++ []) =
     (λ i. flat_map (entry_names (kept i).items) (pushed i)) ∙ flat_map-append (entry_names all) old.earlier.entries ((net, span) ∷ []) in

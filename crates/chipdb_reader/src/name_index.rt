@@ -1,4 +1,5 @@
-// The index from the name of a net at a tile to that net.
+// The index from the name of a net at a tile to that net: a table by the name's place and the tile, and a map in order for names and tiles that
+// have no cell in it.
 ghost use Rattle.std.specs.Prelude.{◌≡◌, ◌≢◌, ◌+◌, ◌<◌, ℕ, None, Some, cond, get_or, max, vec_len, IfSome, OnErr, OnOk};
 ghost use Rattle.std.specs.BTreeMap.{get, is_at};
 ghost use Rattle.chipdb_reader.specs.NameIndex.{cell_of, held_at, name_cmp, net_held, net_in};

@@ -9,7 +9,7 @@ use Rattle.shared_lemmas.proofs.Tests.{first_true, second_true}
 use Rattle.index_search.specs.Places.{least_below}
 use Rattle.index_search.proofs.Places.{least_below-first, least_below-none}
 use Rattle.graph_order.specs.Wiring.{Wiring, has, IsReady, IsWriteOrder}
-use Rattle.graph_order.proofs.OneOrder.{has-none, has-cases, has-first, has-behind}
+use Rattle.graph_order.proofs.OneOrder.{has-none, has-cases, has-first, has-after}
 use Rattle.graph_order.proofs.Ordered.{order-few}
 use Rattle.design_answers.specs.Order.{is_ready, first_classes, write_order}
 
@@ -31,14 +31,14 @@ module _ (driven listed : ℕ → Bool) where
   all-listed (first ∷ rest) all other there drives =
       elim (has-cases first rest other there) [
         | inl here ↦ let settled : is_settled other ≡ true = sym (ap is_settled here) ∙ first_true (is_settled first) (list_all is_settled rest) all in settled-listed other settled drives
-        | inr behind ↦ all-listed rest (second_true (is_settled first) (list_all is_settled rest) all) other behind drives
+        | inr after ↦ all-listed rest (second_true (is_settled first) (list_all is_settled rest) all) other after drives
       ]
 
   listed-all : (reads : List ℕ) → ((other : ℕ) → has reads other ≡ true → driven other ≡ true → listed other ≡ true) → list_all is_settled reads ≡ true
   listed-all [] each = refl
   listed-all (first ∷ rest) each =
       rw (listed-settled first (each first (has-first first rest)))
-      (listed-all rest (λ other there. each other (has-behind first rest other there)))
+      (listed-all rest (λ other there. each other (has-after first rest other there)))
 
 module _ (wiring : Wiring) where
   ready-passes : (listed : List ℕ) (class : ℕ) → IsReady wiring (has listed) class → is_ready wiring listed class ≡ true

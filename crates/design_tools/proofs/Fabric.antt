@@ -1,5 +1,5 @@
 -- The text that is written for a database and an image spells their fabric.
-use Rattle.std.proofs.Common.{◌≡◌, ◌∙◌, ℕ, ◌^◌, ◌≤◌, Bool, true, false, List, [], ap, refl, subst, sym}
+use Rattle.std.proofs.Common.{◌≡◌, ℕ, ◌^◌, ◌≤◌, Bool, true, false, List, [], refl, subst, sym}
 use Rattle.std.specs.Prelude.{Option, Some, None, Result, Ok, Err, get_or, codes, if◌then◌else◌, ◌&&◌, nat_le, length}
 use Rattle.clap.specs.Words.{Row, Text, first_of, matches_of}
 use Rattle.layout_file.specs.declared.layouts.Layouts.{Layouts}

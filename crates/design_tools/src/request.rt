@@ -42,7 +42,7 @@ chips give layouts/silicon.layout, which the installed icebox_vlog does by
 itself.
 
 The module has a port for each pin that is used, io_X_Y_N for pin N of the io
-tile at column X and row Y, and behind it io_X_Y_N_en, which is 1 where the pin
+tile at column X and row Y, and after it io_X_Y_N_en, which is 1 where the pin
 is switched on, for an output that can be switched off; a register for each
 flip-flop, ff_X_Y_I, and for each pin with a register, pi_X_Y_N for an input and
 po_X_Y_N for an output; a register and a memory for each block RAM that is read,
@@ -54,7 +54,7 @@ Without --all-pins a pin is taken if it is a plain or a registered input, or an
 output that is plain, registered or can be switched off and isn't read. With
 --all-pins it may also have two data rates, an inverted output, a register for
 its output enable, and a pad that is read and that it drives at times, as on a
-bus. Such a pin has a third port behind the other two, io_X_Y_N_in: what the
+bus. Such a pin has a third port after the other two, io_X_Y_N_in: what the
 outside puts on the pad where the pin doesn't drive it. If the ports are sda,
 sda_en and sda_in, `assign bus = sda_en ? sda : 1'bz;` and
 `assign sda_in = bus;` around the module join them to a bus. Further registers
@@ -62,7 +62,7 @@ of a pin are pj_X_Y_N of its second input, pq_X_Y_N of its second output,
 pe_X_Y_N of its output enable, and ci_X_Y_N and co_X_Y_N, which keep the clock
 enable for the second input and the second output.
 
-With --all-pins an output of a PLL that is used is an input of the module behind
+With --all-pins an output of a PLL that is used is an input of the module after
 all pins: pll_X_Y_a, pll_X_Y_b, pll_X_Y_lock or pll_X_Y_sdo. It may be a clock.
 What the PLL makes of its reference isn't in the module: events say it.
 
@@ -75,10 +75,10 @@ as without.
 In a pin file a line `set_io NAME PIN` gives the port at PIN a name: NAME, with
 _ for each byte that is no letter, digit or _, and without _ at the end. p_
 comes before it if that is no name, or has the form of one of those above. The
-pin's other ports have that name, and _en or _in behind it. Lists of events then
+pin's other ports have that name, and _en or _in after it. Lists of events then
 use these names. A line counts only if its pin has a port and no earlier line
 names the pin. If an earlier line gave one of its names, the port keeps
-io_X_Y_N. Options of set_io, lines with set_frequency, and # and all behind it
+io_X_Y_N. Options of set_io, lines with set_frequency, and # and all after it
 are passed over. A pin file with a fault is refused, and told by its first
 faulty line: Statement, another statement; Package or Pin, the database has no
 such package, or the package no such pin.

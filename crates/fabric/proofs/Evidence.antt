@@ -53,7 +53,7 @@ first-flat_map given [] item is = absurd cc
 first-flat_map given (x ∷ xs) item is =
     elim (first-append (given x) (flat_map given xs) item is) [
       | inl here ↦ (x, (zero, omega arith, refl), here)
-      | inr behind ↦ let found = first-flat_map given xs item behind in (found.0, (suc found.1.0, omega (arith, found.1.1), found.1.2), found.2)
+      | inr after ↦ let found = first-flat_map given xs item after in (found.0, (suc found.1.0, omega (arith, found.1.1), found.1.2), found.2)
     ]
 
 -- ---- two drivers

@@ -6,7 +6,7 @@ use Rattle.fabric_model.specs.Fabric.{numbered_from, numbered}
 use Rattle.std.proofs.lemmas.List.Elements.{All-nil, All-cons}
 use Rattle.std.proofs.Common.{append_assoc, zero-mul, suc-mul, length-append}
 use Rattle.std.proofs.Math.ListN.{get_or-append}
-use Rattle.shared_lemmas.proofs.Pushes.{slice_get-behind}
+use Rattle.shared_lemmas.proofs.Pushes.{slice_get-after}
 
 -- ---- lists over places
 
@@ -30,7 +30,7 @@ unfolding numbered_from
 numbered-there list before [] is = All-nil (StandsIn list)
 numbered-there list before (item ∷ items) is =
     All-cons (StandsIn list) (length before, item) (numbered_from (suc (length before)) items)
-    (ap (λ whole. slice_get whole (length before)) is ∙ slice_get-behind before item items)
+    (ap (λ whole. slice_get whole (length before)) is ∙ slice_get-after before item items)
     (subst (λ n. All (StandsIn list) (numbered_from n items)) (count-one before item)
     (numbered-there list (before ++ item ∷ []) items (is ∙ sym (append_assoc before (item ∷ []) items))))
 

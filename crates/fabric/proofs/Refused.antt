@@ -1,5 +1,5 @@
 -- A cause of the parts is the cause of the whole, if nothing before it is wrong.
-use Rattle.std.proofs.Common.{◌≡◌, ℕ, [], refl, sym, ap, subst, ◌∙◌}
+use Rattle.std.proofs.Common.{◌≡◌, [], refl, sym, subst, ◌∙◌}
 use Rattle.std.specs.Prelude.{◌↔◌, Option, Some, None, Result, Ok, Err, IfErr, OnOk}
 use Rattle.std.specs.Result.{IsErrAnd}
 use Rattle.plane_map.proofs.Devices.{same-device, other-device}
@@ -41,21 +41,21 @@ module _ (options : FabricOptions) (db : Database) (image : Configuration) where
   with-device other = rw (other-device db.chip.device image.layout.device other) refl
 
   module _ (same : db.chip.device ≡ image.layout.device) where
-    behind-device : design_fault options db image
+    after-device : design_fault options db image
         ≡ or_else (pins_fault options.all_pins db image) (or_else (rams_fault db image) (fabric_fault image.layout.device (fabric_with options db image)))
     unfolding design_fault
-    behind-device = rw (no-device same) refl
+    after-device = rw (no-device same) refl
 
     pins-refuse : (cause : Fault) → pins_fault options.all_pins db image ≡ Some cause → design_fault options db image ≡ Some cause
-    pins-refuse cause is = behind-device ∙ rw is refl
+    pins-refuse cause is = after-device ∙ rw is refl
 
     module _ (pins-taken : pins_fault options.all_pins db image ≡ None) where
       rams-refuse : (cause : Fault) → rams_fault db image ≡ Some cause → design_fault options db image ≡ Some cause
-      rams-refuse cause is = behind-device ∙ rw (pins-taken, is) refl
+      rams-refuse cause is = after-device ∙ rw (pins-taken, is) refl
 
   -- the fault of the whole is that of the fabric, if the parts are taken
   pub fabric-left : AreTaken options.all_pins db image → design_fault options db image ≡ fabric_fault image.layout.device (fabric_with options db image)
-  fabric-left taken = behind-device taken.device ∙ rw (taken.pins, taken.rams) refl
+  fabric-left taken = after-device taken.device ∙ rw (taken.pins, taken.rams) refl
 
   -- so nothing is wrong with the whole if nothing is wrong with the fabric
   pub fabric-taken : AreTaken options.all_pins db image → fabric_fault db.chip.device (fabric_with options db image) ≡ None → design_fault options db image ≡ None

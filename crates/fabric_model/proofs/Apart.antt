@@ -107,19 +107,19 @@ module _ {A : Type 0} (R : A → A → Type 0) where
 
 -- ---- items with their places
 
-numbered-behind : {A : Type 0} (place : ℕ) (items : List A) → All (λ (pair : ℕ × A). place ≤ pair.0) (numbered_from place items)
+numbered-after : {A : Type 0} (place : ℕ) (items : List A) → All (λ (pair : ℕ × A). place ≤ pair.0) (numbered_from place items)
 unfolding numbered_from
-numbered-behind {A} place [] = All-nil (λ (pair : ℕ × A). place ≤ pair.0)
-numbered-behind {A} place (item ∷ items) =
+numbered-after {A} place [] = All-nil (λ (pair : ℕ × A). place ≤ pair.0)
+numbered-after {A} place (item ∷ items) =
     All-cons (λ (pair : ℕ × A). place ≤ pair.0) (place, item) (numbered_from (suc place) items) (omega arith)
-    (All-weaker (λ (pair : ℕ × A). suc place ≤ pair.0) (λ (pair : ℕ × A). place ≤ pair.0) (λ pair behind. omega (arith, behind)) (numbered_from (suc place) items) (numbered-behind (suc place) items))
+    (All-weaker (λ (pair : ℕ × A). suc place ≤ pair.0) (λ (pair : ℕ × A). place ≤ pair.0) (λ pair after. omega (arith, after)) (numbered_from (suc place) items) (numbered-after (suc place) items))
 
 -- places are apart
 pub numbered-apart : {A : Type 0} (place : ℕ) (items : List A) → AreApart (λ (one two : ℕ × A). one.0 ≢ two.0) (numbered_from place items)
 unfolding numbered_from
 numbered-apart place [] = tt
 numbered-apart {A} place (item ∷ items) = (
-  All-weaker (λ (pair : ℕ × A). suc place ≤ pair.0) (λ (pair : ℕ × A). place ≢ pair.0) (λ pair behind. λ same. absurd (omega (arith, behind, same))) (numbered_from (suc place) items) (numbered-behind (suc place) items),
+  All-weaker (λ (pair : ℕ × A). suc place ≤ pair.0) (λ (pair : ℕ × A). place ≢ pair.0) (λ pair after. λ same. absurd (omega (arith, after, same))) (numbered_from (suc place) items) (numbered-after (suc place) items),
   numbered-apart (suc place) items,
 )
 

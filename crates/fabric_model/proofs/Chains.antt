@@ -128,7 +128,7 @@ module _ (fabric : Fabric) where
     found-more k listed steps few =
         elim (has-cases class before k listed) [
           | inl here ↦ subst (λ c. LeadsTo fabric c (end_within fabric steps c)) here (found-steps steps (omega arith))
-          | inr behind ↦ found k behind steps (omega arith)
+          | inr after ↦ found k after steps (omega arith)
         ]
 
   found-all : (within : IsWithin fabric) {before order : List ℕ} → Continues (wiring_of fabric) before order → AreFound before

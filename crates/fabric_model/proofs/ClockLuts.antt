@@ -413,9 +413,9 @@ module _ (connected : ℕ → Bool) (lc : LogicCell) where
   can-open k net at joined =
       ap (λ source. not (input_at k (2 ^ k)) || can_be_1 connected source) (net-input lc.ins k ∙ ap net_or_0 at) ∙ or_right _ (connected net) joined
 
-  following-none : (k : ℕ) → IsInput k → (net : ℕ) → net_of k ≡ Some net → connected net ≡ true → uses_input word k ≡ false
+  after-none : (k : ℕ) → IsInput k → (net : ℕ) → net_of k ≡ Some net → connected net ≡ true → uses_input word k ≡ false
       → (turned : Bool) → is_following connected whole turned k ≡ false
-  following-none k is net at joined unused turned =
+  after-none k is net at joined unused turned =
       false_from_ne_true (is_following connected whole turned k) (λ all.
       let value : ℕ → Bool = λ n. turned_bit turned (input_at k n) in
       let high : entry_of word (2 ^ k) ≡ turned_bit turned true =
@@ -435,7 +435,7 @@ module _ (connected : ℕ → Bool) (lc : LogicCell) where
   along-unused k is unused otherwise None at = refl
   along-unused k is unused otherwise (Some net) at =
       elim (cases_Bool (connected net)) [
-        | inl joined ↦ rw (joined, following-none k is net at joined unused false, following-none k is net at joined unused true) refl
+        | inl joined ↦ rw (joined, after-none k is net at joined unused false, after-none k is net at joined unused true) refl
         | inr away ↦ rw away refl
       ]
 

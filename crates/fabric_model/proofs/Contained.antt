@@ -1,5 +1,5 @@
 -- What lists that are made from others contain.
-use Rattle.std.proofs.Common.{◌≡◌, ℕ, zero, suc, List, [], ◌∷◌, map, sym, ap, subst, arith}
+use Rattle.std.proofs.Common.{zero, suc, List, [], ◌∷◌, map, sym, ap, subst, arith}
 use Rattle.std.specs.Prelude.{Contains, flat_map}
 use Rattle.std.proofs.lemmas.List.Elements.{Contains-append_left, Contains-append_right}
 

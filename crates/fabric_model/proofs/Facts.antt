@@ -11,7 +11,7 @@ use Rattle.fabric_model.specs.Drivers.{Rule, nets_read}
 use Rattle.fabric_model.specs.Drivers.Rule.{pin_bit, constant, input, table_entry, majority_of, register_bit, read_bit, copied}
 use Rattle.fabric_model.specs.Values.{State, input_value, signal_value, table_input, lut_value, settled_bit, value_of}
 use Rattle.graph_order.specs.Wiring.{has}
-use Rattle.graph_order.proofs.OneOrder.{has-first, has-behind, has-cases, has-none}
+use Rattle.graph_order.proofs.OneOrder.{has-first, has-after, has-cases, has-none}
 
 -- ---- lists of nets
 
@@ -20,19 +20,19 @@ has-left [] second n found = absurd (has-none n found)
 has-left (head ∷ first) second n found =
     elim (has-cases head first n found) [
       | inl here ↦ subst (λ k. has (head ∷ first ++ second) k ≡ true) here (has-first head (first ++ second))
-      | inr behind ↦ has-behind head (first ++ second) n (has-left first second n behind)
+      | inr after ↦ has-after head (first ++ second) n (has-left first second n after)
     ]
 
 pub has-right : (first second : List ℕ) (n : ℕ) → has second n ≡ true → has (first ++ second) n ≡ true
 has-right [] second n found = found
-has-right (head ∷ first) second n found = has-behind head (first ++ second) n (has-right first second n found)
+has-right (head ∷ first) second n found = has-after head (first ++ second) n (has-right first second n found)
 
 pub has-map : (change : ℕ → ℕ) (list : List ℕ) (n : ℕ) → has list n ≡ true → has (map change list) (change n) ≡ true
 has-map change [] n found = absurd (has-none n found)
 has-map change (head ∷ rest) n found =
     elim (has-cases head rest n found) [
       | inl here ↦ subst (λ k. has (change head ∷ map change rest) (change k) ≡ true) here (has-first (change head) (map change rest))
-      | inr behind ↦ has-behind (change head) (map change rest) (change n) (has-map change rest n behind)
+      | inr after ↦ has-after (change head) (map change rest) (change n) (has-map change rest n after)
     ]
 
 -- a net that is there

@@ -28,16 +28,16 @@ joined-back {joins} (further {a} {b} join rest) = joined-then (joined-back rest)
 -- ---- what the test says
 
 -- what is listed after a head
-contains-behind : (head item : ℕ × ℕ) (joins : List (ℕ × ℕ)) → Contains joins item → Contains (head ∷ joins) item
-contains-behind head item joins found = (suc found.0, omega (arith, found.1), found.2)
+contains-after : (head item : ℕ × ℕ) (joins : List (ℕ × ℕ)) → Contains joins item → Contains (head ∷ joins) item
+contains-after head item joins found = (suc found.0, omega (arith, found.1), found.2)
 
-join-behind : (head : ℕ × ℕ) (joins : List (ℕ × ℕ)) (a b : ℕ) → IsJoin joins a b → IsJoin (head ∷ joins) a b
-join-behind head joins a b (inl forth) = inl (contains-behind head (a, b) joins forth)
-join-behind head joins a b (inr back) = inr (contains-behind head (b, a) joins back)
+join-after : (head : ℕ × ℕ) (joins : List (ℕ × ℕ)) (a b : ℕ) → IsJoin joins a b → IsJoin (head ∷ joins) a b
+join-after head joins a b (inl forth) = inl (contains-after head (a, b) joins forth)
+join-after head joins a b (inr back) = inr (contains-after head (b, a) joins back)
 
-joined-behind : (head : ℕ × ℕ) {joins : List (ℕ × ℕ)} {a b : ℕ} → AreJoined joins a b → AreJoined (head ∷ joins) a b
-joined-behind head itself = itself
-joined-behind head {joins} (further {a} {b} join rest) = further (join-behind head joins a b join) (joined-behind head rest)
+joined-after : (head : ℕ × ℕ) {joins : List (ℕ × ℕ)} {a b : ℕ} → AreJoined joins a b → AreJoined (head ∷ joins) a b
+joined-after head itself = itself
+joined-after head {joins} (further {a} {b} join rest) = further (join-after head joins a b join) (joined-after head rest)
 
 head-joined : (head : ℕ × ℕ) (joins : List (ℕ × ℕ)) → AreJoined (head ∷ joins) head.0 head.1
 head-joined head joins = further (inl (0, omega arith, refl)) itself
@@ -48,14 +48,14 @@ unfolding is_joined
 is_joined-sound [] a b passes = subst (λ net. AreJoined [] a net) (eqb-true a b passes) itself
 is_joined-sound (join ∷ joins) a b passes =
     elim (or_cases (is_joined joins a b) _ passes) [
-      | inl apart ↦ joined-behind join (is_joined-sound joins a b apart)
+      | inl apart ↦ joined-after join (is_joined-sound joins a b apart)
       | inr through ↦ elim (or_cases (is_joined joins a join.0 && is_joined joins join.1 b) _ through) [
         | inl forth ↦
-            joined-then (joined-behind join (is_joined-sound joins a join.0 (first_true _ _ forth)))
-            (joined-then (head-joined join joins) (joined-behind join (is_joined-sound joins join.1 b (second_true _ _ forth))))
+            joined-then (joined-after join (is_joined-sound joins a join.0 (first_true _ _ forth)))
+            (joined-then (head-joined join joins) (joined-after join (is_joined-sound joins join.1 b (second_true _ _ forth))))
         | inr back ↦
-            joined-then (joined-behind join (is_joined-sound joins a join.1 (first_true _ _ back)))
-            (joined-then (joined-back (head-joined join joins)) (joined-behind join (is_joined-sound joins join.0 b (second_true _ _ back))))
+            joined-then (joined-after join (is_joined-sound joins a join.1 (first_true _ _ back)))
+            (joined-then (joined-back (head-joined join joins)) (joined-after join (is_joined-sound joins join.0 b (second_true _ _ back))))
       ]
     ]
 

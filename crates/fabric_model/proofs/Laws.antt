@@ -15,9 +15,9 @@ below-from : (test : ℕ × Link → Bool) (links : List Link) (n : ℕ) → All
 unfolding numbered_from
 below-from test [] n = All-nil (λ place. place < n + 0)
 below-from test (link ∷ links) n =
-    let behind = below-from test links (suc n) in
+    let after = below-from test links (suc n) in
     let rest : All (λ place. place < n + suc (length links)) (map (λ place. place.0) (filter test (numbered_from (suc n) links))) =
-    All-weaker (λ place. place < suc n + length links) (λ place. place < n + suc (length links)) (λ place less. omega arith) _ behind in
+    All-weaker (λ place. place < suc n + length links) (λ place. place < n + suc (length links)) (λ place less. omega arith) _ after in
     elim (cases_Bool (test (n, link))) [
       | inl passes ↦ rw passes (All-cons (λ place. place < n + suc (length links)) n (map (λ place. place.0) (filter test (numbered_from (suc n) links))) (omega arith) rest)
       | inr fails ↦ rw fails rest
@@ -41,8 +41,8 @@ unfolding numbered_from
 at-from test all [] n d same = refl
 at-from test all (link ∷ links) n d same =
     let here : get_or all n d ≡ link = sym (same 0 ∙ ap (λ k. get_or all k d) (add-zero n)) in
-    let behind = λ (k : ℕ). same (suc k) ∙ ap (λ k. get_or all k d) (let e : n + suc k ≡ suc n + k = omega arith in e) in
-    let rest = at-from test all links (suc n) d behind in
+    let after = λ (k : ℕ). same (suc k) ∙ ap (λ k. get_or all k d) (let e : n + suc k ≡ suc n + k = omega arith in e) in
+    let rest = at-from test all links (suc n) d after in
     elim (cases_Bool (test (n, link))) [
       | inl passes ↦ rw passes (ap₂ (λ first more. (n, first) ∷ more) here rest)
       | inr fails ↦ rw fails rest

@@ -5,7 +5,6 @@ use Rattle.std.specs.Prelude.{All, Bool, Option, Some, None, filter, codes, if�
 use Rattle.std.specs.List.{flat_map, IsDistinct, AllByRecursion}
 use Rattle.std.proofs.lemmas.Bool.{and_from}
 use Rattle.std.proofs.lemmas.List.Elements.{All-nil, All-cons, All-head, All-map, All-append, All-filter, All-weaker}
-use Rattle.index_search.specs.Places.{gathered_below}
 use Rattle.index_search.proofs.Gathered.{All-gathered_below}
 use Rattle.plane_map.specs.declared.tile.TileKind.TheVariants.{Io, Logic, RamB}
 use Rattle.ice_image.specs.Configuration.{Configuration}
@@ -46,8 +45,8 @@ use Rattle.fabric_model.specs.PllPorts.{is_source_read, pll_ports}
 use Rattle.fabric_model.specs.Fabric.{Fabric, Buffer, numbered, buffer_of, buffers_of, fabric_with}
 use Rattle.fabric_model.specs.Registers.{table_of, register_of, flips_among, registers_of, registers_in, kind_number, pin_register, pin_registers_of}
 use Rattle.fabric_model.specs.Drivers.{Rule, Drive, drives_if, drives_by, pin_drives, pll_drives, pad_of, is_read_back, back_drives, lut_drives, flip_driver, flip_drives, lout_drives, carry_drives, set_drives, read_data_rule, ram_drive, ram_drives, global_drives, buffer_drives, input_driver, input_drives, second_driver, second_drives, data_table, data_drives, pad_table, pad_drives, global_rule, drives_of, is_driver_of, drivers_of}
-use Rattle.fabric_model.proofs.Within.{All-flat_map, All-if, All-unless, All-item_if, All-single}
-use Rattle.fabric_model.proofs.Apart.{AreApart, apart-single, apart-if, apart-unless, apart-item_if, apart-append, apart-weaker, apart-filter, apart-map, apart-flat_map, apart-gathered, apart-over_tiles, All-every, numbered-apart, apart-numbered}
+use Rattle.fabric_model.proofs.Within.{All-flat_map, All-if, All-item_if, All-single}
+use Rattle.fabric_model.proofs.Apart.{AreApart, apart-single, apart-if, apart-item_if, apart-append, apart-weaker, apart-filter, apart-map, apart-flat_map, apart-gathered, apart-over_tiles, All-every, numbered-apart, apart-numbered}
 
 -- ---- parts that differ
 
@@ -520,13 +519,13 @@ last-kind number drives of_kind = record {
 }
 
 then-kinds : (number : ℕ) (drives more : List Drive) → IsOfKind number drives → IsFromKind (suc number) more → IsFromKind number (drives ++ more)
-then-kinds number drives more of_kind behind = record {
-  apart = apart-append DriversDiffer drives more of_kind.apart behind.apart
+then-kinds number drives more of_kind after = record {
+  apart = apart-append DriversDiffer drives more of_kind.apart after.apart
       (All-weaker (λ drive. number_of drive.driver ≡ number) (λ one. All (DriversDiffer one) more)
       (λ one is. All-weaker (λ drive. suc number ≤ number_of drive.driver) (DriversDiffer one)
-      (λ two later same. let numbers : number_of one.driver ≡ number_of two.driver = ap number_of same in absurd (omega (arith, is, later, numbers))) more behind.all) drives of_kind.all);
+      (λ two later same. let numbers : number_of one.driver ≡ number_of two.driver = ap number_of same in absurd (omega (arith, is, later, numbers))) more after.all) drives of_kind.all);
   all = All-append (λ drive. number ≤ number_of drive.driver) drives more (last-kind number drives of_kind).all
-      (All-weaker (λ drive. suc number ≤ number_of drive.driver) (λ drive. number ≤ number_of drive.driver) (λ drive later. omega (arith, later)) more behind.all);
+      (All-weaker (λ drive. suc number ≤ number_of drive.driver) (λ drive. number ≤ number_of drive.driver) (λ drive later. omega (arith, later)) more after.all);
 }
 
 drives_if-all : (P : Driver → Type 0) (by : Driver) (rule : Rule) (net : Option ℕ) → P by → All (λ (drive : Drive). P drive.driver) (drives_if by rule net)

@@ -48,9 +48,9 @@ pub record IsFirst {A : Type 0} (test : A → Bool) (list : List A) (first : A) 
   pub passes : test first ≡ true
   pub there : Contains list first
 
-first-behind : {A : Type 0} (test : A → Bool) (head : A) (list : List A) → test head ≡ false
+first-after : {A : Type 0} (test : A → Bool) (head : A) (list : List A) → test head ≡ false
     → (first : A) × (rest : List A) × IsFirst test list first rest → (first : A) × (rest : List A) × IsFirst test (head ∷ list) first rest
-first-behind test head list away found = (
+first-after test head list away found = (
   found.0,
   found.1,
   record {
@@ -65,7 +65,7 @@ any-first test [] some = absurd cc
 any-first test (head ∷ list) some =
     elim (cases_Bool (test head)) [
       | inl here ↦ (head, filter test list, record { is = rw here refl; passes = here; there = (0, omega arith, refl) })
-      | inr away ↦ first-behind test head list away (any-first test list (rw away at some))
+      | inr away ↦ first-after test head list away (any-first test list (rw away at some))
     ]
 
 pub filter-has : {A : Type 0} (test : A → Bool) (list : List A) (item : A) → Contains list item → test item ≡ true → Contains (filter test list) item

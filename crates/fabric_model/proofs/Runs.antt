@@ -1,7 +1,7 @@
 -- A fabric without a fault has exactly one run for each list of events. Whether a clock has an edge depends on the pins alone;
 -- so the next state is known before the values of the nets after the event are.
 use Rattle.std.proofs.Common.{◌≡◌, ℕ, zero, suc, ◌<◌, Bool, true, false, List, [], ◌∷◌, length, map, get_or, set, replicate, refl, sym, ap, ◌∙◌, subst, arith}
-use Rattle.std.specs.Prelude.{All, Contains, Option, Some, None, filter, flat_map, not, ◌&&◌, ◌==◌}
+use Rattle.std.specs.Prelude.{All, Contains, Option, Some, None, filter, flat_map, ◌&&◌, ◌==◌}
 use Rattle.std.specs.List.{AllByRecursion}
 use Rattle.std.proofs.lemmas.Bool.{and_from}
 use Rattle.std.proofs.Common.{eq-eqb}

@@ -1,7 +1,7 @@
 -- What inputs read is there: the input pins and the registers are those of the fabric.
 use Rattle.std.proofs.Common.{◌≡◌, ℕ, zero, suc, ◌+◌, ◌<◌, ◌==◌, ◌&&◌, ◌||◌, Bool, true, false, List, [], ◌∷◌, ◌++◌, length, length-append, map, get_or, refl, sym, ap, ◌∙◌, subst, arith, inl, inr, eq-eqb}
 use Rattle.std.proofs.lemmas.List.{length-map}
-use Rattle.std.specs.Prelude.{All, Contains, filter, flat_map, position, unwrap_or, not, None}
+use Rattle.std.specs.Prelude.{All, Contains, filter, position, unwrap_or, not, None}
 use Rattle.std.specs.List.{position_or_len}
 use Rattle.std.proofs.lemmas.Bool.{cases_Bool, lt-ltb, and_from, and_parts, or_left, or_right}
 use Rattle.std.proofs.lemmas.List.Elements.{All-cons, All-head, All-tail, All-map, All-append, All-weaker, All-contains_itself, Contains-append_left, Contains-append_right}

@@ -105,9 +105,9 @@ unfolding design_fault pins_fault
 design-taken options db image none =
     let all = options.all_pins in
     let first = first_of (device_faults db image) in
-    let behind = or_else-other first _ none in
+    let after = or_else-other first _ none in
     record {
       device = first_of-none (device_faults db image) (or_else-first first _ none);
-      pins = first_of-none (pin_faults all db image) (or_else-other (pll_fault all db image) _ (or_else-first (pins_fault all db image) _ behind));
-      fabric = or_else-other (rams_fault db image) _ (or_else-other (pins_fault all db image) _ behind);
+      pins = first_of-none (pin_faults all db image) (or_else-other (pll_fault all db image) _ (or_else-first (pins_fault all db image) _ after));
+      fabric = or_else-other (rams_fault db image) _ (or_else-other (pins_fault all db image) _ after);
     }

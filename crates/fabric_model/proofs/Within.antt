@@ -7,7 +7,7 @@ use Rattle.std.proofs.lemmas.List.Elements.{All-nil, All-cons, All-head, All-tai
 use Rattle.index_search.proofs.Gathered.{All-gathered_below}
 use Rattle.plane_map.specs.declared.device.DeviceName.{DeviceName}
 use Rattle.plane_map.specs.declared.tile.TileKind.{TileKind}
-use Rattle.plane_map.specs.declared.tile.TileKind.TheVariants.{Io, Logic, RamB}
+use Rattle.plane_map.specs.declared.tile.TileKind.TheVariants.{Logic, RamB}
 use Rattle.plane_map.specs.Layout.{kind_of, grid_width, grid_height}
 use Rattle.chipdb_lines.specs.declared.chip.Chip.{Chip}
 use Rattle.chipdb_lines.specs.Items.{NameLine, PllLine}
@@ -49,7 +49,7 @@ use Rattle.fabric_model.specs.Nets.{net_named}
 use Rattle.fabric_model.specs.Cells.{cell_bits, cell_with, used_cell, cells_at, cells_of, set_with, sets_at, sets_of, carry_in_net}
 use Rattle.fabric_model.specs.Rams.{port_net, is_ram_used, ram_at, rams_of}
 use Rattle.fabric_model.specs.PinTypes.{is_by_register}
-use Rattle.fabric_model.specs.Pins.{PinPlace, pin_places, drives, pin_with, port_at, pins_of, net_count, global_fabout, global_source, from_pll, from_pad, source_of_global, global_pad, is_global_net, global_nets, nets_from, globals_of}
+use Rattle.fabric_model.specs.Pins.{PinPlace, pin_places, drives, pin_with, port_at, pins_of, net_count, global_fabout, global_source, from_pll, source_of_global, global_pad, is_global_net, global_nets, nets_from, globals_of}
 use Rattle.fabric_model.specs.Plls.{pll_type, outputs_in, output_line, output_pin, output_net, line_named, net_by, clock_source, source_of, sources_in, pll_sources, is_pin_at}
 use Rattle.fabric_model.specs.PllPorts.{is_source_read, pll_ports}
 use Rattle.fabric_model.specs.Fabric.{Fabric, Buffer, numbered_from, numbered, joins_of, buffer_of, buffers_of, fabric_with, flip_count}
@@ -157,7 +157,7 @@ has-All P [] n all found = absurd (has-none n found)
 has-All P (head ∷ rest) n all found =
     elim (has-cases head rest n found) [
       | inl here ↦ subst P here (All-head P head rest all)
-      | inr behind ↦ has-All P rest n (All-tail P head rest all) behind
+      | inr after ↦ has-All P rest n (All-tail P head rest all) after
     ]
 
 -- ---- nets that may be missing

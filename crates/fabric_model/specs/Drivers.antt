@@ -169,15 +169,27 @@ second_driver register (OfPin n kind) = None
 abbrev pub second_drives : ℕ × Register → List Drive
 second_drives place = drives_by place (second_driver place.1 place.1.kind)
 
+-- LUTs as words, whose bit k is the value while the inputs spell k: 0xCACA has in_1 while in_2 is 1, and else in_0
+abbrev pub in_1_if_in_2 : ℕ
+in_1_if_in_2 = 51914
+
+-- 0xACAC has in_0 while in_2 is 1, and else in_1
+abbrev pub in_0_if_in_2 : ℕ
+in_0_if_in_2 = 44204
+
+-- 0x5555 has the inverse of in_0
+abbrev pub not_in_0 : ℕ
+not_in_0 = 21845
+
 -- What a pin drives its pad with, as a table: the inverse of a register; or of two registers the one of `io_n/D_OUT_0` in the half of the
 -- clock that begins with the own edge, and else the one of `io_n/D_OUT_1`.
 abbrev pub data_by_table : ℕ → List Pin → Pin → PadData → LutTable
 data_by_table flips pins pin sends.Double = record {
-  word = if pin.neg then 44204 else 51914;
+  word = if pin.neg then in_0_if_in_2 else in_1_if_in_2;
   ins = register_in flips pins pin kind.SecondOutput ∷ register_in flips pins pin kind.Output ∷ net_or_0 pin.outclk ∷ net_or_0 None ∷ [];
 }
 data_by_table flips pins pin sent = record {
-  word = 21845;
+  word = not_in_0;
   ins = register_in flips pins pin kind.Output ∷ net_or_0 None ∷ net_or_0 None ∷ net_or_0 None ∷ [];
 }
 
@@ -192,7 +204,7 @@ data_drives fabric pin =
 -- the pad of a switched pin, as a table: what the pin drives it with while it does, else what the outside puts on it
 abbrev pub pad_by_table : ℕ → List Pin → Pin → LutTable
 pad_by_table flips pins pin = record {
-  word = 51914;
+  word = in_1_if_in_2;
   ins =
       signal.Input (input_place pins (OutsidePort pin.x pin.y pin.n)) ∷ data_signal flips pins pin ∷ enable_signal flips pins pin ∷ net_or_0 None
       ∷ [];

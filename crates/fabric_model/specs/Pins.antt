@@ -1,5 +1,5 @@
 -- Pins (`SB_IO`; Project IceStorm, 'IO Tile') and global nets (`SB_GB_IO` and `SB_GB`).
-use Rattle.std.specs.Prelude.{ℕ, ◌+◌, ◌*◌, ◌/◌, ◌%◌, Bool, false, not, ◌&&◌, ◌||◌, List, [], length, map, flat_map, bytes_eq, codes, ◌++◌, ◌==◌, if◌then◌else◌, Option, Some, None, option_map, option_and_then, find}
+use Rattle.std.specs.Prelude.{ℕ, ◌+◌, ◌*◌, ◌/◌, ◌%◌, Bool, not, ◌&&◌, ◌||◌, List, [], length, map, flat_map, bytes_eq, codes, ◌==◌, if◌then◌else◌, Option, Some, None, option_map, option_and_then, find}
 use Rattle.std.specs.List.{list_any}
 use Rattle.plane_map.specs.declared.device.DeviceName.{DeviceName}
 use Rattle.plane_map.specs.declared.tile.TileKind.TheVariants.{Io}

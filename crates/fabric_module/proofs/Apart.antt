@@ -27,8 +27,8 @@ cut-same (x ∷ xs) [] u w of_x of_y same =
     let first : x ≡ 95 = cc in let never : digit_value 95 < 10 = subst (λ c. digit_value c < 10) first of_x.0 in absurd (omega arith)
 cut-same (x ∷ xs) (y ∷ ys) u w of_x of_y same =
     let first : x ≡ y = cc in
-    let behind : xs ++ 95 ∷ u ≡ ys ++ 95 ∷ w = cc in
-    let rest = cut-same xs ys u w of_x.1 of_y.1 behind in
+    let following : xs ++ 95 ∷ u ≡ ys ++ 95 ∷ w = cc in
+    let rest = cut-same xs ys u w of_x.1 of_y.1 following in
     let front : xs ≡ ys = rest.0 in
     (cc, rest.1)
 
@@ -38,7 +38,7 @@ no-tail [] (y ∷ ys) w of_x same = absurd cc
 no-tail (x ∷ xs) [] w of_x same =
     let first : x ≡ 95 = cc in let never : digit_value 95 < 10 = subst (λ c. digit_value c < 10) first of_x.0 in absurd (omega arith)
 no-tail (x ∷ xs) (y ∷ ys) w of_x same =
-    let behind : xs ≡ ys ++ 95 ∷ w = cc in no-tail xs ys w of_x.1 behind
+    let following : xs ≡ ys ++ 95 ∷ w = cc in no-tail xs ys w of_x.1 following
 
 -- a number that a name can have
 abbrev pub IsSmall : ℕ → Type 0
@@ -107,8 +107,8 @@ word-same output.Sdo output.Sdo same = refl
 pub pll-same : (x y a b : ℕ) (one two : PllOutput) → IsSmall x → IsSmall y → IsSmall a → IsSmall b → pll_name x y one ≡ pll_name a b two → (x ≡ a) × (y ≡ b) × (one ≡ two)
 unfolding pll_name
 pll-same x y a b one two of_x of_y of_a of_b same =
-    let behind : decimal x ++ 95 ∷ (decimal y ++ 95 ∷ output_word one) ≡ decimal a ++ 95 ∷ (decimal b ++ 95 ∷ output_word two) = cc in
-    let cut = cut-same (decimal x) (decimal a) (decimal y ++ 95 ∷ output_word one) (decimal b ++ 95 ∷ output_word two) (number-digits x of_x) (number-digits a of_a) behind in
+    let following : decimal x ++ 95 ∷ (decimal y ++ 95 ∷ output_word one) ≡ decimal a ++ 95 ∷ (decimal b ++ 95 ∷ output_word two) = cc in
+    let cut = cut-same (decimal x) (decimal a) (decimal y ++ 95 ∷ output_word one) (decimal b ++ 95 ∷ output_word two) (number-digits x of_x) (number-digits a of_a) following in
     let rest = cut-same (decimal y) (decimal b) (output_word one) (output_word two) (number-digits y of_y) (number-digits b of_b) cut.1 in
     (decimal_injective x a of_x of_a cut.0, decimal_injective y b of_y of_b rest.0, word-same one two rest.1)
 

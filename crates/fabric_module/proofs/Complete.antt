@@ -27,8 +27,8 @@ assigned-both first second name =
 pub assigned-front : (first second : List Item) (name : List ℕ) → is_assigned first name ≡ true → is_assigned (first ++ second) name ≡ true
 assigned-front first second name is = assigned-both first second name ∙ or_left (is_assigned first name) (is_assigned second name) is
 
-pub assigned-behind : (first second : List Item) (name : List ℕ) → is_assigned second name ≡ true → is_assigned (first ++ second) name ≡ true
-assigned-behind first second name is = assigned-both first second name ∙ or_right (is_assigned first name) (is_assigned second name) is
+pub assigned-after : (first second : List Item) (name : List ℕ) → is_assigned second name ≡ true → is_assigned (first ++ second) name ≡ true
+assigned-after first second name is = assigned-both first second name ∙ or_right (is_assigned first name) (is_assigned second name) is
 
 module _ (fabric : Fabric) where
   all-assigned : (outputs : List Output) → All (λ output. is_assigned (map (output_assign fabric) outputs) (output_name output) ≡ true) outputs
@@ -37,7 +37,7 @@ module _ (fabric : Fabric) where
       All-cons (λ other. is_assigned (map (output_assign fabric) (output ∷ outputs)) (output_name other) ≡ true) output outputs
       (rw (bytes_eq-same (output_name output) (output_name output) refl) refl)
       (All-weaker (λ other. is_assigned (map (output_assign fabric) outputs) (output_name other) ≡ true) (λ other. is_assigned (map (output_assign fabric) (output ∷ outputs)) (output_name other) ≡ true)
-      (λ other is. assigned-behind (output_assign fabric output ∷ []) (map (output_assign fabric) outputs) (output_name other) is) outputs (all-assigned outputs))
+      (λ other is. assigned-after (output_assign fabric output ∷ []) (map (output_assign fabric) outputs) (output_name other) is) outputs (all-assigned outputs))
 
   -- items that assign all outputs, with others around them
   pub outputs-complete : (front back : List Item) → IsComplete (ports_of fabric) (front ++ (map (output_assign fabric) (outputs_of fabric) ++ back))
@@ -48,7 +48,7 @@ module _ (fabric : Fabric) where
       (All-map (λ (port : Port). is_assigned (front ++ (map (output_assign fabric) (outputs_of fabric) ++ back)) port.name ≡ true) port_of (outputs_of fabric)
       (All-weaker (λ output. is_assigned (map (output_assign fabric) (outputs_of fabric)) (output_name output) ≡ true) (λ output. is_assigned (front ++ (map (output_assign fabric) (outputs_of fabric) ++ back)) (output_name output) ≡ true)
       (λ output is.
-      assigned-behind front (map (output_assign fabric) (outputs_of fabric) ++ back) (output_name output)
+      assigned-after front (map (output_assign fabric) (outputs_of fabric) ++ back) (output_name output)
       (assigned-front (map (output_assign fabric) (outputs_of fabric)) back (output_name output) is)) (outputs_of fabric) (all-assigned (outputs_of fabric)))) in
       All-weaker (λ (port : Port). Contains (ports_of fabric) port) (λ (port : Port). IsTrue port.output → IsTrue (is_assigned items port.name))
       (λ port there is.

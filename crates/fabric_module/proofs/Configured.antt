@@ -4,7 +4,7 @@ use Rattle.std.proofs.Common.{◌≡◌, ℕ, zero, suc, ◌+◌, ◌-◌, ◌<�
 use Rattle.std.specs.Prelude.{All, Contains, Option, Some, None, not, ◌&&◌, ◌||◌, ◌==◌, codes, filter, flat_map, drop, bytes_eq, if◌then◌else◌}
 use Rattle.std.proofs.lemmas.Bool.{and_from, and_parts, or_left}
 use Rattle.std.proofs.lemmas.List.{length-append, append_cancel_left}
-use Rattle.std.proofs.lemmas.List.Elements.{All-nil, All-cons, All-head, All-tail, All-append, All-map, All-filter, All-weaker, All-contains, All-contains_itself}
+use Rattle.std.proofs.lemmas.List.Elements.{All-nil, All-cons, All-head, All-tail, All-append, All-map, All-weaker, All-contains, All-contains_itself}
 use Rattle.shared_lemmas.proofs.Lists.{All-both}
 use Rattle.shared_lemmas.proofs.Bytes.{bytes_eq-apart, bytes_eq-same}
 use Rattle.bit_plane.proofs.Words.{bit_value-le}
@@ -19,7 +19,6 @@ use Rattle.chipdb_reader.specs.Database.{Database}
 use Rattle.index_search.specs.Places.{gathered_below}
 use Rattle.fabric_model.specs.declared.cell.LogicCell.{LogicCell}
 use Rattle.fabric_model.specs.declared.lut_inputs.LutInputs.{LutInputs}
-use Rattle.vlog_module.specs.declared.modules.Port.{Port}
 use Rattle.fabric_model.specs.declared.options.FabricOptions.{FabricOptions}
 use Rattle.fabric_model.specs.declared.input_port.InputPort.{InputPort}
 use Rattle.fabric_model.specs.declared.input_port.InputPort.TheVariants.{Pad as PadPort, Outside as OutsidePort}
@@ -44,7 +43,7 @@ use Rattle.fabric_model.specs.Tiles.{over_grid, each_below, item_if}
 use Rattle.fabric_model.specs.Cells.{cell_bits, cell_with, used_cell, cells_at, cells_of}
 use Rattle.fabric_model.specs.Rams.{mode_of, first_data_bit, is_ram_used, ram_at, rams_of, start_word, start_words}
 use Rattle.fabric_model.specs.Pins.{PinPlace, pin_places, is_port, drives, is_pad_read, has_input, has_outside, pin_with, port_at, pins_of}
-use Rattle.fabric_model.specs.Fabric.{Fabric, numbered, inputs_of, fabric_with}
+use Rattle.fabric_model.specs.Fabric.{Fabric, numbered, fabric_with}
 use Rattle.fabric_model.specs.Drivers.{Rule, Drive, drives_if, pad_of, pin_drives, is_read_back, back_drives, lut_drives, drives_by, flip_driver, flip_drives, lout_drives, carry_drives, set_drives, read_data_rule, ram_drive, ram_drives, global_rule, global_drives, buffer_drives, input_driver, input_drives, second_driver, second_drives, data_table, data_drives, pad_table, pad_drives, pll_drives, drives_of}
 use Rattle.fabric_model.specs.Drivers.Rule.{pin_bit, constant, input, table_entry, majority_of, register_bit, read_bit, copied}
 use Rattle.fabric_model.specs.Within.{IsClosed}

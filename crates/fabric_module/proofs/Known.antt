@@ -20,7 +20,7 @@ use Rattle.graph_order.specs.Wiring.{has}
 use Rattle.graph_order.proofs.OneOrder.{has-none, has-cases}
 use Rattle.fabric_module.specs.Names.{input_port_name, output_name, register_name, read_name, memory_name, wire_name}
 use Rattle.fabric_module.specs.Written.{input_port}
-use Rattle.fabric_module.proofs.Lists.{Apart, value_in-front, value_in-behind, names-absent, map-map, All-pick}
+use Rattle.fabric_module.proofs.Lists.{Apart, value_in-front, value_in-after, names-absent, map-map, All-pick}
 use Rattle.fabric_module.proofs.Apart.{io-no_register, io-no_read, io-no_memory, io-no_wire, pll-no_register, pll-no_read, pll-no_memory, pll-no_wire, register-no_read, register-no_memory, register-no_wire, read-no_memory}
 use Rattle.fabric_module.proofs.Ports.{ports_of, port_label, port_of, ports-inputs, outputs-ports, All-unmap, ports-absent}
 use Rattle.fabric_module.proofs.Settled.{IsWritable}
@@ -61,7 +61,7 @@ module _ {X : Type 0} (name : X → List ℕ) (sort_of : X → Sort) where
       → All (IsSorted name sort_of ((front ++ with_sorts name sort_of xs) ++ back)) xs
   sorted-between front back xs apart absent =
       All-weaker (IsSorted name sort_of (with_sorts name sort_of xs)) (IsSorted name sort_of ((front ++ with_sorts name sort_of xs) ++ back))
-      (λ x found. value_in-front (front ++ with_sorts name sort_of xs) back (name x) (sort_of x) (value_in-behind front (with_sorts name sort_of xs) (name x) (absent x) ∙ found))
+      (λ x found. value_in-front (front ++ with_sorts name sort_of xs) back (name x) (sort_of x) (value_in-after front (with_sorts name sort_of xs) (name x) (absent x) ∙ found))
       xs (sorted-there xs apart)
 
   sorted-front : (front back : List (List ℕ × Sort)) (xs : List X) → All (IsSorted name sort_of front) xs → All (IsSorted name sort_of (front ++ back)) xs
@@ -237,6 +237,6 @@ wire-listed (first ∷ order) class listed =
       | inl here ↦ rw here refl
       | inr away ↦ rw away (wire-listed order class (elim (has-cases first order class listed) [
         | inl same ↦ let never : true ≡ false = sym (bytes_eq-same (wire_name first) (wire_name class) (ap wire_name same)) ∙ away in absurd cc
-        | inr behind ↦ behind
+        | inr following ↦ following
       ]))
     ]

@@ -3,7 +3,7 @@ use Rattle.std.proofs.Common.{◌≡◌, ℕ, zero, suc, ◌+◌, ◌<◌, true,
 use Rattle.std.specs.Prelude.{All, Contains, Some, flat_map, bytes_eq}
 use Rattle.std.proofs.lemmas.Bool.{cases_Bool}
 use Rattle.std.proofs.lemmas.List.{length_push}
-use Rattle.std.proofs.lemmas.List.Elements.{All-nil, All-cons, All-head, All-tail, All-weaker, All-contains, All-contains_itself}
+use Rattle.std.proofs.lemmas.List.Elements.{All-nil, All-cons, All-head, All-tail, All-contains, All-contains_itself}
 use Rattle.std.proofs.Math.Seq.{get_or-append_seam}
 use Rattle.shared_lemmas.proofs.Bytes.{same_bytes, bytes_eq-same}
 use Rattle.vlog_module.specs.Maps.{value_in}
@@ -122,12 +122,12 @@ value_in-front (entry ∷ first) second q value found =
       | inr away ↦ rw away (value_in-front first second q value (rw away at found))
     ]
 
-pub value_in-behind : {A : Type 0} (first second : List (List ℕ × A)) (q : List ℕ) → All (λ name. bytes_eq name q ≡ false) (names_of first)
+pub value_in-after : {A : Type 0} (first second : List (List ℕ × A)) (q : List ℕ) → All (λ name. bytes_eq name q ≡ false) (names_of first)
     → value_in (first ++ second) q ≡ value_in second q
-value_in-behind [] second q absent = refl
-value_in-behind (entry ∷ first) second q absent =
+value_in-after [] second q absent = refl
+value_in-after (entry ∷ first) second q absent =
     rw (All-head (λ name. bytes_eq name q ≡ false) entry.0 (names_of first) absent)
-    (value_in-behind first second q (All-tail (λ name. bytes_eq name q ≡ false) entry.0 (names_of first) absent))
+    (value_in-after first second q (All-tail (λ name. bytes_eq name q ≡ false) entry.0 (names_of first) absent))
 
 -- none of the names of items is that name
 pub names-absent : {X : Type 0} (name : X → List ℕ) (xs : List X) (q : List ℕ) → ((x : X) → bytes_eq (name x) q ≡ false) → All (λ n. bytes_eq n q ≡ false) (map name xs)

@@ -23,7 +23,7 @@ use Rattle.index_search.proofs.Places.{any_below-at}
 use Rattle.fabric_model.specs.declared.pin.Pin.{Pin}
 use Rattle.fabric_model.specs.declared.pin.GlobalNet.{GlobalNet}
 use Rattle.fabric_model.specs.declared.pin.GlobalFrom.{GlobalFrom}
-use Rattle.fabric_model.specs.declared.pin.GlobalFrom.TheVariants.{Pad, Pll, Fabout}
+use Rattle.fabric_model.specs.declared.pin.GlobalFrom.TheVariants.{Fabout}
 use Rattle.fabric_model.specs.declared.pll.PllSource.{PllSource}
 use Rattle.fabric_model.specs.Plls.{pll_sources, is_pin_at, is_pll_place}
 use Rattle.fabric_model.specs.PllPorts.{is_some_global, is_source_read, pll_ports}

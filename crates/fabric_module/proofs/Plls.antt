@@ -1,5 +1,5 @@
 -- The ports of PLLs: their names are names, and are apart from each other and from those of pins.
-use Rattle.std.proofs.Common.{◌≡◌, ℕ, ◌<◌, Bool, false, List, [], ◌∷◌, ◌++◌, map, refl, ap, ◌∙◌, arith}
+use Rattle.std.proofs.Common.{◌≡◌, ℕ, ◌<◌, Bool, false, List, [], ◌∷◌, ◌++◌, map, refl, arith}
 use Rattle.std.specs.Prelude.{All, bytes_eq, codes, flat_map}
 use Rattle.std.proofs.lemmas.List.Elements.{All-head, All-tail, All-map, All-weaker}
 use Rattle.shared_lemmas.proofs.Lists.{All-both}
@@ -8,12 +8,11 @@ use Rattle.ice_image.specs.Configuration.{Configuration}
 use Rattle.chipdb_reader.specs.Database.{Database}
 use Rattle.chipdb_reader.specs.Fit.{IsFit}
 use Rattle.vlog_module.specs.Names.{IsName}
-use Rattle.vlog_module.specs.declared.modules.Port.{Port}
 use Rattle.fabric_model.specs.declared.pin.Pin.{Pin}
 use Rattle.fabric_model.specs.declared.pll.PllSource.{PllSource}
 use Rattle.fabric_model.specs.InputPorts.{pll_input}
 use Rattle.fabric_model.specs.PllPorts.{pll_ports}
-use Rattle.fabric_model.proofs.Apart.{AreApart, apart-map, apart-weaker, apart-append}
+use Rattle.fabric_model.proofs.Apart.{AreApart, apart-map, apart-append}
 use Rattle.fabric_model.proofs.Once.{PllsDiffer, plls-apart, plls-placed}
 use Rattle.fabric_module.specs.Names.{pll_name}
 use Rattle.fabric_module.specs.Written.{input_port, pin_ports}

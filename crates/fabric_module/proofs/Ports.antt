@@ -11,12 +11,11 @@ use Rattle.fabric_model.specs.declared.pin.PadDrive.{PadDrive}
 use Rattle.fabric_model.specs.declared.pin.PadDrive.TheVariants.{Never, Always, ByNet, ByRegister}
 use Rattle.fabric_model.specs.declared.input_port.InputPort.{InputPort}
 use Rattle.fabric_model.specs.Tiles.{item_if}
-use Rattle.fabric_model.specs.PinTypes.{ever_drives, drives_at_times}
 use Rattle.fabric_model.specs.declared.input_port.InputPort.TheVariants.{Pad, Outside}
 use Rattle.fabric_model.specs.Pins.{drives, is_switched, has_input, has_outside}
 use Rattle.fabric_model.specs.InputPorts.{pin_inputs, inputs_among, pll_input}
 use Rattle.fabric_model.specs.Fabric.{Fabric, inputs_of}
-use Rattle.fabric_model.specs.Outputs.{Output, enable_outputs, pin_outputs, outputs_of}
+use Rattle.fabric_model.specs.Outputs.{Output, pin_outputs, outputs_of}
 use Rattle.fabric_model.proofs.Apart.{All-every, apart-filter}
 use Rattle.fabric_model.proofs.Within.{All-flat_map, All-item_if}
 use Rattle.fabric_module.specs.Names.{three_numbers, pad_name, port_name, enable_name, outside_name, input_port_name, output_name}

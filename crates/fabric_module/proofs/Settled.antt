@@ -37,7 +37,7 @@ use Rattle.fabric_module.specs.Names.{input_port_name, output_name, register_nam
 use Rattle.fabric_module.specs.Rights.{signal_atom, input_name, read_at, setting_wire, class_right}
 use Rattle.fabric_module.specs.Written.{class_wire, output_assign, items_by, register_items, items_of, module_of}
 use Rattle.fabric_module.specs.Matching.{HasValues, HasWires, Matches}
-use Rattle.fabric_module.proofs.Lists.{NamesDiffer, Apart, flat_map-numbered, entries-are, made-names, made-values, place-there, name-there, value_in-front, value_in-behind, value_in-at, names-absent, map-map}
+use Rattle.fabric_module.proofs.Lists.{NamesDiffer, Apart, flat_map-numbered, entries-are, made-names, made-values, place-there, name-there, value_in-front, value_in-after, value_in-at, names-absent, map-map}
 use Rattle.fabric_module.proofs.Sections.{Skips, fold-section, wires-section, assigns-section, flips-section}
 use Rattle.fabric_module.proofs.Fills.{FillsOwn, filled}
 use Rattle.fabric_module.proofs.Apart.{input-no_register, input-no_wire, register-no_wire}
@@ -83,7 +83,7 @@ wires-value v (first ∷ front) class small low listed =
           rw here (ap (λ c. Some (bit_in v c)) same)
       | inr away ↦ rw away (wires-value v front class (All-tail (λ c. c < 2 ^ 64) first front small) low (elim (has-cases first front class listed) [
         | inl same ↦ let never : true ≡ false = sym (bytes_eq-same (wire_name first) (wire_name class) (ap wire_name same)) ∙ away in absurd cc
-        | inr behind ↦ behind
+        | inr following ↦ following
       ]))
     ]
 
@@ -104,7 +104,7 @@ more-listed : (before front : List ℕ) (class : ℕ) → ((k : ℕ) → has bef
 more-listed before front class listed low k found =
     elim (has-cases class before k found) [
       | inl here ↦ (has-right front (class ∷ []) k (subst (λ c. has (class ∷ []) c ≡ true) here (has-first class [])), subst (λ c. c < 2 ^ 64) here low)
-      | inr behind ↦ let old = listed k behind in (has-left front (class ∷ []) k old.0, old.1)
+      | inr following ↦ let old = listed k following in (has-left front (class ∷ []) k old.0, old.1)
     ]
 
 wire-skips : (known : List (List ℕ × Bool)) (words : List (List ℕ × ℕ)) → Skips 5 (wire_step known words)
@@ -241,9 +241,9 @@ module _ (fabric : Fabric) (within : IsWithin fabric) (writable : IsWritable fab
         (value_in-front inputs registers (input_name fabric place) (get_or pins place false) (pin-there place there));
     register = λ place register there.
         value_in-front (inputs ++ registers) wires (register_name register) (get_or state.bits place false)
-        (value_in-behind inputs registers (register_name register) (inputs-no_register register) ∙ register-there place register there);
+        (value_in-after inputs registers (register_name register) (inputs-no_register register) ∙ register-there place register there);
     read = word-there;
-    wire = λ class passes. value_in-behind (inputs ++ registers) wires (wire_name class) (known-no_wire class) ∙ each class passes;
+    wire = λ class passes. value_in-after (inputs ++ registers) wires (wire_name class) (known-no_wire class) ∙ each class passes;
   }
 
   -- with all wires

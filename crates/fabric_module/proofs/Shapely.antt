@@ -37,11 +37,11 @@ use Rattle.fabric_model.specs.Cells.{cell_bit, entry_bits, cell_bits, cell_with,
 use Rattle.fabric_model.specs.Rams.{first_data_bit, is_ram_used, ram_at, rams_of, start_word, start_words}
 use Rattle.fabric_model.specs.Pins.{drives, has_outside, pins_of}
 use Rattle.fabric_model.specs.Fabric.{Fabric, numbered, flip_count, fabric_with}
-use Rattle.fabric_model.specs.Drivers.{Rule, Drive, drives_if, pad_of, pin_drives, is_read_back, back_drives, lut_drives, drives_by, flip_driver, flip_drives, lout_drives, carry_drives, set_drives, read_data_rule, ram_drive, ram_drives, global_rule, global_drives, buffer_drives, input_driver, input_drives, second_driver, second_drives, data_by_table, data_table, data_drives, pad_table, pad_drives, pll_drives, drives_of, is_driver_of, drivers_of}
+use Rattle.fabric_model.specs.Drivers.{Rule, Drive, drives_if, pad_of, pin_drives, is_read_back, back_drives, lut_drives, drives_by, flip_driver, flip_drives, lout_drives, carry_drives, set_drives, read_data_rule, ram_drive, ram_drives, global_rule, global_drives, buffer_drives, input_driver, input_drives, second_driver, second_drives, data_by_table, in_0_if_in_2, in_1_if_in_2, data_table, data_drives, pad_table, pad_drives, pll_drives, drives_of, is_driver_of, drivers_of}
 use Rattle.fabric_model.specs.Drivers.Rule.{pin_bit, constant, input, table_entry, majority_of, register_bit, read_bit, copied}
 use Rattle.fabric_model.proofs.Within.{All-flat_map, All-item_if, All-if, All-single, All-over_tiles}
 use Rattle.fabric_model.proofs.Apart.{All-every}
-use Rattle.fabric_module.specs.Names.{register_number, register_name, read_name, memory_name}
+use Rattle.fabric_module.specs.Names.{register_name, read_name, memory_name}
 use Rattle.fabric_module.specs.Rights.{atom_or_0, signal_atom, setting_wire, register_right, right_alone, right_of, right_by, class_right}
 use Rattle.fabric_module.specs.Written.{pin_ports}
 use Rattle.fabric_module.proofs.Ports.{port_label}
@@ -148,7 +148,7 @@ module _ (fabric : Fabric) (tables : All (λ lc. lc.lut < 65536) fabric.lcs) whe
   by_table-small pin sends.Plain = omega arith
   by_table-small pin sends.Registered = omega arith
   by_table-small pin sends.Inverted = omega arith
-  by_table-small pin sends.Double = either-small pin.neg 44204 51914 (omega arith) (omega arith)
+  by_table-small pin sends.Double = either-small pin.neg in_0_if_in_2 in_1_if_in_2 (omega arith) (omega arith)
 
   data_drives-right : (pin : Pin) → All IsDriveRight (data_drives fabric pin)
   data_drives-right pin =

@@ -274,8 +274,8 @@ module _ {A : Type 0} (each : Use → List A) where
 module _ (fabric : Fabric) where
   module _ {A : Type 0} (each : Use → List A) (of_whole : (name : List ℕ) → each (Reads name) ≡ []) (of_bit : (name : List ℕ) (k : ℕ) → each (ReadsBit name k) ≡ []) where
     -- an enable and a table
-    behind-none : (register : Register) → flat_map each (atom_uses (signal_atom fabric register.enable) ++ lut_uses (lut_of fabric register.table)) ≡ []
-    behind-none register =
+    after-none : (register : Register) → flat_map each (atom_uses (signal_atom fabric register.enable) ++ lut_uses (lut_of fabric register.table)) ≡ []
+    after-none register =
         joined-then each (atom_uses (signal_atom fabric register.enable)) (lut_uses (lut_of fabric register.table)) (atom-none each of_whole of_bit (signal_atom fabric register.enable))
         ∙ atoms-none each of_whole of_bit (lut_of fabric register.table).ins
 
@@ -292,7 +292,7 @@ module _ (fabric : Fabric) where
 
   register-declares : (register : Register) (way : Way) → flat_map declared_by (uses_of (item_in fabric register way)) ≡ []
   register-declares register (waits clock) = waits-then declared_by (λ name. refl) (λ name k. refl) register
-  register-declares register (acts wire clock) = behind-none declared_by (λ name. refl) (λ name k. refl) register
+  register-declares register (acts wire clock) = after-none declared_by (λ name. refl) (λ name k. refl) register
   register-declares register (sets wire) = refl
 
   register-reads : (register : Register) (way : Way) → wire_readings (item_in fabric register way) ≡ []
@@ -302,12 +302,12 @@ module _ (fabric : Fabric) where
 
   register-assigns : (register : Register) (way : Way) → flat_map assigned_by (uses_of (item_in fabric register way)) ≡ register_name register ∷ []
   register-assigns register (waits clock) = waits-then assigned_by (λ name. refl) (λ name k. refl) register
-  register-assigns register (acts wire clock) = ap (λ list. register_name register ∷ list) (behind-none assigned_by (λ name. refl) (λ name k. refl) register)
+  register-assigns register (acts wire clock) = ap (λ list. register_name register ∷ list) (after-none assigned_by (λ name. refl) (λ name k. refl) register)
   register-assigns register (sets wire) = refl
 
   register-starts : (register : Register) (way : Way) → flat_map started_by (uses_of (item_in fabric register way)) ≡ []
   register-starts register (waits clock) = waits-then started_by (λ name. refl) (λ name k. refl) register
-  register-starts register (acts wire clock) = behind-none started_by (λ name. refl) (λ name k. refl) register
+  register-starts register (acts wire clock) = after-none started_by (λ name. refl) (λ name k. refl) register
   register-starts register (sets wire) = refl
 
   -- each of these items assigns its register or memory, and nothing else

@@ -1,6 +1,6 @@
 -- An event is an edge for a clocked item of the module exactly if it is an edge of the fabric's clock.
 use Rattle.std.proofs.Common.{◌≡◌, ◌≢◌, ℕ, zero, suc, ◌+◌, ◌<◌, Bool, true, false, List, [], ◌∷◌, length, map, get_or, set, refl, sym, ap, ◌∙◌, subst, arith, inl, inr, get_or-set_same, get_or-set_other, eq-eqb}
-use Rattle.std.specs.Prelude.{Option, Some, None, flat_map, bytes_eq, not, ◌&&◌, ◌==◌, if◌then◌else◌}
+use Rattle.std.specs.Prelude.{Option, Some, None, bytes_eq, not, ◌&&◌, ◌==◌, if◌then◌else◌}
 use Rattle.std.proofs.lemmas.Bool.{cases_Bool, eqb-true}
 use Rattle.shared_lemmas.proofs.Bytes.{bytes_eq-same}
 use Rattle.plane_map.specs.declared.device.DeviceName.{DeviceName}
@@ -10,8 +10,6 @@ use Rattle.vlog_semantics.specs.declared.event.Event.{Event as ModuleEvent}
 use Rattle.vlog_semantics.specs.Named.{names_of}
 use Rattle.vlog_semantics.specs.Numbered.{numbered as counted}
 use Rattle.vlog_semantics.specs.Run.{input_names, pin_of, is_pin, is_edge, is_same_bit}
-use Rattle.fabric_model.specs.declared.pin.Pin.{Pin}
-use Rattle.fabric_model.specs.InputPorts.{inputs_among}
 use Rattle.fabric_model.specs.Fabric.{Fabric, inputs_of}
 use Rattle.fabric_model.specs.Drivers.{Rule, is_driven}
 use Rattle.fabric_model.specs.Drivers.Rule.{pin_bit, constant, input, table_entry, majority_of, register_bit, read_bit, copied}
@@ -30,7 +28,7 @@ use Rattle.fabric_model.proofs.Taken.{taken-order}
 use Rattle.fabric_model.proofs.Runs.{IsPlaced, IsClockEnd, IsClocked, end_bit, clock-bit, clock_bit-is}
 use Rattle.fabric_module.specs.Names.{input_port_name}
 use Rattle.fabric_module.specs.Rights.{input_name}
-use Rattle.fabric_module.specs.Written.{end_name, clock_name, is_falling, pin_ports}
+use Rattle.fabric_module.specs.Written.{end_name, clock_name, is_falling}
 use Rattle.fabric_module.specs.Matching.{module_event}
 use Rattle.fabric_module.proofs.Lists.{Apart, All-pick, map-map}
 use Rattle.fabric_module.proofs.Rights.{IsPlaceIn}

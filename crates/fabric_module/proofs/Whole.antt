@@ -22,7 +22,7 @@ use Rattle.fabric_model.proofs.Within.{All-numbered}
 use Rattle.fabric_module.specs.Names.{output_name, memory_name, wire_name}
 use Rattle.fabric_module.specs.Rights.{class_right}
 use Rattle.fabric_module.specs.Written.{register_item, read_register, ram_memory, class_wire, output_assign, register_items, read_items, write_items, start_items, items_of, module_of}
-use Rattle.fabric_module.proofs.Lists.{NamesDiffer, value_in-behind}
+use Rattle.fabric_module.proofs.Lists.{NamesDiffer, value_in-after}
 use Rattle.fabric_module.proofs.Ports.{ports_of, port_label}
 use Rattle.fabric_module.proofs.Settled.{IsWritable}
 use Rattle.fabric_module.proofs.Beginning.{IsStarted}
@@ -61,7 +61,7 @@ module _ (fabric : Fabric) (within : IsWithin fabric) (writable : IsWritable fab
         record {
           named = wire-named class (omega (arith, below, writable.few));
           declared = ap (λ list. value_in list (wire_name class)) more.declared_is
-              ∙ (value_in-behind scope.declared (map (λ c. (wire_name c, sort.Wire)) order) (wire_name class) (state-no_wire fabric writable shapely.named scope left class)
+              ∙ (value_in-after scope.declared (map (λ c. (wire_name c, sort.Wire)) order) (wire_name class) (state-no_wire fabric writable shapely.named scope left class)
               ∙ wire-listed order class listed);
         }
 

@@ -29,7 +29,7 @@ use Rattle.fabric_model.proofs.Within.{All-single}
 use Rattle.fabric_module.specs.Names.{wire_name}
 use Rattle.fabric_module.specs.Rights.{right_by, class_right}
 use Rattle.fabric_module.specs.Written.{class_wire}
-use Rattle.fabric_module.proofs.Lists.{value_in-behind}
+use Rattle.fabric_module.proofs.Lists.{value_in-after}
 use Rattle.fabric_module.proofs.Settled.{IsWritable, wire-one}
 use Rattle.fabric_module.proofs.Named.{wire-named}
 use Rattle.fabric_module.proofs.Grown.{grown, grown-section, grown-declared, grown-assigned, grown-started, Grows}
@@ -104,7 +104,7 @@ module _ (fabric : Fabric) (within : IsWithin fabric) (writable : IsWritable fab
     wire-there = record {
       named = wire-named class (small class driven);
       declared = ap (λ list. value_in list (wire_name class)) wire-declared.declared_is
-          ∙ (value_in-behind scope.declared ((wire_name class, sort.Wire) ∷ []) (wire_name class) absent ∙ (rw (bytes_eq-same (wire_name class) (wire_name class) refl) refl));
+          ∙ (value_in-after scope.declared ((wire_name class, sort.Wire) ∷ []) (wire_name class) absent ∙ (rw (bytes_eq-same (wire_name class) (wire_name class) refl) refl));
     }
 
     knows-more : Knows fabric (grown scope (class_wire fabric class)) (has (class ∷ before))
@@ -114,7 +114,7 @@ module _ (fabric : Fabric) (within : IsWithin fabric) (writable : IsWritable fab
       read = λ place there. there-more scope (grown scope (class_wire fabric class)) ((wire_name class, sort.Wire) ∷ []) _ sort.Word wire-declared.declared_is (knows.read place there);
       wire = λ other listed. elim (has-cases class before other listed) [
         | inl here ↦ subst (λ c. IsThere (grown scope (class_wire fabric class)) (wire_name c) sort.Wire) here wire-there
-        | inr behind ↦ there-more scope (grown scope (class_wire fabric class)) ((wire_name class, sort.Wire) ∷ []) (wire_name other) sort.Wire wire-declared.declared_is (knows.wire other behind)
+        | inr following ↦ there-more scope (grown scope (class_wire fabric class)) ((wire_name class, sort.Wire) ∷ []) (wire_name other) sort.Wire wire-declared.declared_is (knows.wire other following)
       ];
     }
 
@@ -132,8 +132,8 @@ module _ (fabric : Fabric) (within : IsWithin fabric) (writable : IsWritable fab
         subst (All (λ n. bytes_eq n (wire_name other) ≡ false)) (sym names)
         (All-append (λ n. bytes_eq n (wire_name other) ≡ false) (names_of scope.declared) (wire_name class ∷ []) old (All-single (λ n. bytes_eq n (wire_name other) ≡ false) (wire_name class) away))
 
-  fresh-behind : (class : ℕ) (before : List ℕ) (other : ℕ) → has (class ∷ before) other ≡ false → has before other ≡ false
-  fresh-behind class before other fresh =
+  fresh-after : (class : ℕ) (before : List ℕ) (other : ℕ) → has (class ∷ before) other ≡ false → has before other ≡ false
+  fresh-after class before other fresh =
       elim (cases_Bool (class == other)) [
         | inl here ↦
             let e : class ≡ other = eqb-true class other here in
@@ -150,13 +150,13 @@ module _ (fabric : Fabric) (within : IsWithin fabric) (writable : IsWritable fab
       let of_class : is_driven fabric class ≡ true = sym (driven-is fabric class) ∙ least.ready.driven in
       let away = absent class of_class least.ready.unlisted in
       let first = wire-declared before class least.ready scope low knows away in
-      let behind = wires-grow more (grown scope (class_wire fabric class)) first.section (knows-more before class least.ready scope low knows away) (λ other drives fresh.
-      absent-more before class least.ready scope low knows away other drives fresh (absent other drives (fresh-behind class before other fresh))) in (
-        (wire-allowed before class least.ready scope low knows away, behind.0),
+      let following = wires-grow more (grown scope (class_wire fabric class)) first.section (knows-more before class least.ready scope low knows away) (λ other drives fresh.
+      absent-more before class least.ready scope low knows away other drives fresh (absent other drives (fresh-after class before other fresh))) in (
+        (wire-allowed before class least.ready scope low knows away, following.0),
         record {
-          section = behind.1.section;
-          declared_is = behind.1.declared_is ∙ (ap (λ list. list ++ map (λ c. (wire_name c, sort.Wire)) rest) first.declared_is ∙ append_assoc scope.declared ((wire_name class, sort.Wire) ∷ []) (map (λ c. (wire_name c, sort.Wire)) rest));
-          assigned_is = behind.1.assigned_is ∙ first.assigned_is;
-          started_is = behind.1.started_is ∙ first.started_is;
+          section = following.1.section;
+          declared_is = following.1.declared_is ∙ (ap (λ list. list ++ map (λ c. (wire_name c, sort.Wire)) rest) first.declared_is ∙ append_assoc scope.declared ((wire_name class, sort.Wire) ∷ []) (map (λ c. (wire_name c, sort.Wire)) rest));
+          assigned_is = following.1.assigned_is ∙ first.assigned_is;
+          started_is = following.1.started_is ∙ first.started_is;
         },
       )

@@ -1,6 +1,6 @@
 -- Lines and PLLs, as they are kept and as the database says them.
-use Rattle.std.proofs.Common.{◌≡◌, ℕ, ◌<◌, ◌≤◌, Bool, true, false, ◌||◌, List, [], ◌∷◌, map, refl, ap, ◌∙◌, inl, inr, arith}
-use Rattle.std.specs.Prelude.{◌==◌, ◌&&◌, All, Option, Some, None, bytes_eq, find}
+use Rattle.std.proofs.Common.{◌≡◌, ℕ, ◌≤◌, Bool, true, false, ◌||◌, List, [], ◌∷◌, map, refl, ap, ◌∙◌, inl, inr, arith}
+use Rattle.std.specs.Prelude.{◌==◌, ◌&&◌, All, None, bytes_eq, find}
 use Rattle.std.specs.Option.{option_map}
 use Rattle.std.specs.List.{list_any}
 use Rattle.std.proofs.lemmas.Bool.{cases_Bool, and_parts, eqb-true}
@@ -9,7 +9,6 @@ use Rattle.plane_map.proofs.Grids.{grid_width-le, grid_height-le}
 use Rattle.chipdb_lines.specs.declared.chip.Chip.{Chip}
 use Rattle.chipdb_lines.specs.Items.{NameLine}
 use Rattle.chipdb_reader.specs.declared.items.PllCell.{PllCell}
-use Rattle.chipdb_reader.specs.declared.items.PllLine.{PllLine}
 use Rattle.chipdb_reader.specs.Fit.{IsNameLine}
 use Rattle.chipdb_reader.specs.Kept.{pll_line, pll_of}
 use Rattle.chipdb_reader.specs.Lookups.{is_name_at, net_at}

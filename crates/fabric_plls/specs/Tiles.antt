@@ -1,11 +1,11 @@
 -- Tiles, which may be outside of the grid.
 use Rattle.std.specs.Prelude.{◌≡◌, ℕ, Option, Some}
-use Rattle.fabric_plls.specs.declared.tile.Tile.{Tile}
+use Rattle.fabric_plls.specs.declared.tile.TilePlace.{TilePlace}
 use Rattle.fabric_plls.specs.declared.fault.PllFault.{PllFault}
 use Rattle.fabric_plls.specs.declared.fault.PllFault.TheVariants.{Pll, Memory}
 
 -- the place of a tile
-abbrev pub place_of : Tile → ℕ × ℕ
+abbrev pub place_of : TilePlace → ℕ × ℕ
 place_of tile = (tile.x, tile.y)
 
 -- a refusal tells the tile, or that memory ran out

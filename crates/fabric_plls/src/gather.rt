@@ -11,7 +11,7 @@ ghost use Rattle.fabric_plls.specs.Tiles.{place_of, IsCause};
 use crate::fault::PllFault;
 use crate::refused::first_refused;
 use crate::sources::sources;
-use crate::tile::{Tile, lesser};
+use crate::tile::{TilePlace, lesser};
 use crate::unnamed::{first_on, first_unnamed};
 use chipdb_reader::ChipDb;
 use fabric_model::{PllSource, tiles_of_image};
@@ -28,7 +28,7 @@ fn first_fault(
     db: &ChipDb,
     image: &AnyImage,
     all_pins: bool,
-) -> Result<Option<Tile>, AllocError>
+) -> Result<Option<TilePlace>, AllocError>
     requires { IsFit (database_in db.now) }
     ensures { IfOk result (λ tile. option_map place_of tile ≡ pll_tile all_pins (database_in db.now) (configuration_of image.now)) }
 {

@@ -12,7 +12,7 @@ ghost use Rattle.fabric_plls.specs.Tiles.{place_of};
 
 use crate::outputs::output_pin;
 use crate::sources::append_sources;
-use crate::tile::Tile;
+use crate::tile::TilePlace;
 use crate::types::pll_type;
 use chipdb_reader::{ChipDb, PinXy, PllCell};
 use fabric_model::{PllOutput, PllSource, PllType, is_pin_at, is_pll_place};
@@ -70,7 +70,7 @@ pub(crate) fn first_refused(
     alloc: Global,
     db: &ChipDb,
     image: &AnyImage,
-) -> Result<Option<Tile>, AllocError>
+) -> Result<Option<TilePlace>, AllocError>
     requires { IsFit (database_in db.now) }
     ensures { IfOk result (λ tile. option_map place_of tile ≡ first_of (refused_tiles (database_in db.now) (configuration_of image.now))) }
 {
@@ -78,7 +78,7 @@ pub(crate) fn first_refused(
     for pll in db.plls() {
         let kind = pll_type(alloc, db, image, pll)?;
         if is_refused(&sources, image, pll, kind) {
-            return Ok(Some(Tile { x: pll.x, y: pll.y }));
+            return Ok(Some(TilePlace { x: pll.x, y: pll.y }));
         }
         append_sources(&mut sources, db, image, pll, kind)?;
     }

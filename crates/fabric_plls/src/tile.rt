@@ -1,4 +1,4 @@
-// Tiles, which may be outside of the grid.
+// Places of tiles, which may be outside of the grid.
 ghost use Rattle.std.specs.Prelude.{◌≡◌, IfSome};
 ghost use Rattle.std.specs.Option.{option_map, is_some};
 ghost use Rattle.plane_map.specs.declared.tile.TileKind.TheVariants.{Io};
@@ -14,20 +14,20 @@ use plane_map::{TileKind, kind_on};
 
 /// A place, which may be outside of the grid.
 #[derive(Clone, Copy)]
-pub(crate) struct Tile {
+pub(crate) struct TilePlace {
     pub(crate) x: u32,
     pub(crate) y: u32,
 }
 
 /// Whether a tile comes before another: by y, then by x.
-fn is_before(tile: Tile, other: Tile) -> bool
+fn is_before(tile: TilePlace, other: TilePlace) -> bool
     ensures { result ≡ is_tile_before (place_of tile) (place_of other) }
 {
     tile.y < other.y || (tile.y == other.y && tile.x < other.x)
 }
 
 /// The lesser of two tiles.
-pub(crate) fn lesser(one: Option<Tile>, other: Option<Tile>) -> Option<Tile>
+pub(crate) fn lesser(one: Option<TilePlace>, other: Option<TilePlace>) -> Option<TilePlace>
     ensures { option_map place_of result ≡ lesser_tile (option_map place_of one) (option_map place_of other) }
 {
     match one {

@@ -14,7 +14,7 @@ ghost use Rattle.fabric_model.specs.TilesOfKind.{HasTile, begins_and_is_on, tile
 ghost use Rattle.fabric_plls.specs.Tiles.{place_of};
 ghost use Rattle.fabric_plls.specs.Plls.{has_line_of, tile_with};
 
-use crate::tile::Tile;
+use crate::tile::TilePlace;
 use chipdb_reader::{ChipDb, Function, PllCell, PllLine, TileXy8};
 use fabric_model::{begins_and_is_on, is_any_on};
 use ice_image::AnyImage;
@@ -82,17 +82,17 @@ fn has_unnamed(db: &ChipDb, image: &AnyImage, x: u8, y: u8) -> bool
 }
 
 /// A tile, by its place.
-fn tile_at(tile: TileXy8) -> Tile
+fn tile_at(tile: TileXy8) -> TilePlace
     ensures { place_of result ≡ (tile.x, tile.y) }
 {
-    Tile {
+    TilePlace {
         x: u32::from(tile.x),
         y: u32::from(tile.y),
     }
 }
 
 /// The first tile with such a function.
-pub(crate) fn first_unnamed(db: &ChipDb, image: &AnyImage, tiles: &[TileXy8]) -> Option<Tile>
+pub(crate) fn first_unnamed(db: &ChipDb, image: &AnyImage, tiles: &[TileXy8]) -> Option<TilePlace>
     requires { All (λ tile. HasTile image.now Io tile.x tile.y) tiles.now }
     ensures { option_map place_of result ≡ first_of (flat_map (λ tile. tile_with (has_unnamed (database_in db.now) (configuration_of image.now)) tile.x tile.y) tiles.now) }
 {
@@ -105,7 +105,7 @@ pub(crate) fn first_unnamed(db: &ChipDb, image: &AnyImage, tiles: &[TileXy8]) ->
 }
 
 /// The first tile where a function whose name starts with `PLL.` is on.
-pub(crate) fn first_on(db: &ChipDb, image: &AnyImage, tiles: &[TileXy8]) -> Option<Tile>
+pub(crate) fn first_on(db: &ChipDb, image: &AnyImage, tiles: &[TileXy8]) -> Option<TilePlace>
     requires { All (λ tile. HasTile image.now Io tile.x tile.y) tiles.now }
     ensures { option_map place_of result ≡ first_of (flat_map (λ tile. tile_with (has_pll (database_in db.now) (configuration_of image.now)) tile.x tile.y) tiles.now) }
 {

@@ -164,10 +164,10 @@ module _ (x y : ℕ) where
         let here = (ram.x == x) && (ram.y == y) in
         let read : ClockInput = record { x = ram.x; y = ram.y; user = Read; net = ram.rclk } in
         let write : ClockInput = record { x = ram.x; y = ram.y; user = Write; net = ram.wclk } in
-        let behind = flat_map ram_inputs rams in
-        faults-first read (write ∷ behind) (All-head Reads ram rams reads) here refl
+        let after = flat_map ram_inputs rams in
+        faults-first read (write ∷ after) (All-head Reads ram rams reads) here refl
         ∙ (ap (λ l. (if here then user_fault fabric (user_of read) ram.rclk else []) ++ l)
-        (faults-first write behind (All-head Writes ram rams writes) here refl
+        (faults-first write after (All-head Writes ram rams writes) here refl
         ∙ ap (λ l. (if here then user_fault fabric (user_of write) ram.wclk else []) ++ l) rest)
         ∙ sym (ram-more ram rams here refl))
 

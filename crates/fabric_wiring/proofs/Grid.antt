@@ -32,11 +32,11 @@ record IsFirstPlace {A : Type 0} (n : ℕ) (given : ℕ → Option A) (value : A
 -- where the places before the last give that
 place-by : {A : Type 0} (n : ℕ) (given : ℕ → Option A) (value : A) (first : Option A) → first_below n given ≡ first
     → ((v : A) → first_below n given ≡ Some v → IsFirstPlace n given v) → or_else first (given n) ≡ Some value → IsFirstPlace (suc n) given value
-place-by n given value None none behind is =
+place-by n given value None none after is =
     record { place = n; within = omega arith; gives = is; before = λ k less. first_below-clear n k given none less }
-place-by n given value (Some earlier) some behind is =
+place-by n given value (Some earlier) some after is =
     let same : earlier ≡ value = cc in
-    let found = behind value (some ∙ ap Some same) in
+    let found = after value (some ∙ ap Some same) in
     record { place = found.place; within = omega (arith, found.within); gives = found.gives; before = found.before }
 
 first-place : {A : Type 0} (n : ℕ) (given : ℕ → Option A) (value : A) → first_below n given ≡ Some value → IsFirstPlace n given value

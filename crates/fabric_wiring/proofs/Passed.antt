@@ -66,13 +66,13 @@ second-told count class drive first given more (Some kept) is within one least =
             before = λ other before. ap (λ drives. drivers_fault other (map drive_of drives)) (is.away other (λ same. omega (arith, same, before))) ∙ least.before other (omega (arith, before, below));
           })
       | inr no_less ↦ rw no_less (
-          let behind : kept.net ≤ class = ltb-false class kept.net no_less in
+          let after : kept.net ≤ class = ltb-false class kept.net no_less in
           let clear : fault_in given class ≡ [] = ap (λ drives. drivers_fault class (map drive_of drives)) one in
           let apart : class ≡ kept.net → ⊥ = λ same. let both : fault_in given kept.net ≡ [] = subst (λ net. fault_in given net ≡ []) same clear in absurd (cc (both, least.here)) in
           record {
             within = least.within;
             here = ap (λ drives. drivers_fault kept.net (map drive_of drives)) (is.away kept.net apart) ∙ least.here;
-            before = λ other before. ap (λ drives. drivers_fault other (map drive_of drives)) (is.away other (λ same. omega (arith, same, before, behind))) ∙ least.before other before;
+            before = λ other before. ap (λ drives. drivers_fault other (map drive_of drives)) (is.away other (λ same. omega (arith, same, before, after))) ∙ least.before other before;
           })
     ]
 

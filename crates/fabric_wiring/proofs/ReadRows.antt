@@ -16,7 +16,7 @@ use Rattle.fabric_model.specs.Drivers.Rule.{input, majority_of}
 use Rattle.graph_order.specs.Wiring.{depends, has}
 use Rattle.fabric_model.specs.Wiring.{wiring_of as wiring_of_fabric}
 use Rattle.fabric_model.proofs.Joins.{class_of-le}
-use Rattle.graph_order.proofs.OneOrder.{has-none, has-first, has-behind, has-cases}
+use Rattle.graph_order.proofs.OneOrder.{has-none, has-first, has-after, has-cases}
 use Rattle.fabric_model.proofs.OneValue.{IsWithin, depends-driven, driven-below, none-driven, driven-is, count-is}
 use Rattle.graph_order.specs.Rows.{lists_of, row_at, is_marked, wiring_of}
 use Rattle.graph_order.proofs.Rows.{lists-length}
@@ -76,7 +76,7 @@ has-changed change [] n found = absurd (has-none n found)
 has-changed change (first ∷ rest) n found =
     elim (has-cases (change first) (map change rest) n found) [
       | inl here ↦ (first, has-first first rest, here)
-      | inr behind ↦ let more = has-changed change rest n behind in (more.0, has-behind first rest more.0 more.1, more.2)
+      | inr after ↦ let more = has-changed change rest n after in (more.0, has-after first rest more.0 more.1, more.2)
     ]
 
 module _ (fabric : Fabric) where

@@ -2,7 +2,7 @@
 ghost use Rattle.std.specs.Prelude.{◌≡◌, ◌++◌, ◌∷◌, [], None, map, flat_map, if◌then◌else◌, IfOk, OnOk};
 ghost use Rattle.fabric_model.specs.PinTypes.{has_table};
 ghost use Rattle.fabric_model.specs.Signals.{net_or_0};
-ghost use Rattle.fabric_model.specs.Drivers.{data_by_table, pad_by_table};
+ghost use Rattle.fabric_model.specs.Drivers.{data_by_table, in_0_if_in_2, in_1_if_in_2, pad_by_table};
 ghost use Rattle.fabric_wiring.specs.Drives.{drive_of};
 ghost use Rattle.fabric_wiring.specs.Outputs.{data_from, pad_from};
 
@@ -35,7 +35,7 @@ fn has_table(sends: PadData) -> bool
 
 /// The LUT that gives one of two registers, by the clock.
 fn double_table(pin: Pin, first: Signal, second: Signal) -> LutTable
-    ensures { result ≡ record { word = if pin.neg then 44204 else 51914; ins = second ∷ first ∷ net_or_0 pin.outclk ∷ net_or_0 None ∷ [] } }
+    ensures { result ≡ record { word = if pin.neg then in_0_if_in_2 else in_1_if_in_2; ins = second ∷ first ∷ net_or_0 pin.outclk ∷ net_or_0 None ∷ [] } }
 {
     LutTable {
         word: if pin.neg { IN_0_IF_IN_2 } else { IN_1_IF_IN_2 },

@@ -60,9 +60,9 @@ module _ (wiring : Wiring) where
 
   pub back-one : (trail : List Found) (place : ℕ) (way more : List ℕ) → IsTrail wiring.reads trail → 0 < place → place < length trail
       → more ≡ way ++ node_at trail place ∷ [] → LeadsBack trail place way → LeadsBack trail (from_at trail place) more
-  back-one trail place way more is behind within next leads =
+  back-one trail place way more is following within next leads =
       let turned : reverse more ≡ node_at trail place ∷ reverse way = ap reverse next ∙ reverse-append way (node_at trail place ∷ []) in
-      subst (λ list. IsPath wiring (node_at trail (from_at trail place)) list (node_at trail 0)) (sym turned) (is.in_row place behind within, leads)
+      subst (λ list. IsPath wiring (node_at trail (from_at trail place)) list (node_at trail 0)) (sym turned) (is.in_row place following within, leads)
 
   pub back-whole : (trail : List Found) (way more : List ℕ) → more ≡ way ++ node_at trail 0 ∷ [] → LeadsBack trail 0 way → IsCycle wiring (reverse more)
   back-whole trail way more next leads =

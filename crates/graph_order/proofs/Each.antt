@@ -33,12 +33,12 @@ pub any-has : (test : ℕ → Bool) (list : List ℕ) (n : ℕ) → has list n �
 any-has test [] n found passes = absurd (has-none n found)
 any-has test (first ∷ rest) n found passes = elim (has-cases first rest n found) [
   | inl here ↦ or_left (test first) _ (ap test here ∙ passes)
-  | inr behind ↦ or_right (test first) _ (any-has test rest n behind passes)
+  | inr following ↦ or_right (test first) _ (any-has test rest n following passes)
 ]
 
 pub all-passes : (test : ℕ → Bool) (list : List ℕ) (n : ℕ) → list_all test list ≡ true → has list n ≡ true → test n ≡ true
 all-passes test [] n all found = absurd (has-none n found)
 all-passes test (first ∷ rest) n all found = elim (has-cases first rest n found) [
   | inl here ↦ ap test (sym here) ∙ first_true (test first) _ all
-  | inr behind ↦ all-passes test rest n (second_true (test first) _ all) behind
+  | inr following ↦ all-passes test rest n (second_true (test first) _ all) following
 ]

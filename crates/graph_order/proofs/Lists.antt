@@ -4,19 +4,19 @@ use Rattle.std.specs.declared.vec.Vec.{Vec}
 use Rattle.std.proofs.lemmas.Bool.{cases_lt}
 use Rattle.std.proofs.lemmas.List.{get_or-map}
 use Rattle.graph_order.specs.Wiring.{has}
-use Rattle.graph_order.proofs.OneOrder.{has-none, has-first, has-behind, has-cases}
+use Rattle.graph_order.proofs.OneOrder.{has-none, has-first, has-after, has-cases}
 use Rattle.graph_order.specs.Rows.{row_at}
 
 -- a list has what stands in it
 pub has-at : (list : List ℕ) (place : ℕ) → place < length list → has list (get_or list place 0) ≡ true
 has-at [] place within = absurd (omega arith)
 has-at (first ∷ rest) zero within = has-first first rest
-has-at (first ∷ rest) (suc place) within = has-behind first rest (get_or rest place 0) (has-at rest place (omega arith))
+has-at (first ∷ rest) (suc place) within = has-after first rest (get_or rest place 0) (has-at rest place (omega arith))
 
 -- where a number stands in a list, from a place on
 pub record StandsFrom (list : List ℕ) (from n : ℕ) : Type 0 where
   pub place : ℕ
-  pub behind : from ≤ place
+  pub following : from ≤ place
   pub within : place < length list
   pub here : get_or list place 0 ≡ n
 
@@ -24,19 +24,19 @@ pub has-place : (list : List ℕ) (n : ℕ) → has list n ≡ true → StandsFr
 has-place [] n found = absurd (has-none n found)
 has-place (first ∷ rest) n found =
     elim (has-cases first rest n found) [
-      | inl here ↦ record { place = 0; behind = omega arith; within = omega arith; here = here }
-      | inr behind ↦
-          let there = has-place rest n behind in
-          record { place = suc there.place; behind = omega arith; within = omega (arith, there.within); here = there.here }
+      | inl here ↦ record { place = 0; following = omega arith; within = omega arith; here = here }
+      | inr following ↦
+          let there = has-place rest n following in
+          record { place = suc there.place; following = omega arith; within = omega (arith, there.within); here = there.here }
     ]
 
 -- at the place, or after it
 pub stands-next : (list : List ℕ) (from n : ℕ) → StandsFrom list from n → (get_or list from 0 ≡ n) ⊎ StandsFrom list (suc from) n
 stands-next list from n there =
     elim (cases_lt from there.place) [
-      | inl less ↦ inr (record { place = there.place; behind = omega arith; within = there.within; here = there.here })
+      | inl less ↦ inr (record { place = there.place; following = omega arith; within = there.within; here = there.here })
       | inr more ↦
-          let same : there.place ≡ from = omega (arith, there.behind) in
+          let same : there.place ≡ from = omega (arith, there.following) in
           inl (ap (λ k. get_or list k 0) (sym same) ∙ there.here)
     ]
 
@@ -46,20 +46,20 @@ has-kept [] last n found = absurd (has-none n found)
 has-kept (first ∷ rest) last n found =
     elim (has-cases first rest n found) [
       | inl here ↦ subst (λ k. has (first ∷ (rest ++ last ∷ [])) k ≡ true) here (has-first first (rest ++ last ∷ []))
-      | inr behind ↦ has-behind first (rest ++ last ∷ []) n (has-kept rest last n behind)
+      | inr following ↦ has-after first (rest ++ last ∷ []) n (has-kept rest last n following)
     ]
 
 pub has-last : (list : List ℕ) (last : ℕ) → has (list ++ last ∷ []) last ≡ true
 has-last [] last = has-first last []
-has-last (first ∷ rest) last = has-behind first (rest ++ last ∷ []) last (has-last rest last)
+has-last (first ∷ rest) last = has-after first (rest ++ last ∷ []) last (has-last rest last)
 
 pub has-split : (list : List ℕ) (last n : ℕ) → has (list ++ last ∷ []) n ≡ true → (has list n ≡ true) ⊎ (last ≡ n)
 has-split [] last n found =
-    elim (has-cases last [] n found) [ inl here ↦ inr here | inr behind ↦ absurd (has-none n behind) ]
+    elim (has-cases last [] n found) [ inl here ↦ inr here | inr following ↦ absurd (has-none n following) ]
 has-split (first ∷ rest) last n found =
     elim (has-cases first (rest ++ last ∷ []) n found) [
       | inl here ↦ inl (subst (λ k. has (first ∷ rest) k ≡ true) here (has-first first rest))
-      | inr behind ↦ elim (has-split rest last n behind) [ inl there ↦ inl (has-behind first rest n there) | inr here ↦ inr here ]
+      | inr following ↦ elim (has-split rest last n following) [ inl there ↦ inl (has-after first rest n there) | inr here ↦ inr here ]
     ]
 
 -- what stands in a row is the row's part of the lists

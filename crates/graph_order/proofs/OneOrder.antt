@@ -14,9 +14,9 @@ pub has-first : (first : ℕ) (rest : List ℕ) → has (first ∷ rest) first �
 unfolding has
 has-first first rest = rw (eq-eqb first first refl) refl
 
-pub has-behind : (first : ℕ) (rest : List ℕ) (n : ℕ) → has rest n ≡ true → has (first ∷ rest) n ≡ true
+pub has-after : (first : ℕ) (rest : List ℕ) (n : ℕ) → has rest n ≡ true → has (first ∷ rest) n ≡ true
 unfolding has
-has-behind first rest n found = elim (cases_Bool (first == n)) [ inl here ↦ rw here refl | inr away ↦ rw away found ]
+has-after first rest n found = elim (cases_Bool (first == n)) [ inl here ↦ rw here refl | inr away ↦ rw away found ]
 
 -- another number than the first
 pub has-other : (first : ℕ) (rest : List ℕ) (n : ℕ) → (first == n) ≡ false → has (first ∷ rest) n ≡ has rest n
@@ -63,7 +63,7 @@ continues-one (next least rest) (whole all) = absurd (cc (all _ least.ready.with
 continues-one {wiring} {before} (next {node = a} {rest = one} least rest) (next {node = b} {rest = two} other more) =
     let same : b ≡ a = least-one wiring (has before) b a other least in
     let moved : Continues wiring (a ∷ before) two = subst (λ node. Continues wiring (node ∷ before) two) same more in
-    let behind : one ≡ two = continues-one rest moved in
+    let following : one ≡ two = continues-one rest moved in
     cc
 
 moved-test : (here before part : Bool) → (before || cond here true part) ≡ (cond here true before || part)

@@ -7,7 +7,7 @@ use Rattle.index_search.specs.Places.{least_below}
 use Rattle.index_search.proofs.Found.{least_below-place, least_below-clear}
 use Rattle.graph_order.specs.Wiring.{Wiring, has, leads_below, is_on_cycle, IsReady, IsLeastReady, IsWriteOrder}
 use Rattle.graph_order.proofs.Cycles.{IsBounded, leads_below-then, leads_below-step}
-use Rattle.graph_order.proofs.OneOrder.{has-first, has-behind, has-cases, Continues, order-continues, continues-order}
+use Rattle.graph_order.proofs.OneOrder.{has-first, has-after, has-cases, Continues, order-continues, continues-order}
 use Rattle.graph_order.proofs.OneOrder.Continues.{whole, next}
 
 -- ---- how many numbers below a bound pass
@@ -83,14 +83,14 @@ each-so [] test n all found = absurd cc
 each-so (first ∷ rest) test n all found =
     elim (has-cases first rest n found) [
       | inl here ↦ ap test (sym here) ∙ first_true _ _ all
-      | inr behind ↦ each-so rest test n (second_true _ _ all) behind
+      | inr following ↦ each-so rest test n (second_true _ _ all) following
     ]
 
 each-from : (list : List ℕ) (test : ℕ → Bool) → ((n : ℕ) → has list n ≡ true → test n ≡ true) → each list test ≡ true
 unfolding each
 each-from [] test all = refl
 each-from (first ∷ rest) test all =
-    and_from _ _ (all first (has-first first rest)) (each-from rest test (λ n found. all n (has-behind first rest n found)))
+    and_from _ _ (all first (has-first first rest)) (each-from rest test (λ n found. all n (has-after first rest n found)))
 
 -- a driven node that isn't listed
 pub is_left : Wiring → (ℕ → Bool) → ℕ → Bool
@@ -234,7 +234,7 @@ module _ (wiring : Wiring) (open_ : (node : ℕ) → node < wiring.count → lea
 pub still-left : (wiring : Wiring) (node : ℕ) (before : List ℕ) (other : ℕ) → is_left wiring (has (node ∷ before)) other ≡ true → is_left wiring (has before) other ≡ true
 still-left wiring node before other left =
     left-from wiring (has before) other (left-driven wiring (has (node ∷ before)) other left)
-    (false_from_ne_true _ (λ listed. absurd (cc (has-behind node before other listed, left-fresh wiring (has (node ∷ before)) other left))))
+    (false_from_ne_true _ (λ listed. absurd (cc (has-after node before other listed, left-fresh wiring (has (node ∷ before)) other left))))
 
 pub gone-left : (wiring : Wiring) (node : ℕ) (before : List ℕ) → is_left wiring (has (node ∷ before)) node ≡ false
 gone-left wiring node before = false_from_ne_true _ (λ left. absurd (cc (has-first node before, left-fresh wiring (has (node ∷ before)) node left)))

@@ -5,7 +5,7 @@ use Rattle.std.specs.Prelude.{◌==◌}
 use Rattle.std.proofs.lemmas.Bool.{cases_Bool, eqb-true, false_from_ne_true}
 use Rattle.graph_order.specs.Wiring.{Wiring, has, depends, IsReady, IsWriteOrder}
 use Rattle.graph_order.proofs.Cycles.{IsBounded}
-use Rattle.graph_order.proofs.OneOrder.{has-none, has-first, has-behind, has-other, has-cases, Continues, order-continues}
+use Rattle.graph_order.proofs.OneOrder.{has-none, has-first, has-after, has-other, has-cases, Continues, order-continues}
 use Rattle.graph_order.proofs.OneOrder.Continues.{whole, next}
 
 abbrev pub Rules : Type 0
@@ -40,7 +40,7 @@ module _ (wiring : Wiring) (bounded : IsBounded wiring) (rules : Rules) (reads :
     agree-from {before} (next {node = first} least rest) same node driven =
         agree-from rest (λ k listed. elim (has-cases first before k listed) [
           | inl here ↦ subst (λ c. one c ≡ two c) here (agree-at (has before) first least.ready same)
-          | inr behind ↦ same k behind
+          | inr following ↦ same k following
         ]) node driven
 
     pub settled-one : (order : List ℕ) → IsWriteOrder wiring order → (node : ℕ) → one node ≡ two node
@@ -92,7 +92,7 @@ module _ (wiring : Wiring) (bounded : IsBounded wiring) (rules : Rules) (reads :
     inputs-listed k other listed input drives =
         elim (has-cases node before k listed) [
           | inl here ↦ ready.inputs other (subst (λ c. depends wiring c other ≡ true) (sym here) input) drives
-          | inr behind ↦ kept.closed k other behind input drives
+          | inr following ↦ kept.closed k other following input drives
         ]
 
     -- so it stays
@@ -107,7 +107,7 @@ module _ (wiring : Wiring) (bounded : IsBounded wiring) (rules : Rules) (reads :
     driven-more k listed =
         elim (has-cases node before k listed) [
           | inl here ↦ subst (λ c. wiring.driven c ≡ true) here ready.driven
-          | inr behind ↦ kept.driven k behind
+          | inr following ↦ kept.driven k following
         ]
 
     rule-same : (k : ℕ) → has (node ∷ before) k ≡ true → rules k (settle (node ∷ before)) ≡ rules k (settle before)
@@ -118,7 +118,7 @@ module _ (wiring : Wiring) (bounded : IsBounded wiring) (rules : Rules) (reads :
         elim (has-cases node before k listed) [
           | inl here ↦ subst (λ c. settle (node ∷ before) c ≡ rules c (settle (node ∷ before))) here
               (settle-here node before ∙ sym (rule-same node (has-first node before)))
-          | inr behind ↦ settle-other node before k (apart-listed k behind) ∙ (kept.done k behind ∙ sym (rule-same k listed))
+          | inr following ↦ settle-other node before k (apart-listed k following) ∙ (kept.done k following ∙ sym (rule-same k listed))
         ]
 
     undone-more : (k : ℕ) → has (node ∷ before) k ≡ false → settle (node ∷ before) k ≡ false
@@ -131,7 +131,7 @@ module _ (wiring : Wiring) (bounded : IsBounded wiring) (rules : Rules) (reads :
     kept-more = record {
       done = done-more;
       undone = undone-more;
-      closed = λ k other listed input drives. has-behind node before other (inputs-listed k other listed input drives);
+      closed = λ k other listed input drives. has-after node before other (inputs-listed k other listed input drives);
       driven = driven-more;
     }
 

@@ -32,8 +32,8 @@ pub adds-none : (row : List ℕ) (from : ℕ) (marks : List Bool) (trail : List 
 adds-none row from marks trail = record {
   longer = omega arith;
   kept = λ place within. refl;
-  from_here = λ place behind within. absurd (omega arith);
-  in_row = λ place behind within. absurd (omega arith);
+  from_here = λ place following within. absurd (omega arith);
+  in_row = λ place following within. absurd (omega arith);
   still_marked = λ node so. so;
   listed = λ node so unset. absurd (cc (so, unset));
   few = omega arith;
@@ -44,7 +44,7 @@ pub push-before : (trail : List Found) (last : Found) (place : ℕ) → place < 
 push-before trail last place within = get_or-append trail (last ∷ []) nowhere place within
 
 pub push-here : (trail : List Found) (last : Found) (place : ℕ) → length trail ≤ place → place < length (trail ++ last ∷ []) → get_or (trail ++ last ∷ []) place nowhere ≡ last
-push-here trail last place behind within =
+push-here trail last place following within =
     let long = length-append trail (last ∷ []) in
     let same : length trail ≡ place = omega (arith, long) in
     subst (λ k. get_or (trail ++ last ∷ []) k nowhere ≡ last) same (get_or-append_seam trail last [] nowhere)
@@ -67,12 +67,12 @@ module _ (row : List ℕ) (old marks : List Bool) (trail grown : List Found) (on
       record {
         longer = omega (arith, long, adds.longer);
         kept = λ place less. push-before grown one place (omega (arith, adds.longer)) ∙ adds.kept place less;
-        from_here = λ place behind less. elim (cases_lt place (length grown)) [
-          | inl before ↦ ap (λ (f : Found). f.from) (push-before grown one place before) ∙ adds.from_here place behind before
+        from_here = λ place following less. elim (cases_lt place (length grown)) [
+          | inl before ↦ ap (λ (f : Found). f.from) (push-before grown one place before) ∙ adds.from_here place following before
           | inr after ↦ ap (λ (f : Found). f.from) (push-here grown one place after less)
         ];
-        in_row = λ place behind less. elim (cases_lt place (length grown)) [
-          | inl before ↦ ap (λ (f : Found). has row f.node) (push-before grown one place before) ∙ adds.in_row place behind before
+        in_row = λ place following less. elim (cases_lt place (length grown)) [
+          | inl before ↦ ap (λ (f : Found). has row f.node) (push-before grown one place before) ∙ adds.in_row place following before
           | inr after ↦ ap (λ (f : Found). has row f.node) (push-here grown one place after less) ∙ in_row
         ];
         still_marked = λ node so. still-marked marks one.node node within (adds.still_marked node so);
@@ -95,7 +95,7 @@ search-first row start old trail within is =
     let one : Found = record { node = start; from = 0 } in
     let marks = marked old start within in
     subst (λ t. IsSearch row start old (set old start true) 0 t) (sym is) (record {
-      leads = record { before = λ place behind less. absurd (omega arith); in_row = λ place behind less. absurd (omega arith) };
+      leads = record { before = λ place following less. absurd (omega arith); in_row = λ place following less. absurd (omega arith) };
       some = omega arith;
       first = refl;
       below = λ place less. let same : 0 ≡ place = omega arith in subst (λ k. node_at (one ∷ []) k < length old) same within;
@@ -117,20 +117,20 @@ module _ (row : ℕ → List ℕ) (start : ℕ) (old marks new : List Bool) (don
   from-kept place less = ap (λ (f : Found). f.from) (adds.kept place less)
 
   before-more : (place : ℕ) → 0 < place → place < length grown → from_at grown place < place
-  before-more place behind less = elim (cases_lt place (length trail)) [
-    | inl before ↦ omega (arith, from-kept place before, so_far.leads.before place behind before)
+  before-more place following less = elim (cases_lt place (length trail)) [
+    | inl before ↦ omega (arith, from-kept place before, so_far.leads.before place following before)
     | inr after ↦ omega (arith, adds.from_here place after less)
   ]
 
   in_row-more : (place : ℕ) → 0 < place → place < length grown → has (row (node_at grown (from_at grown place))) (node_at grown place) ≡ true
-  in_row-more place behind less = elim (cases_lt place (length trail)) [
+  in_row-more place following less = elim (cases_lt place (length trail)) [
     | inl before ↦
-        let earlier = so_far.leads.before place behind before in
+        let earlier = so_far.leads.before place following before in
         let from : node_at grown (from_at grown place) ≡ node_at trail (from_at trail place) =
         ap (node_at grown) (from-kept place before) ∙ node-kept (from_at trail place) (omega (arith, earlier)) in
         ap (λ k. has (row k) (node_at grown place)) from
         ∙ ap (has (row (node_at trail (from_at trail place)))) (node-kept place before)
-        ∙ so_far.leads.in_row place behind before
+        ∙ so_far.leads.in_row place following before
     | inr after ↦
         let from : node_at grown (from_at grown place) ≡ node_at trail done = ap (node_at grown) (adds.from_here place after less) ∙ node-kept done within in
         ap (λ k. has (row k) (node_at grown place)) from ∙ adds.in_row place after less

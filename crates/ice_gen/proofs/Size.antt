@@ -397,8 +397,8 @@ module _ (device : DeviceName) (n : ℕ) (few : n < 1000000) where
 -- ---- buffers and the head
 
 -- a line and a word after it
-word-behind : (line word : List ℕ) (a b : ℕ) → length line ≤ a → length word ≤ b → length (with_word line word) ≤ a + b + 1
-word-behind line word a b one two = omega (arith, one, two, length-append line (32 ∷ word))
+word-after : (line word : List ℕ) (a b : ℕ) → length line ≤ a → length word ≤ b → length (with_word line word) ≤ a + b + 1
+word-after line word a b one two = omega (arith, one, two, length-append line (32 ∷ word))
 
 bit-length : (row col : ℕ) → row < 1000000 → col < 1000000 → length (bit_word row col) ≤ 15
 bit-length row col low near =
@@ -406,12 +406,12 @@ bit-length row col low near =
 
 grid-length : (keyword : List ℕ) (x y a : ℕ) → x < 1000000 → y < 1000000 → length keyword ≤ a → length (grid_line keyword x y) ≤ a + 14
 grid-length keyword x y a small_x small_y short =
-    let one = word-behind keyword (decimal x) a 6 short (few-digits x small_x) in
-    let two = word-behind (with_word keyword (decimal x)) (decimal y) (a + 6 + 1) 6 one (few-digits y small_y) in
+    let one = word-after keyword (decimal x) a 6 short (few-digits x small_x) in
+    let two = word-after (with_word keyword (decimal x)) (decimal y) (a + 6 + 1) 6 one (few-digits y small_y) in
     omega (arith, two)
 
 buffer-length : (x y net : ℕ) → x < 1000000 → y < 1000000 → net < 1000000 → length (buffer_line x y net) ≤ 28
-buffer-length x y net small_x small_y small = word-behind (grid_line (codes ".buffer") x y) (decimal net) 21 6 (grid-length (codes ".buffer") x y 7 small_x small_y (lit≤ tt)) (few-digits net small)
+buffer-length x y net small_x small_y small = word-after (grid_line (codes ".buffer") x y) (decimal net) 21 6 (grid-length (codes ".buffer") x y 7 small_x small_y (lit≤ tt)) (few-digits net small)
 
 in_0-size : (device : DeviceName) (x y j i : ℕ) → x < 34 → y < 34 → j < 10000 → i < 8 → size (in_0_lines device x y j i) ≤ 100
 unfolding in_0_lines
@@ -419,15 +419,15 @@ in_0-size device x y j i small_x small_y small_j small_i =
     let net : in_0_net device j < 1000000 = in_0-small device j small_j in
     let far : far_net j < 1000000 = grind (arith, nat_tests) in
     let one = buffer-length x y (in_0_net device j) (omega arith) (omega arith) net in
-    let two = word-behind (buffer_line x y (in_0_net device j)) (bit_word (2 * i) 0) 28 15 one (bit-length (2 * i) 0 (omega arith) (omega arith)) in
-    let three = word-behind (with_word (buffer_line x y (in_0_net device j)) (bit_word (2 * i) 0)) (bit_word (2 * i + 1) 0) 44 15 two (bit-length (2 * i + 1) 0 (omega arith) (omega arith)) in
+    let two = word-after (buffer_line x y (in_0_net device j)) (bit_word (2 * i) 0) 28 15 one (bit-length (2 * i) 0 (omega arith) (omega arith)) in
+    let three = word-after (with_word (buffer_line x y (in_0_net device j)) (bit_word (2 * i) 0)) (bit_word (2 * i + 1) 0) 44 15 two (bit-length (2 * i + 1) 0 (omega arith) (omega arith)) in
     let near_line = with_word (codes "10") (decimal (near_net j)) in
     let far_line = with_word (codes "01") (decimal (far_net j)) in
     omega (
       arith,
       three,
-      word-behind (codes "10") (decimal (near_net j)) 2 6 (lit≤ tt) (few-digits (near_net j) (omega arith)),
-      word-behind (codes "01") (decimal (far_net j)) 2 6 (lit≤ tt) (few-digits (far_net j) far),
+      word-after (codes "10") (decimal (near_net j)) 2 6 (lit≤ tt) (few-digits (near_net j) (omega arith)),
+      word-after (codes "01") (decimal (far_net j)) 2 6 (lit≤ tt) (few-digits (far_net j) far),
       size-append (in_0_statement device x y j i ∷ []) (near_line ∷ far_line ∷ []),
       size-append (near_line ∷ []) (far_line ∷ []),
       size-one (in_0_statement device x y j i),
@@ -441,10 +441,10 @@ in_3-size device x y j i small_x small_y small_j small_i =
     let net : in_3_net device j < 1000000 = in_3-small device j small_j in
     let read : read_net device j 0 < 1000000 = read-small device j small_j in
     let one = buffer-length x y (in_3_net device j) (omega arith) (omega arith) net in
-    let two = word-behind (buffer_line x y (in_3_net device j)) (bit_word (2 * i) 1) 28 15 one (bit-length (2 * i) 1 (omega arith) (omega arith)) in
+    let two = word-after (buffer_line x y (in_3_net device j)) (bit_word (2 * i) 1) 28 15 one (bit-length (2 * i) 1 (omega arith) (omega arith)) in
     let statement = with_word (buffer_line x y (in_3_net device j)) (bit_word (2 * i) 1) in
     let choice = with_word (codes "1") (decimal (read_net device j 0)) in
-    omega (arith, two, word-behind (codes "1") (decimal (read_net device j 0)) 1 6 (lit≤ tt) (few-digits (read_net device j 0) read), size-append (statement ∷ []) (choice ∷ []), size-one statement, size-one choice)
+    omega (arith, two, word-after (codes "1") (decimal (read_net device j 0)) 1 6 (lit≤ tt) (few-digits (read_net device j 0) read), size-append (statement ∷ []) (choice ∷ []), size-one statement, size-one choice)
 
 in_3-size-below : (device : DeviceName) (x y j i : ℕ) → x < 34 → y < 34 → j < 10000 → i < 8 → size (in_3_lines_below device x y j i) ≤ 100
 in_3-size-below device x y j i small_x small_y small_j small_i = go (nat_lt j (rams device))
@@ -504,7 +504,7 @@ cell-length i small =
 
 pin-length : (k : ℕ) → k < 6 → length (pin_type_line k) ≤ 36
 pin-length k small =
-    word-behind (codes "IOB_0.PINTYPE_" ++ decimal k) (bit_word k 0) 20 15 (let digits = few-digits k (omega arith) in omega (arith, digits, length-append (codes "IOB_0.PINTYPE_") (decimal k))) (bit-length k 0 (omega arith) (omega arith))
+    word-after (codes "IOB_0.PINTYPE_" ++ decimal k) (bit_word k 0) 20 15 (let digits = few-digits k (omega arith) in omega (arith, digits, length-append (codes "IOB_0.PINTYPE_") (decimal k))) (bit-length k 0 (omega arith) (omega arith))
 
 name-length : (device : DeviceName) → length (with_word device_keyword (device_word device)) ≤ 11
 name-length Lp384 = lit≤ tt
@@ -521,12 +521,12 @@ device-length device =
     let name = with_word device_keyword (device_word device) in
     let wide : grid_width device < 1000000 = omega (arith, grid_width-le device) in
     let high : grid_height device < 1000000 = omega (arith, grid_height-le device) in
-    word-behind (grid_line name (grid_width device) (grid_height device)) (decimal (nets device)) 25 6 (grid-length name (grid_width device) (grid_height device) 11 wide high (name-length device)) (few-digits (nets device) (omega (arith, nets-few device)))
+    word-after (grid_line name (grid_width device) (grid_height device)) (decimal (nets device)) 25 6 (grid-length name (grid_width device) (grid_height device) 11 wide high (name-length device)) (few-digits (nets device) (omega (arith, nets-few device)))
 
 pad-length : (device : DeviceName) → length (pad_drive_line device) ≤ 40
-pad-length Lp384 = grid-length (with_word (codes "padin_glb_netwk.0") (decimal 0)) 180 79 26 (lit< tt) (lit< tt) (word-behind (codes "padin_glb_netwk.0") (decimal 0) 19 6 (lit≤ tt) (few-digits 0 (lit< tt)))
-pad-length Hx1k = grid-length (with_word (codes "padin_glb_netwk.0") (decimal 0)) 330 143 26 (lit< tt) (lit< tt) (word-behind (codes "padin_glb_netwk.0") (decimal 0) 19 6 (lit≤ tt) (few-digits 0 (lit< tt)))
-pad-length Hx8k = grid-length (with_word (codes "padin_glb_netwk.0") (decimal 0)) 870 271 26 (lit< tt) (lit< tt) (word-behind (codes "padin_glb_netwk.0") (decimal 0) 19 6 (lit≤ tt) (few-digits 0 (lit< tt)))
+pad-length Lp384 = grid-length (with_word (codes "padin_glb_netwk.0") (decimal 0)) 180 79 26 (lit< tt) (lit< tt) (word-after (codes "padin_glb_netwk.0") (decimal 0) 19 6 (lit≤ tt) (few-digits 0 (lit< tt)))
+pad-length Hx1k = grid-length (with_word (codes "padin_glb_netwk.0") (decimal 0)) 330 143 26 (lit< tt) (lit< tt) (word-after (codes "padin_glb_netwk.0") (decimal 0) 19 6 (lit≤ tt) (few-digits 0 (lit< tt)))
+pad-length Hx8k = grid-length (with_word (codes "padin_glb_netwk.0") (decimal 0)) 870 271 26 (lit< tt) (lit< tt) (word-after (codes "padin_glb_netwk.0") (decimal 0) 19 6 (lit≤ tt) (few-digits 0 (lit< tt)))
 
 head-size : (device : DeviceName) → size (head_lines device) ≤ 5000
 unfolding head_lines

@@ -1,4 +1,4 @@
-// Which bits of a run are the columns of a tile's row.
+// Which bits of a run are the columns of a tile's row. The columns of an io tile have an order of their own in it.
 ghost use Rattle.std.specs.Prelude.{◌≡◌, ℕ, ◌^◌, ◌<◌, slice_index};
 ghost use Rattle.bit_plane.specs.BitList.{word_of};
 ghost use Rattle.bit_plane.specs.Rows.{row_from};

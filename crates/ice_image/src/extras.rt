@@ -1,4 +1,6 @@
-// The set bits of the configuration planes that belong to no tile.
+// The set bits of the configuration planes that belong to no tile, looked for by words. The places that belong to tiles are marked in planes of
+// their own, in two rows of each bank, since all rows of inner tiles have the same columns, and those of the end rows too. Only a set bit that
+// isn't marked is looked at.
 ghost use Rattle.std.specs.Prelude.{◌≡◌, ℕ, ◌+◌, ◌-◌, ◌^◌, ◌<◌, ◌≤◌, [], ◌∷◌, ◌++◌, true, false, nat_lt, if◌then◌else◌, IfOk, MatchOption};
 ghost use Rattle.plane_map.specs.Layout.{IsLayout, IsInCram, columns_at, cram_height};
 ghost use Rattle.ice_image.specs.Bits.{number_bit};

@@ -73,7 +73,7 @@ impl Room {
 }
 
 impl Sink for Room {
-    // No write changes the size. A caller learns this since what is held is seen behind the size.
+    // No write changes the size. A caller learns this since what is held is seen after the size.
     ghost held = { λ s. Some (s.size ∷ s.held) };
 
     ghost faults = { λ s. s.faults };

@@ -32,9 +32,9 @@ module _ (all : Bool) (db : Database) (image : Configuration) where
   unfolding stat_fault device_faults
   with-device other = rw (other-device db.chip.device image.layout.device other) refl
 
-  behind-device : db.chip.device ≡ image.layout.device → stat_fault all db image ≡ or_else (pins_fault all db image) (rams_fault db image)
+  after-device : db.chip.device ≡ image.layout.device → stat_fault all db image ≡ or_else (pins_fault all db image) (rams_fault db image)
   unfolding stat_fault
-  behind-device same = rw (no-device same) refl
+  after-device same = rw (no-device same) refl
 
   pub links-cause : (fault : LinkFault) → ((fault ≡ links.Device) ↔ (¬ (db.chip.device ≡ image.layout.device))) → IsCause (stat_fault all db image) (of_links fault)
   links-cause links.Device tells = with-device (tells.0 refl)
@@ -42,7 +42,7 @@ module _ (all : Bool) (db : Database) (image : Configuration) where
 
   module _ (same : db.chip.device ≡ image.layout.device) where
     pins-refuse : (cause : Fault) → pins_fault all db image ≡ Some cause → stat_fault all db image ≡ Some cause
-    pins-refuse cause is = behind-device same ∙ rw is refl
+    pins-refuse cause is = after-device same ∙ rw is refl
 
     pub plls-cause : (fault : PllFault) → IsPllCause (pll_tile all db image) fault → IsCause (stat_fault all db image) (of_plls fault)
     plls-cause (plls.Pll x y) is = pins-refuse _ (plls-first all db image x y is)
@@ -55,7 +55,7 @@ module _ (all : Bool) (db : Database) (image : Configuration) where
 
     module _ (pins-taken : pins_fault all db image ≡ None) where
       rams-refuse : (cause : Fault) → rams_fault db image ≡ Some cause → stat_fault all db image ≡ Some cause
-      rams-refuse cause is = behind-device same ∙ rw (pins-taken, is) refl
+      rams-refuse cause is = after-device same ∙ rw (pins-taken, is) refl
 
       pub rams-cause : (fault : RamFault) → IsRamCause (rams_fault db image) fault → IsCause (stat_fault all db image) (of_rams fault)
       rams-cause (rams.Cascade x y) is = rams-refuse _ is
@@ -63,4 +63,4 @@ module _ (all : Bool) (db : Database) (image : Configuration) where
 
       -- nothing is wrong if the devices agree and no pin and no RAM is refused
       pub all-taken : rams_fault db image ≡ None → stat_fault all db image ≡ None
-      all-taken rams-taken = behind-device same ∙ rw (pins-taken, rams-taken) refl
+      all-taken rams-taken = after-device same ∙ rw (pins-taken, rams-taken) refl

@@ -27,30 +27,30 @@ after-long first value (Some numbers) many =
     lt-ltb 18 (length (first ++ value ∷ numbers)) (omega (arith, length-append first (value ∷ numbers)))
 
 -- another number was read
-pub numbers-next : (all : Option (List ℕ)) (first word left behind : List ℕ) (value : ℕ)
+pub numbers-next : (all : Option (List ℕ)) (first word left following : List ℕ) (value : ℕ)
     → all ≡ after first (numbers_of (words_of Spaces left))
-    → words_of Spaces left ≡ word ∷ words_of Spaces behind → Some value ≡ number_of word
-    → all ≡ after (first ++ value ∷ []) (numbers_of (words_of Spaces behind))
+    → words_of Spaces left ≡ word ∷ words_of Spaces following → Some value ≡ number_of word
+    → all ≡ after (first ++ value ∷ []) (numbers_of (words_of Spaces following))
 unfolding numbers_of
-numbers-next all first word left behind value is cut number =
-    is ∙ rw (cut, ← number) (after-next first value (numbers_of (words_of Spaces behind)))
+numbers-next all first word left following value is cut number =
+    is ∙ rw (cut, ← number) (after-next first value (numbers_of (words_of Spaces following)))
 
 -- a word is no number
-pub numbers-stopped : (all : Option (List ℕ)) (first word left behind : List ℕ)
+pub numbers-stopped : (all : Option (List ℕ)) (first word left following : List ℕ)
     → all ≡ after first (numbers_of (words_of Spaces left))
-    → words_of Spaces left ≡ word ∷ words_of Spaces behind → None ≡ number_of word
+    → words_of Spaces left ≡ word ∷ words_of Spaces following → None ≡ number_of word
     → is_long all ≡ true
 unfolding numbers_of
-numbers-stopped all first word left behind is cut none = rw (is, cut, ← none) refl
+numbers-stopped all first word left following is cut none = rw (is, cut, ← none) refl
 
 -- a number stands after 18 others
-pub numbers-many : (all : Option (List ℕ)) (first word left behind : List ℕ) (value : ℕ)
+pub numbers-many : (all : Option (List ℕ)) (first word left following : List ℕ) (value : ℕ)
     → all ≡ after first (numbers_of (words_of Spaces left))
-    → words_of Spaces left ≡ word ∷ words_of Spaces behind → Some value ≡ number_of word → nat_le 18 (length first) ≡ true
+    → words_of Spaces left ≡ word ∷ words_of Spaces following → Some value ≡ number_of word → nat_le 18 (length first) ≡ true
     → is_long all ≡ true
 unfolding numbers_of
-numbers-many all first word left behind value is cut number full =
-    rw (is, cut, ← number) (after-long first value (numbers_of (words_of Spaces behind)) (leb-true 18 (length first) full))
+numbers-many all first word left following value is cut number full =
+    rw (is, cut, ← number) (after-long first value (numbers_of (words_of Spaces following)) (leb-true 18 (length first) full))
 
 -- no word is left
 pub numbers-all : (all : Option (List ℕ)) (first left : List ℕ)

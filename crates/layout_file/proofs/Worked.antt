@@ -83,9 +83,9 @@ unfolding layout_fault_of lines_of line_of without_blanks trimmed words_of piece
 passed_over = refl
 
 -- `#` counts only as the first byte
-remark_behind_blank : layout_fault_of (codes " # a\n") ≡ fault 1 Statement
+remark_after_blank : layout_fault_of (codes " # a\n") ≡ fault 1 Statement
 unfolding layout_fault_of lines_of line_of without_blanks trimmed words_of pieces_of numbers_of number_of section_before has_section numbers_before flag_before any_below first_below last_below start_in
-remark_behind_blank = refl
+remark_after_blank = refl
 
 -- a tab parts no words
 tab_between : layout_fault_of (codes ".layout 1k\nflip\tno\n") ≡ fault 2 Statement

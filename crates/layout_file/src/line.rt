@@ -35,7 +35,7 @@ pub(crate) fn line_kind(line: &[u8]) -> LineKind
     }
     match split_word(Separators::Spaces, without_blanks(trimmed(line))) {
         None => LineKind::Passed,
-        Some((word, behind)) => kind_of_words(word, behind),
+        Some((word, following)) => kind_of_words(word, following),
     }
 }
 
@@ -62,44 +62,44 @@ fn without_blanks(line: &[u8]) -> &[u8]
 }
 
 /// What a line says, by its first word and the text after it.
-fn kind_of_words(word: &[u8], behind: &[u8]) -> LineKind
-    ensures { Says result (line_of_words (word.now ∷ words_of Spaces behind.now)) }
+fn kind_of_words(word: &[u8], following: &[u8]) -> LineKind
+    ensures { Says result (line_of_words (word.now ∷ words_of Spaces following.now)) }
 {
     if word == b".layout".as_slice() {
-        return section_kind(behind);
+        return section_kind(following);
     }
     match (Numbers::named(word), Flag::named(word)) {
-        (Some(field), _) => list_kind(field, behind),
-        (None, Some(field)) => answer_kind(field, behind),
+        (Some(field), _) => list_kind(field, following),
+        (None, Some(field)) => answer_kind(field, following),
         (None, None) => LineKind::Unknown,
     }
 }
 
 /// What a line says that begins a section, by the text after its first word.
-fn section_kind(behind: &[u8]) -> LineKind
-    ensures { Says result (section_of (words_of Spaces behind.now)) }
+fn section_kind(following: &[u8]) -> LineKind
+    ensures { Says result (section_of (words_of Spaces following.now)) }
 {
-    match one_word(Separators::Spaces, behind) {
+    match one_word(Separators::Spaces, following) {
         None => LineKind::Unknown,
         Some(word) => LineKind::Section(DeviceName::named(word)),
     }
 }
 
 /// What a line says that names a field of numbers, by the text after its first word.
-fn list_kind(field: Numbers, behind: &[u8]) -> LineKind
-    ensures { Says result (list_line field (numbers_of (words_of Spaces behind.now))) }
+fn list_kind(field: Numbers, following: &[u8]) -> LineKind
+    ensures { Says result (list_line field (numbers_of (words_of Spaces following.now))) }
 {
-    match number_list(behind) {
+    match number_list(following) {
         None => LineKind::Unknown,
         Some(numbers) => LineKind::List(field, numbers),
     }
 }
 
 /// What a line says that names a field of `yes` or `no`, by the text after its first word.
-fn answer_kind(field: Flag, behind: &[u8]) -> LineKind
-    ensures { Says result (flag_line_of field (words_of Spaces behind.now)) }
+fn answer_kind(field: Flag, following: &[u8]) -> LineKind
+    ensures { Says result (flag_line_of field (words_of Spaces following.now)) }
 {
-    match one_word(Separators::Spaces, behind) {
+    match one_word(Separators::Spaces, following) {
         None => LineKind::Unknown,
         Some(word) => match answer(word) {
             None => LineKind::Unknown,
@@ -128,7 +128,7 @@ fn number_list(words: &[u8]) -> Option<NumberList>
 {
     let mut numbers = NumberList::new();
     let mut left = words;
-    while let Some((word, behind)) = split_word(Separators::Spaces, left) {
+    while let Some((word, following)) = split_word(Separators::Spaces, left) {
         let Some(value) = number(word) else {
             return None;
         };
@@ -136,7 +136,7 @@ fn number_list(words: &[u8]) -> Option<NumberList>
             return None;
         }
         numbers.push(value);
-        left = behind;
+        left = following;
     }
     Some(numbers)
 }

@@ -39,13 +39,13 @@ impl Tool for Sweeping<'_> {
     type Made = Vec<u8>;
 
     fn answer(&self, alloc: Global, loaded: &Vec<Vec<u8>>) -> Result<Vec<u8>, Stop<'_>> {
-        let (text, texts) = (loaded_at(loaded, 0), behind_first(loaded));
+        let (text, texts) = (loaded_at(loaded, 0), after_first(loaded));
         sweep_texts(alloc, text, &self.names, texts)
     }
 }
 
 // What was loaded after the module.
-fn behind_first(loaded: &[Vec<u8>]) -> &[Vec<u8>]
+fn after_first(loaded: &[Vec<u8>]) -> &[Vec<u8>]
     ensures { result.now ≡ drop 1 loaded.now }
 {
     match loaded {

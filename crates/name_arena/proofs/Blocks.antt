@@ -1,7 +1,7 @@
 -- What the walks of the functions over a block share. Assumes `Logic`.
 --     start, empty, mark      the machine values of a pointer in a struct, of no field, and of one that takes no bytes: what is owned tells them, and is made of nothing
 --     Starts, Memories        the rows of the two structs
---     first_left              the room behind the bytes begins with room for one byte
+--     first_left              the room after the bytes begins with room for one byte
 --     nothing_written         room for a block is a block in which nothing is written.        all_room      and what a block owns is room for it
 use mathlib.Core.Path.{◌≡◌, refl, sym, ap, subst, ◌∙◌}
 use Prim.Native.Nat.{ℕ, suc, ◌+◌, ◌-◌, ◌≤◌, ◌<◌, ◌^◌}

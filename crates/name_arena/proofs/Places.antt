@@ -102,10 +102,10 @@ chained_push names name old new before bucket place more few is bucket_is inside
 -- ---- a search
 
 -- what a search has passed, and where it goes on
-pub record Searches (names : List (List ℕ)) (before : List ℕ) (name : List ℕ) (count behind place : ℕ) : Type 0 where
-  pub within : behind ≤ length names
-  pub last : IsLast names count (bucket_of count name) behind place
-  pub passed : (k : ℕ) → behind ≤ k → k < length names → bytes_eq name (named names k) ≡ false
+pub record Searches (names : List (List ℕ)) (before : List ℕ) (name : List ℕ) (count after place : ℕ) : Type 0 where
+  pub within : after ≤ length names
+  pub last : IsLast names count (bucket_of count name) after place
+  pub passed : (k : ℕ) → after ≤ k → k < length names → bytes_eq name (named names k) ≡ false
   pub chained : (k : ℕ) → k < length names → IsLast names count (bucket_of count (named names k)) k (get_or before k 0)
 
 -- a name that is found is in the bucket
@@ -113,13 +113,13 @@ same_bucket : (names : List (List ℕ)) (name : List ℕ) (count k : ℕ) → by
 same_bucket names name count k found = ap (bucket_of count) (sym ((bytes_eq-Decides name (named names k)).0 found))
 
 -- no name that is passed is that one
-pub searched_on : (names : List (List ℕ)) (before name : List ℕ) (count behind place : ℕ) → Searches names before name count behind place → place < behind → bytes_eq name (named names place) ≡ false
+pub searched_on : (names : List (List ℕ)) (before name : List ℕ) (count after place : ℕ) → Searches names before name count after place → place < after → bytes_eq name (named names place) ≡ false
     → Searches names before name count place (get_or before place 0)
-searched_on names before name count behind place searches lt other = record {
+searched_on names before name count after place searches lt other = record {
   within = omega (arith, lt, searches.within);
   last = subst (λ bucket. IsLast names count bucket place (get_or before place 0)) (searches.last.own lt) (searches.chained place (omega (arith, lt, searches.within)));
   passed = λ k from below.
-      elim (cases_lt k behind) [
+      elim (cases_lt k after) [
         | inr past ↦ searches.passed k past below
         | inl inside ↦
             elim (cases_Bool (bytes_eq name (named names k))) [
@@ -134,9 +134,9 @@ searched_on names before name count behind place searches lt other = record {
 }
 
 -- and if none is left there is none
-pub searched_all : (names : List (List ℕ)) (before name : List ℕ) (count behind place : ℕ) → Searches names before name count behind place → behind ≤ place → Lacks names name
-searched_all names before name count behind place searches none k below =
-    elim (cases_lt k behind) [
+pub searched_all : (names : List (List ℕ)) (before name : List ℕ) (count after place : ℕ) → Searches names before name count after place → after ≤ place → Lacks names name
+searched_all names before name count after place searches none k below =
+    elim (cases_lt k after) [
       | inr past ↦ searches.passed k past below
       | inl inside ↦
           elim (cases_Bool (bytes_eq name (named names k))) [

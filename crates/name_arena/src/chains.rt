@@ -170,14 +170,14 @@ fn find_from(names: &NameArena, before: &[u32], last: u32, name: &[u8]) -> Optio
         × ((k : ℕ) → k < length names.now → IsLast names.now count (bucket_of count (named names.now k)) k (get_or before.now k 0)) }
     ensures { MatchOption result (Lacks names.now name.now) (HasAt names.now name.now) }
 {
-    let mut behind = names.len();
+    let mut after = names.len();
     let mut place = last;
-    while (place as usize) < behind {
+    while (place as usize) < after {
         if names.name(place as usize) == name {
             return Some(place);
         }
-        behind = place as usize;
-        place = before[behind];
+        after = place as usize;
+        place = before[after];
     }
     None
 }

@@ -7,43 +7,43 @@ use Rattle.std.proofs.lemmas.List.{take_all}
 use Rattle.shared_lemmas.proofs.Searches.{position_or_len-none}
 use Rattle.text_lines.specs.declared.words.Separators.TheVariants.{Spaces}
 use Rattle.text_lines.specs.Words.{words_of}
-use Rattle.pin_file.specs.Lines.{Line, begins_remark, behind_options, is_option, line_of, line_of_words, plain_line, takes_word}
+use Rattle.pin_file.specs.Lines.{Line, begins_remark, after_options, is_option, line_of, line_of_words, plain_line, takes_word}
 
 -- a word that is no option ends the options
-options-end : (word : List ℕ) (words : List (List ℕ)) → is_option word ≡ false → behind_options false (word ∷ words) ≡ word ∷ words
-unfolding behind_options
+options-end : (word : List ℕ) (words : List (List ℕ)) → is_option word ≡ false → after_options false (word ∷ words) ≡ word ∷ words
+unfolding after_options
 options-end word words other = rw other refl
 
-options-next : (word : List ℕ) (words : List (List ℕ)) → is_option word ≡ true → behind_options false (word ∷ words) ≡ behind_options (takes_word word) words
-unfolding behind_options
+options-next : (word : List ℕ) (words : List (List ℕ)) → is_option word ≡ true → after_options false (word ∷ words) ≡ after_options (takes_word word) words
+unfolding after_options
 options-next word words is = rw is refl
 
 -- the options end before a word that is none
-pub options-stopped : (left all : List (List ℕ)) (word : List ℕ) (words : List (List ℕ)) → behind_options false left ≡ behind_options false all → left ≡ word ∷ words
-    → is_option word ≡ false → left ≡ behind_options false all
-options-stopped left all word words so_far is other = is ∙ sym (options-end word words other) ∙ ap (behind_options false) (sym is) ∙ so_far
+pub options-stopped : (left all : List (List ℕ)) (word : List ℕ) (words : List (List ℕ)) → after_options false left ≡ after_options false all → left ≡ word ∷ words
+    → is_option word ≡ false → left ≡ after_options false all
+options-stopped left all word words so_far is other = is ∙ sym (options-end word words other) ∙ ap (after_options false) (sym is) ∙ so_far
 
 -- or if no word is left
-pub options-none : (left all : List (List ℕ)) → behind_options false left ≡ behind_options false all → left ≡ [] → left ≡ behind_options false all
-unfolding behind_options
-options-none left all so_far none = none ∙ ap (behind_options false) (sym none) ∙ so_far
+pub options-none : (left all : List (List ℕ)) → after_options false left ≡ after_options false all → left ≡ [] → left ≡ after_options false all
+unfolding after_options
+options-none left all so_far none = none ∙ ap (after_options false) (sym none) ∙ so_far
 
 -- they continue after an option
-pub options-more : (left all next : List (List ℕ)) (word : List ℕ) (words : List (List ℕ)) → behind_options false left ≡ behind_options false all → left ≡ word ∷ words
-    → is_option word ≡ true → behind_options false next ≡ behind_options (takes_word word) words → behind_options false next ≡ behind_options false all
-options-more left all next word words so_far is option behind =
-    behind ∙ sym (options-next word words option) ∙ ap (behind_options false) (sym is) ∙ so_far
+pub options-more : (left all next : List (List ℕ)) (word : List ℕ) (words : List (List ℕ)) → after_options false left ≡ after_options false all → left ≡ word ∷ words
+    → is_option word ≡ true → after_options false next ≡ after_options (takes_word word) words → after_options false next ≡ after_options false all
+options-more left all next word words so_far is option following =
+    following ∙ sym (options-next word words option) ∙ ap (after_options false) (sym is) ∙ so_far
 
 -- a word that belongs to an option
-pub option-with : (word : List ℕ) (words all : List (List ℕ)) (belongs : Bool) → belongs ≡ true → all ≡ word ∷ words → behind_options false words ≡ behind_options belongs all
-unfolding behind_options
+pub option-with : (word : List ℕ) (words all : List (List ℕ)) (belongs : Bool) → belongs ≡ true → all ≡ word ∷ words → after_options false words ≡ after_options belongs all
+unfolding after_options
 option-with word words all belongs with is = rw (with, is) refl
 
-pub option-without : (words : List (List ℕ)) (belongs : Bool) → words ≡ [] → behind_options false words ≡ behind_options belongs words
-unfolding behind_options
+pub option-without : (words : List (List ℕ)) (belongs : Bool) → words ≡ [] → after_options false words ≡ after_options belongs words
+unfolding after_options
 option-without words belongs none = rw none refl
 
-pub option-alone : (words : List (List ℕ)) (belongs : Bool) → belongs ≡ false → behind_options false words ≡ behind_options belongs words
+pub option-alone : (words : List (List ℕ)) (belongs : Bool) → belongs ≡ false → after_options false words ≡ after_options belongs words
 option-alone words belongs alone = rw alone refl
 
 -- ---- remarks

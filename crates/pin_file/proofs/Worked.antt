@@ -12,7 +12,7 @@ use Rattle.pin_file.specs.declared.fault.PinFileCause.{PinFileCause}
 use Rattle.pin_file.specs.declared.fault.PinFileCause.TheVariants.{Statement, Package as NoPackage, Pin}
 use Rattle.pin_file.specs.declared.fault.PinFileFault.{PinFileFault}
 use Rattle.pin_file.specs.declared.fault.PinFileFault.TheVariants.{At}
-use Rattle.pin_file.specs.Lines.{Passed, Port, Unknown, plain_line, words_in, behind_options, line_of}
+use Rattle.pin_file.specs.Lines.{Passed, Port, Unknown, plain_line, words_in, after_options, line_of}
 use Rattle.pin_file.specs.PortNames.{plain_name, port_name, all_names, own_beginnings, has_own_form}
 use Rattle.pin_file.specs.Packages.{Package, begins_package, place_in_line, stands_below, package_of}
 use Rattle.pin_file.specs.Faults.{places_in, names_before, ports_of, pin_fault_of}
@@ -26,25 +26,25 @@ blanks = refl
 
 -- options with and without a word
 options : line_of (codes "set_io -nowarn -pullup yes --warn-no-port -pullup_resistor 3P3K led[3] A10") ≡ Port (codes "led[3]") (codes "A10")
-unfolding line_of plain_line words_of pieces_of behind_options
+unfolding line_of plain_line words_of pieces_of after_options
 options = refl
 
 -- the word after an option is missing
 short : line_of (codes "set_io -pullup led A10") ≡ Unknown
-unfolding line_of plain_line words_of pieces_of behind_options
+unfolding line_of plain_line words_of pieces_of after_options
 short = refl
 
 -- an option after the pin
 late : line_of (codes "set_io led A10 -nowarn") ≡ Port (codes "led") (codes "A10")
-unfolding line_of plain_line words_of pieces_of behind_options
+unfolding line_of plain_line words_of pieces_of after_options
 late = refl
 
 passed : line_of (codes "set_frequency clk 48 # MHz") ≡ Passed
-unfolding line_of plain_line words_of pieces_of behind_options
+unfolding line_of plain_line words_of pieces_of after_options
 passed = refl
 
 other : line_of (codes "set_location led 1 2 3") ≡ Unknown
-unfolding line_of plain_line words_of pieces_of behind_options
+unfolding line_of plain_line words_of pieces_of after_options
 other = refl
 
 -- ---- names
@@ -175,63 +175,63 @@ at_b name = record { place = place_b; name = name } ∷ []
 
 -- two ports, with an empty line and a remark between
 both : ports_of two_pins ports (codes "set_io clk A\n\n# led\nset_io led[0] B\n") ≡ at_a (codes "clk") ++ at_b (codes "led_0")
-unfolding two_pins place_a place_b ports port_b ports_outside at_a at_b ports_of names_before places_in all_names lines_of line_of plain_line words_of pieces_of behind_options port_name plain_name has_own_form own_beginnings is_name reserved_words
+unfolding two_pins place_a place_b ports port_b ports_outside at_a at_b ports_of names_before places_in all_names lines_of line_of plain_line words_of pieces_of after_options port_name plain_name has_own_form own_beginnings is_name reserved_words
 both = refl
 
 -- a second line for a pin gives nothing
 second_line : ports_of two_pins ports (codes "set_io clk A\nset_io led A\n") ≡ at_a (codes "clk")
-unfolding two_pins place_a place_b ports port_b ports_outside at_a at_b ports_of names_before places_in all_names lines_of line_of plain_line words_of pieces_of behind_options port_name plain_name has_own_form own_beginnings is_name reserved_words
+unfolding two_pins place_a place_b ports port_b ports_outside at_a at_b ports_of names_before places_in all_names lines_of line_of plain_line words_of pieces_of after_options port_name plain_name has_own_form own_beginnings is_name reserved_words
 second_line = refl
 
 -- a line for a pin without a port gives nothing, and its name is free for the other pin
 no_port : ports_of two_pins port_b (codes "set_io led A\nset_io led B\n") ≡ at_b (codes "led")
-unfolding two_pins place_a place_b ports port_b ports_outside at_a at_b ports_of names_before places_in all_names lines_of line_of plain_line words_of pieces_of behind_options port_name plain_name has_own_form own_beginnings is_name reserved_words
+unfolding two_pins place_a place_b ports port_b ports_outside at_a at_b ports_of names_before places_in all_names lines_of line_of plain_line words_of pieces_of after_options port_name plain_name has_own_form own_beginnings is_name reserved_words
 no_port = refl
 
 -- a name that an earlier line gave: the port keeps its own name
 same_name : ports_of two_pins ports (codes "set_io led[1] A\nset_io led.1 B\n") ≡ at_a (codes "led_1")
-unfolding two_pins place_a place_b ports port_b ports_outside at_a at_b ports_of names_before places_in all_names lines_of line_of plain_line words_of pieces_of behind_options port_name plain_name has_own_form own_beginnings is_name reserved_words
+unfolding two_pins place_a place_b ports port_b ports_outside at_a at_b ports_of names_before places_in all_names lines_of line_of plain_line words_of pieces_of after_options port_name plain_name has_own_form own_beginnings is_name reserved_words
 same_name = refl
 
 -- the second line for a pin gives nothing, even if the first line gave nothing
 first_counts_still : ports_of two_pins ports (codes "set_io led A\nset_io led B\nset_io clk B\n") ≡ at_a (codes "led")
-unfolding two_pins place_a place_b ports port_b ports_outside at_a at_b ports_of names_before places_in all_names lines_of line_of plain_line words_of pieces_of behind_options port_name plain_name has_own_form own_beginnings is_name reserved_words
+unfolding two_pins place_a place_b ports port_b ports_outside at_a at_b ports_of names_before places_in all_names lines_of line_of plain_line words_of pieces_of after_options port_name plain_name has_own_form own_beginnings is_name reserved_words
 first_counts_still = refl
 
 -- the name of an output enable that an earlier line gave
 enable_given : ports_of two_pins ports (codes "set_io bus A\nset_io bus_en B\n") ≡ at_a (codes "bus")
-unfolding two_pins place_a place_b ports port_b ports_outside at_a at_b ports_of names_before places_in all_names lines_of line_of plain_line words_of pieces_of behind_options port_name plain_name has_own_form own_beginnings is_name reserved_words
+unfolding two_pins place_a place_b ports port_b ports_outside at_a at_b ports_of names_before places_in all_names lines_of line_of plain_line words_of pieces_of after_options port_name plain_name has_own_form own_beginnings is_name reserved_words
 enable_given = refl
 
 -- an output enable whose name an earlier line gave
 enable_taken : ports_of two_pins ports (codes "set_io bus_en B\nset_io bus A\n") ≡ at_b (codes "bus_en")
-unfolding two_pins place_a place_b ports port_b ports_outside at_a at_b ports_of names_before places_in all_names lines_of line_of plain_line words_of pieces_of behind_options port_name plain_name has_own_form own_beginnings is_name reserved_words
+unfolding two_pins place_a place_b ports port_b ports_outside at_a at_b ports_of names_before places_in all_names lines_of line_of plain_line words_of pieces_of after_options port_name plain_name has_own_form own_beginnings is_name reserved_words
 enable_taken = refl
 
 -- without an output enable the name is free
 no_enable : ports_of two_pins ports_outside (codes "set_io bus A\nset_io bus_en B\n") ≡ at_a (codes "bus") ++ at_b (codes "bus_en")
-unfolding two_pins place_a place_b ports port_b ports_outside at_a at_b ports_of names_before places_in all_names lines_of line_of plain_line words_of pieces_of behind_options port_name plain_name has_own_form own_beginnings is_name reserved_words
+unfolding two_pins place_a place_b ports port_b ports_outside at_a at_b ports_of names_before places_in all_names lines_of line_of plain_line words_of pieces_of after_options port_name plain_name has_own_form own_beginnings is_name reserved_words
 no_enable = refl
 
 -- the same for an input beside an output
 input_taken : ports_of two_pins ports_outside (codes "set_io bus A\nset_io bus_in B\n") ≡ at_a (codes "bus")
-unfolding two_pins place_a place_b ports port_b ports_outside at_a at_b ports_of names_before places_in all_names lines_of line_of plain_line words_of pieces_of behind_options port_name plain_name has_own_form own_beginnings is_name reserved_words
+unfolding two_pins place_a place_b ports port_b ports_outside at_a at_b ports_of names_before places_in all_names lines_of line_of plain_line words_of pieces_of after_options port_name plain_name has_own_form own_beginnings is_name reserved_words
 input_taken = refl
 
 -- ---- faults
 
 accepted : pin_fault_of two_pins (codes "set_io clk A\n\n# led\nset_io module A\n") ≡ None
-unfolding two_pins no_pins place_a place_b fault pin_fault_of first_below lines_of line_of plain_line words_of pieces_of behind_options
+unfolding two_pins no_pins place_a place_b fault pin_fault_of first_below lines_of line_of plain_line words_of pieces_of after_options
 accepted = refl
 
 statement_first : pin_fault_of no_pins (codes "set_io clk\nset_io clk A\n") ≡ fault 1 Statement
-unfolding two_pins no_pins place_a place_b fault pin_fault_of first_below lines_of line_of plain_line words_of pieces_of behind_options
+unfolding two_pins no_pins place_a place_b fault pin_fault_of first_below lines_of line_of plain_line words_of pieces_of after_options
 statement_first = refl
 
 no_package : pin_fault_of no_pins (codes "set_frequency clk 12\nset_io module A\n") ≡ fault 2 NoPackage
-unfolding two_pins no_pins place_a place_b fault pin_fault_of first_below lines_of line_of plain_line words_of pieces_of behind_options
+unfolding two_pins no_pins place_a place_b fault pin_fault_of first_below lines_of line_of plain_line words_of pieces_of after_options
 no_package = refl
 
 not_there : pin_fault_of two_pins (codes "set_io module A\nset_io module C\nset_io\n") ≡ fault 2 Pin
-unfolding two_pins no_pins place_a place_b fault pin_fault_of first_below lines_of line_of plain_line words_of pieces_of behind_options
+unfolding two_pins no_pins place_a place_b fault pin_fault_of first_below lines_of line_of plain_line words_of pieces_of after_options
 not_there = refl

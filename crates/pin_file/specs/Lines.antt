@@ -43,10 +43,10 @@ abbrev pub takes_word : List ℕ → Bool
 takes_word word = bytes_eq word (codes "-pullup") || bytes_eq word (codes "-pullup_resistor")
 
 -- the words after the options at the front; the flag says whether the first word is the value of an option before it
-unfoldable pub behind_options : Bool → List (List ℕ) → List (List ℕ)
-behind_options belongs [] = []
-behind_options true (word ∷ words) = behind_options false words
-behind_options false (word ∷ words) = if is_option word then behind_options (takes_word word) words else word ∷ words
+unfoldable pub after_options : Bool → List (List ℕ) → List (List ℕ)
+after_options belongs [] = []
+after_options true (word ∷ words) = after_options false words
+after_options false (word ∷ words) = if is_option word then after_options (takes_word word) words else word ∷ words
 
 -- `NAME PIN`; words after PIN don't count, as in nextpnr
 abbrev pub port_line : List (List ℕ) → Line
@@ -57,7 +57,7 @@ port_line words = Unknown
 abbrev pub line_of_words : List (List ℕ) → Line
 line_of_words [] = Passed
 line_of_words (word ∷ words) =
-    if bytes_eq word (codes "set_io") then port_line (behind_options false words)
+    if bytes_eq word (codes "set_io") then port_line (after_options false words)
     else if bytes_eq word (codes "set_frequency") then Passed
     else Unknown
 

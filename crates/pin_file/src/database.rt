@@ -35,7 +35,7 @@ fn is_head(name: &[u8], line: &[u8]) -> bool
 {
     match split_word(Separators::SpacesAndTabs, line) {
         None => false,
-        Some((word, behind)) => match one_word(Separators::SpacesAndTabs, behind) {
+        Some((word, following)) => match one_word(Separators::SpacesAndTabs, following) {
             None => false,
             Some(other) => word == b".pins".as_slice() && other == name,
         },
@@ -60,7 +60,7 @@ fn pin_in_words(line: &[u8]) -> Option<(&[u8], PinPlace)>
     ensures { MatchOption result ((pin : List ℕ) → place_in_words pin (words_of SpacesAndTabs line.now) ≡ None)
         (λ found. (pin : List ℕ) → place_in_words pin (words_of SpacesAndTabs line.now) ≡ (if bytes_eq found.0.now pin then Some found.1 else None)) }
 {
-    let (pin, behind) = split_word(Separators::SpacesAndTabs, line)?;
-    let (x, y, pio) = three_numbers(Separators::SpacesAndTabs, behind)?;
+    let (pin, following) = split_word(Separators::SpacesAndTabs, line)?;
+    let (x, y, pio) = three_numbers(Separators::SpacesAndTabs, following)?;
     Some((pin, PinPlace { x, y, pio }))
 }

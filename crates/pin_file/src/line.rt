@@ -3,7 +3,7 @@ ghost use Rattle.std.specs.Prelude.{◌≡◌, ◌≤◌, ◌<◌, false, length
 ghost use Rattle.std.specs.List.{before_first};
 ghost use Rattle.text_lines.specs.declared.words.Separators.TheVariants.{Spaces};
 ghost use Rattle.text_lines.specs.Words.{words_of};
-ghost use Rattle.pin_file.specs.Lines.{begins_remark, behind_options, is_blank, is_option, line_of_words, plain_byte, plain_line, port_line, takes_word};
+ghost use Rattle.pin_file.specs.Lines.{begins_remark, after_options, is_blank, is_option, line_of_words, plain_byte, plain_line, port_line, takes_word};
 ghost use Rattle.pin_file.specs.inside.Reading.{said_by};
 
 use std::alloc::{AllocError, Global};
@@ -77,9 +77,9 @@ pub(crate) fn line_kind(line: &[u8]) -> LineKind<'_>
 {
     match split_word(Separators::Spaces, line) {
         None => LineKind::Passed,
-        Some((word, behind)) => {
+        Some((word, following)) => {
             if word == b"set_io".as_slice() {
-                port_kind(behind_options(behind))
+                port_kind(after_options(following))
             } else if word == b"set_frequency".as_slice() {
                 LineKind::Passed
             } else {
@@ -90,13 +90,13 @@ pub(crate) fn line_kind(line: &[u8]) -> LineKind<'_>
 }
 
 /// The words after the options at the front.
-fn behind_options(words: &[u8]) -> &[u8]
-    ensures { words_of Spaces result.now ≡ behind_options false (words_of Spaces words.now) }
+fn after_options(words: &[u8]) -> &[u8]
+    ensures { words_of Spaces result.now ≡ after_options false (words_of Spaces words.now) }
 {
     let mut left = words;
-    while let Some((word, behind)) = split_word(Separators::Spaces, left) {
+    while let Some((word, following)) = split_word(Separators::Spaces, left) {
         if is_option(word) {
-            left = behind_option(word, behind);
+            left = after_option(word, following);
         } else {
             return left;
         }
@@ -105,14 +105,14 @@ fn behind_options(words: &[u8]) -> &[u8]
 }
 
 /// The words after an option and its value, if it takes one.
-fn behind_option<'a>(option: &[u8], words: &'a [u8]) -> &'a [u8]
-    ensures options { behind_options false (words_of Spaces result.now) ≡ behind_options (takes_word option.now) (words_of Spaces words.now) }
+fn after_option<'a>(option: &[u8], words: &'a [u8]) -> &'a [u8]
+    ensures options { after_options false (words_of Spaces result.now) ≡ after_options (takes_word option.now) (words_of Spaces words.now) }
     ensures shorter { length result.now ≤ length words.now }
 {
     if takes_word(option) {
         match split_word(Separators::Spaces, words) {
             None => words,
-            Some((_, behind)) => behind,
+            Some((_, following)) => following,
         }
     } else {
         words

@@ -1,4 +1,5 @@
-// The runs in which the rows of a tile lie.
+// The runs in which the rows of a tile lie: bits side by side, which are read and written at once. In an end row a run has 42 bits, and the 18
+// columns of an io tile are some of them, so the other bits of the run stay as they are.
 ghost use Rattle.std.specs.Prelude.{◌≡◌, ℕ, ◌+◌, ◌-◌, ◌<◌, ◌≤◌, Some, MatchOption, if◌then◌else◌};
 ghost use Rattle.plane_map.specs.Layout.{kind_of, columns_at, column_of, cram_width, cram_height, half_width, is_end, is_side, place_of, start_of, width_of, IsLayout};
 ghost use Rattle.plane_map.specs.Runs.{AreRunsOf, IsRunIn, row_run, run_length, run_place};

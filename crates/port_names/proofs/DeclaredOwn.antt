@@ -1,5 +1,5 @@
 -- All names that a written module declares have a form of its own.
-use Rattle.std.proofs.Common.{ℕ, Bool, true, get_or, List, [], ◌∷◌, ◌++◌, map, inl, inr}
+use Rattle.std.proofs.Common.{ℕ, Bool, get_or, List, [], ◌∷◌, ◌++◌, map, inl, inr}
 use Rattle.std.specs.Prelude.{All, Option, Some, None, flat_map, ◌==◌}
 use Rattle.std.proofs.lemmas.Bool.{cases_Bool}
 use Rattle.std.proofs.lemmas.List.Elements.{All-nil, All-cons, All-append, All-map, All-weaker}
@@ -25,7 +25,7 @@ use Rattle.fabric_model.specs.Fabric.{Fabric, numbered}
 use Rattle.fabric_model.specs.Outputs.{outputs_of}
 use Rattle.index_search.proofs.Gathered.{All-gathered_below}
 use Rattle.fabric_model.proofs.Apart.{All-every}
-use Rattle.fabric_model.proofs.Within.{All-flat_map, All-single, All-if}
+use Rattle.fabric_model.proofs.Within.{All-flat_map, All-single}
 use Rattle.fabric_module.proofs.Configured.{each-name}
 use Rattle.fabric_module.specs.Rights.{setting_wire}
 use Rattle.fabric_module.specs.Written.{clock_name, clocked, input_port, pin_ports, ports_of, register_item, read_register, ram_memory, class_wire, output_assign, items_by, register_items, read_item, read_items, write_item, write_items, start_item, start_items, items_of, module_of}

@@ -2,7 +2,7 @@
 use Rattle.std.proofs.Common.{◌≡◌, ℕ, zero, suc, Bool, true, false, List, [], ◌∷◌, ◌++◌, map, refl, sym, ap, ◌∙◌, subst, arith, inl, inr}
 use Rattle.std.specs.Prelude.{All, Contains, Option, Some, None, flat_map, bytes_eq, not, ◌||◌, IsTrue}
 use Rattle.std.proofs.lemmas.Bool.{cases_Bool, or_right}
-use Rattle.std.proofs.lemmas.List.Elements.{All-nil, All-cons, All-head, All-tail, All-append, All-map, All-contains, All-contains_itself, All-weaker, Contains-append_left, Contains-append_right}
+use Rattle.std.proofs.lemmas.List.Elements.{All-nil, All-cons, All-append, All-map, All-contains, All-contains_itself, All-weaker, Contains-append_left, Contains-append_right}
 use Rattle.shared_lemmas.proofs.Bytes.{bytes_eq-same, bytes_eq-apart}
 use Rattle.shared_lemmas.proofs.Lists.{All-both}
 use Rattle.vlog_module.specs.declared.modules.Port.{Port}
@@ -22,7 +22,7 @@ use Rattle.fabric_model.proofs.Contained.{contains-map}
 use Rattle.fabric_module.specs.Names.{port_name, enable_name, outside_name}
 use Rattle.fabric_module.specs.Written.{output_port, input_port, pin_ports, ports_of, module_of}
 use Rattle.pin_file.specs.declared.pin_name.PinName.{PinName}
-use Rattle.pin_file.specs.PortNames.{has_own_form, all_names, AreSafe, enable_name as enable_name_behind, input_name as input_name_behind}
+use Rattle.pin_file.specs.PortNames.{has_own_form, all_names, AreSafe, enable_name as enable_name_after, input_name as input_name_after}
 use Rattle.port_names.specs.Fresh.{old_names, new_names, declared_names, port_names, IsFresh, AreNames, OnlyPorts}
 use Rattle.port_names.specs.Named.{port_pins, given_name, renaming_by, pin_renaming, port_renaming}
 use Rattle.port_names.proofs.Own.{IsOwn}
@@ -97,11 +97,11 @@ old-pin Q pin is (Some name) all =
     let Old = λ (entry : List ℕ × List ℕ). Q entry.0 in
     let port = port-in pin is in
     All-cons Old (port_name pin, name) _ (subst Q port.2 (All-contains NamedSo (pin_ports pin) port.0 all port.1))
-    (All-append Old (item_if (is_switched pin) (enable_name pin, enable_name_behind name)) (item_if (has_outside pin) (outside_name pin.x pin.y pin.n, input_name_behind name))
-    (if-when Old (is_switched pin) ((enable_name pin, enable_name_behind name) ∷ [])
-    (λ here. All-single Old (enable_name pin, enable_name_behind name) (All-contains NamedSo (pin_ports pin) (output_port (enable_name pin)) all (enable-in pin here))))
-    (if-when Old (has_outside pin) ((outside_name pin.x pin.y pin.n, input_name_behind name) ∷ [])
-    (λ here. All-single Old (outside_name pin.x pin.y pin.n, input_name_behind name) (All-contains NamedSo (pin_ports pin) (input_port (OutsidePort pin.x pin.y pin.n)) all (outside-in pin here)))))
+    (All-append Old (item_if (is_switched pin) (enable_name pin, enable_name_after name)) (item_if (has_outside pin) (outside_name pin.x pin.y pin.n, input_name_after name))
+    (if-when Old (is_switched pin) ((enable_name pin, enable_name_after name) ∷ [])
+    (λ here. All-single Old (enable_name pin, enable_name_after name) (All-contains NamedSo (pin_ports pin) (output_port (enable_name pin)) all (enable-in pin here))))
+    (if-when Old (has_outside pin) ((outside_name pin.x pin.y pin.n, input_name_after name) ∷ [])
+    (λ here. All-single Old (outside_name pin.x pin.y pin.n, input_name_after name) (All-contains NamedSo (pin_ports pin) (input_port (OutsidePort pin.x pin.y pin.n)) all (outside-in pin here)))))
 
 -- and so it does of those of all pins
 pub old-entries : (named : List PinName) (pins : List Pin) → All IsPort pins → (Q : List ℕ → Type 0) → All (λ (port : Port). Q port.name) (flat_map pin_ports pins)

@@ -25,7 +25,7 @@ pub mod DeclaredOwn
 -- lists in which items are apart, and names that are looked up in them
 pub mod Lists
 -- a name with `_en` after it
-pub mod Behind
+pub mod After
 -- the names that a pin file gives
 pub mod PinFileNames
 -- the renaming by a pin file is fresh

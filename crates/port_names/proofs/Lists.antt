@@ -13,15 +13,15 @@ pub All-front : {A : Type 0} (P : A → Type 0) (xs ys : List A) → All P (xs +
 All-front P [] ys all = All-nil P
 All-front P (x ∷ xs) ys all = All-cons P x xs (All-head P x (xs ++ ys) all) (All-front P xs ys (All-tail P x (xs ++ ys) all))
 
-pub All-behind : {A : Type 0} (P : A → Type 0) (xs ys : List A) → All P (xs ++ ys) → All P ys
-All-behind P [] ys all = all
-All-behind P (x ∷ xs) ys all = All-behind P xs ys (All-tail P x (xs ++ ys) all)
+pub All-after : {A : Type 0} (P : A → Type 0) (xs ys : List A) → All P (xs ++ ys) → All P ys
+All-after P [] ys all = all
+All-after P (x ∷ xs) ys all = All-after P xs ys (All-tail P x (xs ++ ys) all)
 
 -- what holds of all that items give
 pub All-each : {X A : Type 0} (P : A → Type 0) (f : X → List A) (xs : List X) → All P (flat_map f xs) → All (λ x. All P (f x)) xs
 All-each P f [] all = All-nil (λ x. All P (f x))
 All-each P f (x ∷ xs) all =
-    All-cons (λ y. All P (f y)) x xs (All-front P (f x) (flat_map f xs) all) (All-each P f xs (All-behind P (f x) (flat_map f xs) all))
+    All-cons (λ y. All P (f y)) x xs (All-front P (f x) (flat_map f xs) all) (All-each P f xs (All-after P (f x) (flat_map f xs) all))
 
 -- ---- items that are apart
 
@@ -32,16 +32,16 @@ PartsDiffer R f a b = All (λ m. All (R m) (f b)) (f a)
 module _ {A : Type 0} (R : A → A → Type 0) where
   across-both : (xs ys : List A) → AreApart R (xs ++ ys) → All (λ x. All (R x) ys) xs
   across-both [] ys apart = All-nil (λ x. All (R x) ys)
-  across-both (x ∷ xs) ys apart = All-cons (λ z. All (R z) ys) x xs (All-behind (R x) xs ys apart.0) (across-both xs ys apart.1)
+  across-both (x ∷ xs) ys apart = All-cons (λ z. All (R z) ys) x xs (All-after (R x) xs ys apart.0) (across-both xs ys apart.1)
 
   -- the first of two lists whose items are all apart
   pub apart-front : (xs ys : List A) → AreApart R (xs ++ ys) → AreApart R xs
   apart-front [] ys apart = tt
   apart-front (x ∷ xs) ys apart = (All-front (R x) xs ys apart.0, apart-front xs ys apart.1)
 
-  apart-behind : (xs ys : List A) → AreApart R (xs ++ ys) → AreApart R ys
-  apart-behind [] ys apart = apart
-  apart-behind (x ∷ xs) ys apart = apart-behind xs ys apart.1
+  apart-after : (xs ys : List A) → AreApart R (xs ++ ys) → AreApart R ys
+  apart-after [] ys apart = apart
+  apart-after (x ∷ xs) ys apart = apart-after xs ys apart.1
 
   -- if all that items give is distinct
   pub parts-apart : {X : Type 0} (f : X → List A) (xs : List X) → AreApart R (flat_map f xs) → AreApart (PartsDiffer R f) xs
@@ -49,7 +49,7 @@ module _ {A : Type 0} (R : A → A → Type 0) where
   parts-apart f (x ∷ xs) apart =
       let each : All (λ m. All (λ y. All (R m) (f y)) xs) (f x) =
       All-weaker (λ m. All (R m) (flat_map f xs)) (λ m. All (λ y. All (R m) (f y)) xs) (λ m all. All-each (R m) f xs all) (f x) (across-both (f x) (flat_map f xs) apart) in
-      (λ k d less j e low. each j e low k d less, parts-apart f xs (apart-behind (f x) (flat_map f xs) apart))
+      (λ k d less j e low. each j e low k d less, parts-apart f xs (apart-after (f x) (flat_map f xs) apart))
 
 -- two items of a list that aren't the same
 pub two-apart : {X : Type 0} (S : X → X → Type 0) → ((a b : X) → S a b → S b a) → (xs : List X) (a b : X) → AreApart S xs → Contains xs a → Contains xs b → (a ≡ b → ⊥) → S a b

@@ -29,14 +29,14 @@ glyph-digit n =
     let small : n % 10 < 10 = mod-lt n (omega arith) in
     rw (lt-ltb (n % 10) 10 small) (and_from _ _ (le-leb 48 (48 + n % 10) (omega arith)) (le-leb (48 + n % 10) 57 (omega (arith, small))))
 
-digits-begin : (k : ℕ) → 0 < k → (n : ℕ) (behind : List ℕ) → BeginsDigit (digits_onto k 10 false n behind)
-digits-begin zero some n behind = absurd (omega arith)
-digits-begin (suc zero) some n behind =
+digits-begin : (k : ℕ) → 0 < k → (n : ℕ) (after : List ℕ) → BeginsDigit (digits_onto k 10 false n after)
+digits-begin zero some n after = absurd (omega arith)
+digits-begin (suc zero) some n after =
     elim (cases_Bool (n / 10 == 0)) [ inl here ↦ rw here (glyph-digit n) | inr away ↦ rw away (glyph-digit n) ]
-digits-begin (suc (suc k)) some n behind =
+digits-begin (suc (suc k)) some n after =
     elim (cases_Bool (n / 10 == 0)) [
       | inl here ↦ rw here (glyph-digit n)
-      | inr away ↦ rw away (digits-begin (suc k) (omega arith) (n / 10) (digit_glyph false (n % 10) ∷ behind))
+      | inr away ↦ rw away (digits-begin (suc k) (omega arith) (n / 10) (digit_glyph false (n % 10) ∷ after))
     ]
 
 decimal-begins : (n : ℕ) → BeginsDigit (decimal n)

@@ -14,7 +14,7 @@ use Rattle.fabric_model.proofs.Within.{All-flat_map, All-single}
 use Rattle.fabric_module.specs.Names.{pad_name, port_name, enable_name, outside_name}
 use Rattle.pin_file.specs.declared.place.PinPlace.{PinPlace}
 use Rattle.pin_file.specs.declared.pin_name.PinName.{PinName}
-use Rattle.pin_file.specs.PortNames.{is_place, pin_at, names_by, names_with, all_names, AreSafe, enable_name as enable_name_behind, input_name as input_name_behind}
+use Rattle.pin_file.specs.PortNames.{is_place, pin_at, names_by, names_with, all_names, AreSafe, enable_name as enable_name_after, input_name as input_name_after}
 use Rattle.pin_file.proofs.PinSteps.{place-itself, place-same}
 use Rattle.port_names.specs.Fresh.{new_names}
 use Rattle.port_names.specs.Named.{place_of, port_pin, port_pins, given_name, renaming_by, pin_renaming, port_renaming}
@@ -73,20 +73,20 @@ module _ (pin : Pin) (name : List ℕ) where
   of_port = (port_name pin, name)
 
   abbrev of_enable : List ℕ × List ℕ
-  of_enable = (enable_name pin, enable_name_behind name)
+  of_enable = (enable_name pin, enable_name_after name)
 
   abbrev of_outside : List ℕ × List ℕ
-  of_outside = (outside_name pin.x pin.y pin.n, input_name_behind name)
+  of_outside = (outside_name pin.x pin.y pin.n, input_name_after name)
 
   name-no_enable : SecondsDiffer of_port of_enable
-  name-no_enable = bytes_eq-apart name (enable_name_behind name) (longer name (codes "en"))
+  name-no_enable = bytes_eq-apart name (enable_name_after name) (longer name (codes "en"))
 
   name-no_outside : SecondsDiffer of_port of_outside
-  name-no_outside = bytes_eq-apart name (input_name_behind name) (longer name (codes "in"))
+  name-no_outside = bytes_eq-apart name (input_name_after name) (longer name (codes "in"))
 
   enable-no_outside : SecondsDiffer of_enable of_outside
   enable-no_outside =
-      bytes_eq-apart (enable_name_behind name) (input_name_behind name)
+      bytes_eq-apart (enable_name_after name) (input_name_after name)
       (λ same. let never : false ≡ true = bytes_eq-same (codes "_en") (codes "_in") (append_cancel_left name (codes "_en") (codes "_in") same) in absurd cc)
 
   inside-by : (switched outside : Bool) → AreApart SecondsDiffer (of_port ∷ (item_if switched of_enable ++ item_if outside of_outside))
@@ -100,13 +100,13 @@ module _ (pin : Pin) (name : List ℕ) where
 
   -- what holds of the names that a port gives holds of the new ones of a pin
   given-flags : (Q : List ℕ → Type 0) (switched outside : Bool)
-      → All Q ((if switched then enable_name_behind name ∷ [] else []) ++ (if outside then input_name_behind name ∷ [] else []))
+      → All Q ((if switched then enable_name_after name ∷ [] else []) ++ (if outside then input_name_after name ∷ [] else []))
       → All (λ (entry : List ℕ × List ℕ). Q entry.1) (item_if switched of_enable ++ item_if outside of_outside)
   given-flags Q true true all =
-      All-cons (λ (entry : List ℕ × List ℕ). Q entry.1) of_enable (of_outside ∷ []) (All-head Q (enable_name_behind name) (input_name_behind name ∷ []) all)
-      (All-single (λ (entry : List ℕ × List ℕ). Q entry.1) of_outside (All-head Q (input_name_behind name) [] (All-tail Q (enable_name_behind name) (input_name_behind name ∷ []) all)))
-  given-flags Q true false all = All-single (λ (entry : List ℕ × List ℕ). Q entry.1) of_enable (All-head Q (enable_name_behind name) [] all)
-  given-flags Q false true all = All-single (λ (entry : List ℕ × List ℕ). Q entry.1) of_outside (All-head Q (input_name_behind name) [] all)
+      All-cons (λ (entry : List ℕ × List ℕ). Q entry.1) of_enable (of_outside ∷ []) (All-head Q (enable_name_after name) (input_name_after name ∷ []) all)
+      (All-single (λ (entry : List ℕ × List ℕ). Q entry.1) of_outside (All-head Q (input_name_after name) [] (All-tail Q (enable_name_after name) (input_name_after name ∷ []) all)))
+  given-flags Q true false all = All-single (λ (entry : List ℕ × List ℕ). Q entry.1) of_enable (All-head Q (enable_name_after name) [] all)
+  given-flags Q false true all = All-single (λ (entry : List ℕ × List ℕ). Q entry.1) of_outside (All-head Q (input_name_after name) [] all)
   given-flags Q false false all = All-nil (λ (entry : List ℕ × List ℕ). Q entry.1)
 
 -- the new names of a pin's ports are apart
@@ -137,7 +137,7 @@ module _ (pins : List Pin) (named : List PinName) (pins_apart : AreApart PinsDif
       let same : names_of pins port ≡ names_with port.name (port_pin pin)
       = ap (λ place. names_by port.name (pin_at (port_pins pins) place)) at ∙ ap (names_by port.name) (pin-there pins pins_apart pin there) in
       let each : All Q (names_with port.name (port_pin pin)) = subst (All Q) same all in
-      let tails = (if is_switched pin then enable_name_behind port.name ∷ [] else []) ++ (if has_outside pin then input_name_behind port.name ∷ [] else []) in
+      let tails = (if is_switched pin then enable_name_after port.name ∷ [] else []) ++ (if has_outside pin then input_name_after port.name ∷ [] else []) in
       All-cons (λ (entry : List ℕ × List ℕ). Q entry.1) (port_name pin, port.name) _ (All-head Q port.name tails each)
       (given-flags pin port.name Q (is_switched pin) (has_outside pin) (All-tail Q port.name tails each))
 

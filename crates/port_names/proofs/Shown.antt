@@ -1,8 +1,7 @@
 -- The new names of a module's ports are those that the pin file gives, and its entries match those of the fabric.
-use Rattle.std.proofs.Common.{◌≡◌, ℕ, zero, suc, Bool, true, false, List, [], ◌∷◌, ◌++◌, length, map, refl, sym, ap, ap₂, ◌∙◌, subst, arith, inl, inr, length-append}
-use Rattle.std.specs.Prelude.{All, Contains, Option, Some, None, filter, flat_map, bytes_eq, codes, not, unwrap_or, if◌then◌else◌}
+use Rattle.std.proofs.Common.{◌≡◌, ℕ, zero, suc, Bool, true, false, List, [], ◌∷◌, ◌++◌, length, map, refl, sym, ap, ap₂, ◌∙◌, subst, arith, length-append}
+use Rattle.std.specs.Prelude.{All, Contains, Option, Some, None, filter, flat_map, bytes_eq, codes, unwrap_or}
 use Rattle.std.specs.List.{AllZip}
-use Rattle.std.proofs.lemmas.Bool.{cases_Bool}
 use Rattle.std.proofs.lemmas.List.{map-append, append_cancel_left}
 use Rattle.std.proofs.lemmas.List.Elements.{All-append, All-cons, All-head, All-map, All-tail, All-contains, All-contains_itself, All-filter, All-weaker}
 use Rattle.shared_lemmas.proofs.Bytes.{bytes_eq-same, bytes_eq-apart, apart_turned}
@@ -13,7 +12,7 @@ use Rattle.vlog_module.specs.Maps.{value_in}
 use Rattle.vlog_semantics.specs.Entries.{Entry as ModuleEntry}
 use Rattle.fabric_model.specs.declared.pin.Pin.{Pin}
 use Rattle.fabric_model.specs.declared.input_port.InputPort.{InputPort}
-use Rattle.fabric_model.specs.declared.input_port.InputPort.TheVariants.{Pad as PadPort, Outside as OutsidePort, Pll as PllPort}
+use Rattle.fabric_model.specs.declared.input_port.InputPort.TheVariants.{Pad as PadPort, Outside as OutsidePort}
 use Rattle.fabric_model.specs.declared.pll.PllSource.{PllSource}
 use Rattle.fabric_model.specs.Tiles.{item_if}
 use Rattle.fabric_model.specs.Pins.{drives, is_switched, has_input, has_outside}
@@ -29,7 +28,7 @@ use Rattle.fabric_module.proofs.Configured.{each-name}
 use Rattle.fabric_module.specs.Matching.{HasValues, HasWires, Matches}
 use Rattle.fabric_module.proofs.Lists.{map-map}
 use Rattle.pin_file.specs.declared.pin_name.PinName.{PinName}
-use Rattle.pin_file.specs.PortNames.{enable_name as enable_name_behind, input_name as input_name_behind}
+use Rattle.pin_file.specs.PortNames.{enable_name as enable_name_after, input_name as input_name_after}
 use Rattle.port_names.specs.Renamed.{new_name, renamed_port, renamed_values, entry_renamed}
 use Rattle.port_names.specs.Law.{SameState}
 use Rattle.port_names.specs.Named.{given_name, name_by, enable_by, outside_by, named_port, named_enable, named_input, named_input_port, named_pin_ports, named_ports, named_output, renaming_by, pin_renaming, port_renaming}
@@ -67,8 +66,8 @@ enable-given pin switched (Some name) =
     rw switched (rw (port-no_enable pin) (rw (bytes_eq-same (enable_name pin) (enable_name pin) refl) refl))
 
 outside-flags : (pin : Pin) (name : List ℕ) (switched outside : Bool) → outside ≡ true
-    → value_in ((port_name pin, name) ∷ (item_if switched (enable_name pin, enable_name_behind name) ++ item_if outside (outside_name pin.x pin.y pin.n, input_name_behind name)))
-    (outside_name pin.x pin.y pin.n) ≡ Some (input_name_behind name)
+    → value_in ((port_name pin, name) ∷ (item_if switched (enable_name pin, enable_name_after name) ++ item_if outside (outside_name pin.x pin.y pin.n, input_name_after name)))
+    (outside_name pin.x pin.y pin.n) ≡ Some (input_name_after name)
 outside-flags pin name true true is =
     rw (port-no_outside pin, enable-no_outside pin, bytes_eq-same (outside_name pin.x pin.y pin.n) (outside_name pin.x pin.y pin.n) refl) refl
 outside-flags pin name false true is = rw (port-no_outside pin, bytes_eq-same (outside_name pin.x pin.y pin.n) (outside_name pin.x pin.y pin.n) refl) refl

@@ -15,7 +15,7 @@ use Rattle.fabric_module.specs.Written.{output_port, module_of}
 use Rattle.pin_file.specs.declared.place.PinPlace.{PinPlace}
 use Rattle.pin_file.specs.declared.place.PortPin.{PortPin}
 use Rattle.pin_file.specs.declared.pin_name.PinName.{PinName}
-use Rattle.pin_file.specs.PortNames.{is_place, enable_name as enable_name_behind, input_name as input_name_behind}
+use Rattle.pin_file.specs.PortNames.{is_place, enable_name as enable_name_after, input_name as input_name_after}
 use Rattle.pin_file.specs.Packages.{Package}
 use Rattle.pin_file.specs.Faults.{ports_of, pin_fault_of}
 use Rattle.port_names.specs.Renamed.{renamed}
@@ -57,12 +57,12 @@ name_by own None = own
 
 -- the name that is given with `_en` after it, or else the port's own
 abbrev pub enable_by : List ℕ → Option (List ℕ) → List ℕ
-enable_by own (Some name) = enable_name_behind name
+enable_by own (Some name) = enable_name_after name
 enable_by own None = own
 
 -- the name that is given with `_in` after it, or else the port's own
 abbrev pub outside_by : List ℕ → Option (List ℕ) → List ℕ
-outside_by own (Some name) = input_name_behind name
+outside_by own (Some name) = input_name_after name
 outside_by own None = own
 
 -- the name of the port at which a pin puts out what it drives its pad with
@@ -103,8 +103,8 @@ abbrev pub renaming_by : Pin → Option (List ℕ) → List (List ℕ × List �
 renaming_by pin None = []
 renaming_by pin (Some name) =
     (port_name pin, name)
-    ∷ (item_if (is_switched pin) (enable_name pin, enable_name_behind name)
-    ++ item_if (has_outside pin) (outside_name pin.x pin.y pin.n, input_name_behind name))
+    ∷ (item_if (is_switched pin) (enable_name pin, enable_name_after name)
+    ++ item_if (has_outside pin) (outside_name pin.x pin.y pin.n, input_name_after name))
 
 abbrev pub pin_renaming : List PinName → Pin → List (List ℕ × List ℕ)
 pin_renaming named pin = renaming_by pin (given_name named pin)

@@ -1,6 +1,6 @@
 // The names of ports.
 ghost use Rattle.std.specs.Prelude.{◌≡◌, ◌++◌, find, option_map, IfOk, OnOk, Some};
-ghost use Rattle.pin_file.specs.PortNames.{is_place, enable_name as enable_name_behind, input_name as input_name_behind};
+ghost use Rattle.pin_file.specs.PortNames.{is_place, enable_name as enable_name_after, input_name as input_name_after};
 ghost use Rattle.port_names.specs.Named.{renaming_by, pin_renaming, port_renaming};
 
 use crate::pins::place_of;
@@ -20,9 +20,9 @@ fn port_at(named: &[PinName], place: PinPlace) -> Option<&PinName>
 }
 
 /// A name with `_en` after it.
-#[tactic(auto, using(crate::proofs::Behind::behind_named))]
-fn enable_name_behind(alloc: Global, name: &Name) -> Result<Name, AllocError>
-    ensures { IfOk result (λ made. made ≡ enable_name_behind name.now) }
+#[tactic(auto, using(crate::proofs::After::after_named))]
+fn enable_name_after(alloc: Global, name: &Name) -> Result<Name, AllocError>
+    ensures { IfOk result (λ made. made ≡ enable_name_after name.now) }
 {
     let mut bytes = Vec::from_slice(alloc, name.bytes())?;
     bytes.extend_from_slice(b"_en")?;
@@ -30,9 +30,9 @@ fn enable_name_behind(alloc: Global, name: &Name) -> Result<Name, AllocError>
 }
 
 /// A name with `_in` after it.
-#[tactic(auto, using(crate::proofs::Behind::inside_named))]
-fn input_name_behind(alloc: Global, name: &Name) -> Result<Name, AllocError>
-    ensures { IfOk result (λ made. made ≡ input_name_behind name.now) }
+#[tactic(auto, using(crate::proofs::After::inside_named))]
+fn input_name_after(alloc: Global, name: &Name) -> Result<Name, AllocError>
+    ensures { IfOk result (λ made. made ≡ input_name_after name.now) }
 {
     let mut bytes = Vec::from_slice(alloc, name.bytes())?;
     bytes.extend_from_slice(b"_in")?;
@@ -53,13 +53,13 @@ fn append_names(
     names.push((port, given))?;
     if pin.is_switched() {
         let enable = enable_name(alloc, pin)?;
-        let given = enable_name_behind(alloc, name)?;
+        let given = enable_name_after(alloc, name)?;
         names.push((enable, given))?;
     }
     if has_outside(*pin) {
         let (x, y, n) = (pin.x, pin.y, pin.n);
         let outside = input_port_name(alloc, &InputPort::Outside { x, y, n })?;
-        let given = input_name_behind(alloc, name)?;
+        let given = input_name_after(alloc, name)?;
         names.push((outside, given))?;
     }
     Ok(())

@@ -9,6 +9,6 @@ slice_get-append (x ∷ xs) ys zero within = refl
 slice_get-append (x ∷ xs) ys (suc k) within = slice_get-append xs ys k (omega arith)
 
 -- the first item that was added
-pub slice_get-behind : {A : Type 0} (xs : List A) (y : A) (ys : List A) → slice_get (xs ++ y ∷ ys) (length xs) ≡ Some y
-slice_get-behind [] y ys = refl
-slice_get-behind (x ∷ xs) y ys = slice_get-behind xs y ys
+pub slice_get-after : {A : Type 0} (xs : List A) (y : A) (ys : List A) → slice_get (xs ++ y ∷ ys) (length xs) ≡ Some y
+slice_get-after [] y ys = refl
+slice_get-after (x ∷ xs) y ys = slice_get-after xs y ys

@@ -133,12 +133,12 @@ piece-is text piece end lines unended parts =
     append_assoc (text ++ end) lines unended ∙ append_assoc text end (lines ++ unended) ∙ ap (λ t. text ++ t) (sym (append_assoc end lines unended)) ∙ ap (λ t. text ++ t) (sym parts)
 
 -- the parts of a piece if more follows, after its end
-pub behind-end : (text piece end lines unended more : List ℕ) → piece ≡ end ++ lines ++ unended → text ++ end ++ (lines ++ unended ++ more) ≡ text ++ piece ++ more
-behind-end text piece end lines unended more parts =
+pub after-end : (text piece end lines unended more : List ℕ) → piece ≡ end ++ lines ++ unended → text ++ end ++ (lines ++ unended ++ more) ≡ text ++ piece ++ more
+after-end text piece end lines unended more parts =
     sym (append_assoc (text ++ end) (lines ++ unended) more)
     ∙ ap (λ t. t ++ more) (sym (append_assoc (text ++ end) lines unended) ∙ piece-is text piece end lines unended parts)
 
 -- and after its lines
-pub behind-lines : (text piece end lines unended more : List ℕ) → piece ≡ end ++ lines ++ unended → text ++ end ++ lines ++ (unended ++ more) ≡ text ++ piece ++ more
-behind-lines text piece end lines unended more parts =
+pub after-lines : (text piece end lines unended more : List ℕ) → piece ≡ end ++ lines ++ unended → text ++ end ++ lines ++ (unended ++ more) ≡ text ++ piece ++ more
+after-lines text piece end lines unended more parts =
     sym (append_assoc (text ++ end ++ lines) unended more) ∙ ap (λ t. t ++ more) (piece-is text piece end lines unended parts)

@@ -117,11 +117,11 @@ pub leads-before : (end : ℕ) (text : List ℕ) (digits number : ℕ) (rest : L
     → rest ≡ take (length text - (digits + 1)) (drop (digits + 1) text) → StartsWithNumber end text number rest
 leads-before end text digits number rest leads some lt here is =
     let next : suc digits ≡ digits + 1 = omega arith in
-    let behind : rest ≡ drop (digits + 1) text = is ∙ take_rest text (digits + 1) in
+    let following : rest ≡ drop (digits + 1) text = is ∙ take_rest text (digits + 1) in
     record {
       digits = take digits text;
       number_is = digits-number text digits number leads.has some;
-      text_is = split_at text digits 0 lt ∙ (λ i. take digits text ++ (here i ∷ drop (next i) text)) ∙ ap (λ more. take digits text ++ (end ∷ more)) (sym behind);
+      text_is = split_at text digits 0 lt ∙ (λ i. take digits text ++ (here i ∷ drop (next i) text)) ∙ ap (λ more. take digits text ++ (end ∷ more)) (sym following);
     }
 
 number-some : (word : List ℕ) (number : ℕ) → number_of word ≡ Some number → is_number word ≡ true

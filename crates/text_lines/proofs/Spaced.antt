@@ -9,7 +9,7 @@ use Rattle.std.specs.List.{position_or_len}
 use Rattle.text_lines.specs.Lines.{with_byte}
 use Rattle.text_lines.specs.declared.words.Separators.{Separators}
 use Rattle.text_lines.specs.declared.words.Separators.TheVariants.{Spaces, SpacesAndTabs, Whitespace}
-use Rattle.text_lines.specs.Words.{is_separator, pieces_of, words_of, from_word, first_word, behind_word}
+use Rattle.text_lines.specs.Words.{is_separator, pieces_of, words_of, from_word, first_word, after_word}
 use Rattle.text_lines.proofs.Cuts.{end-within, fail_before, cut_at, passes_at_end, position_or_len-none}
 
 -- bytes none of which parts words
@@ -167,9 +167,9 @@ first_of-word s byte bytes inner =
       | inl lt ↦
           let byte : ℕ = get_or line end 0 in
           let parts : is_separator s byte ≡ true = passes_at_end (is_separator s) line lt in
-          let behind : drop end line ≡ byte ∷ drop (end + 1) line = drop_more line end 0 lt in
+          let following : drop end line ≡ byte ∷ drop (end + 1) line = drop_more line end 0 lt in
           ap (words_of s) (cut_at (is_separator s) line lt) ∙ words_of-word s (take end line) byte (drop (end + 1) line) word parts
-          ∙ ap (λ rest. take end line ∷ rest) (sym (words_of-separator s byte (drop (end + 1) line) parts) ∙ ap (words_of s) (sym behind))
+          ∙ ap (λ rest. take end line ∷ rest) (sym (words_of-separator s byte (drop (end + 1) line) parts) ∙ ap (words_of s) (sym following))
       | inr le ↦
           let all : take end line ≡ line = take_all end line le in
           let none : drop end line ≡ [] = drop_all end line le in
@@ -201,8 +201,8 @@ length-from_word s (byte ∷ bytes) =
     ]
 
 -- what follows the first word is shorter than the line
-pub length-behind : (s : Separators) (line rest : List ℕ) → rest ≡ from_word s line → 0 < length rest → length (drop (end_of s rest) rest) < length line
-length-behind s line rest is some =
+pub length-after : (s : Separators) (line rest : List ℕ) → rest ≡ from_word s line → 0 < length rest → length (drop (end_of s rest) rest) < length line
+length-after s line rest is some =
     let within : length rest ≤ length line = omega (arith, length-from_word s line, ap length is) in
     let late : end_of s rest ≡ 0 → ⊥ = starts_late s rest line is some in
     omega (arith, length-drop (end_of s rest) rest)
@@ -229,8 +229,8 @@ from_word-nothing s (byte ∷ bytes) none =
     ]
 
 -- nothing follows if there is no word
-pub behind_no_word : (s : Separators) (line : List ℕ) → first_word s line ≡ [] → behind_word s line ≡ []
-behind_no_word s line none = rw (none, from_word-nothing s line none) refl
+pub after_no_word : (s : Separators) (line : List ℕ) → first_word s line ≡ [] → after_word s line ≡ []
+after_no_word s line none = rw (none, from_word-nothing s line none) refl
 
 -- two words with a space between them
 pub words_of-two : (s : Separators) (first second : List ℕ) → IsWord s first → IsWord s second → words_of s (first ++ (32 ∷ second)) ≡ first ∷ second ∷ []

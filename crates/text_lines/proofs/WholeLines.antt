@@ -104,8 +104,8 @@ whole-at_lf text end some within is =
     subst HasWholeLines (sym same) (whole-ended (take (end - 1) text))
 
 -- any bytes, and then a text up to one of its LF
-pub whole-behind : (kept text : List ℕ) (place : ℕ) → place < length text → get_or text place 0 ≡ 10 → HasWholeLines (kept ++ take (place + 1) text)
-whole-behind kept text place within is =
+pub whole-after : (kept text : List ℕ) (place : ℕ) → place < length text → get_or text place 0 ≡ 10 → HasWholeLines (kept ++ take (place + 1) text)
+whole-after kept text place within is =
     let parts : take (place + 1) text ≡ take place text ++ (10 ∷ []) = take_more text place 0 within ∙ ap (λ byte. take place text ++ (byte ∷ [])) is in
     let same : kept ++ take (place + 1) text ≡ kept ++ take place text ++ (10 ∷ []) = ap (λ end. kept ++ end) parts ∙ sym (append_assoc kept (take place text) (10 ∷ [])) in
     subst HasWholeLines (sym same) (whole-ended (kept ++ take place text))

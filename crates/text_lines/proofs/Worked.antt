@@ -3,7 +3,7 @@ use Rattle.std.proofs.Common.{◌≡◌, [], ◌∷◌, refl}
 use Rattle.std.specs.Prelude.{codes, Some, None}
 use Rattle.text_lines.specs.Lines.{lines_of, whole_lines_of, trimmed}
 use Rattle.text_lines.specs.declared.words.Separators.TheVariants.{Spaces, SpacesAndTabs}
-use Rattle.text_lines.specs.Words.{words_of, pieces_of, from_word, first_word, behind_word, number_of, numbers_of}
+use Rattle.text_lines.specs.Words.{words_of, pieces_of, from_word, first_word, after_word, number_of, numbers_of}
 
 -- an empty text has no line
 lines_of_nothing : lines_of [] ≡ []
@@ -84,17 +84,17 @@ first_word_some : first_word Spaces (codes "  ab  c ") ≡ codes "ab"
 unfolding from_word
 first_word_some = refl
 
-behind_word_some : behind_word Spaces (codes "  ab  c ") ≡ codes "  c "
+after_word_some : after_word Spaces (codes "  ab  c ") ≡ codes "  c "
 unfolding from_word
-behind_word_some = refl
+after_word_some = refl
 
 first_word_none : first_word Spaces (codes "  ") ≡ []
 unfolding from_word
 first_word_none = refl
 
-behind_word_none : behind_word Spaces (codes "  ") ≡ []
+after_word_none : after_word Spaces (codes "  ") ≡ []
 unfolding from_word
-behind_word_none = refl
+after_word_none = refl
 
 -- leading zeros count as digits
 number_of_seven : number_of (codes "007") ≡ Some 7

@@ -33,8 +33,8 @@ abbrev pub first_word : Separators → List ℕ → List ℕ
 first_word separators line = take_while (λ byte. not (is_separator separators byte)) (from_word separators line)
 
 -- what follows the first word, with its separators
-abbrev pub behind_word : Separators → List ℕ → List ℕ
-behind_word separators line = drop (length (first_word separators line)) (from_word separators line)
+abbrev pub after_word : Separators → List ℕ → List ℕ
+after_word separators line = drop (length (first_word separators line)) (from_word separators line)
 
 -- the number that decimal digits write
 abbrev pub digits_value : List ℕ → ℕ

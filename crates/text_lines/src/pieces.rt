@@ -25,10 +25,10 @@ pub fn cut_piece<'a>(kept: &[u8], piece: &'a [u8]) -> PieceLines<'a>
     ensures rest { ended_lines result.unended.now ≡ 0 }
 {
     if kept.is_empty() {
-        return cut_behind(&[], piece);
+        return cut_after(&[], piece);
     }
     match first_lf(piece) {
-        Some(offset) => cut_behind(&piece[..offset + 1], &piece[offset + 1..]),
+        Some(offset) => cut_after(&piece[..offset + 1], &piece[offset + 1..]),
         None => PieceLines {
             end: &[],
             lines: &[],
@@ -38,7 +38,7 @@ pub fn cut_piece<'a>(kept: &[u8], piece: &'a [u8]) -> PieceLines<'a>
 }
 
 /// Cuts the bytes that follow the end of a line.
-fn cut_behind<'a>(end: &'a [u8], bytes: &'a [u8]) -> PieceLines<'a>
+fn cut_after<'a>(end: &'a [u8], bytes: &'a [u8]) -> PieceLines<'a>
     ensures end { result.end.now ≡ end.now }
     ensures parts { bytes.now ≡ result.lines.now ++ result.unended.now }
     ensures lines { HasWholeLines result.lines.now }

@@ -1,7 +1,7 @@
 // Words of a line, and the numbers that they write.
 ghost use Rattle.std.specs.Prelude.{◌≡◌, List, ◌∷◌, [], ℕ, ◌<◌, ◌≢◌, not, length, position, IfSome, MatchOption};
 ghost use Rattle.std.specs.List.{position_or_len};
-ghost use Rattle.text_lines.specs.Words.{behind_word, first_word, from_word, is_separator, numbers_of, with_number, words_of};
+ghost use Rattle.text_lines.specs.Words.{after_word, first_word, from_word, is_separator, numbers_of, with_number, words_of};
 
 use crate::decimal::number;
 use crate::lines::is_blank;
@@ -35,7 +35,7 @@ pub fn split_word(separators: Separators, line: &[u8]) -> Option<(&[u8], &[u8])>
     ensures words { MatchOption result (words_of separators line.now ≡ [])
         (λ found. words_of separators line.now ≡ found.0.now ∷ words_of separators found.1.now) }
     ensures places { MatchOption result (first_word separators line.now ≡ [])
-        (λ found. (found.0.now ≡ first_word separators line.now) × (found.1.now ≡ behind_word separators line.now)) }
+        (λ found. (found.0.now ≡ first_word separators line.now) × (found.1.now ≡ after_word separators line.now)) }
     ensures shorter { IfSome result (λ found. length found.1.now < length line.now) }
 {
     let line = from_word(separators, line);
@@ -50,8 +50,8 @@ pub fn split_word(separators: Separators, line: &[u8]) -> Option<(&[u8], &[u8])>
 pub fn one_word(separators: Separators, line: &[u8]) -> Option<&[u8]>
     ensures { MatchOption result (length (words_of separators line.now) ≢ 1) (λ word. words_of separators line.now ≡ word.now ∷ []) }
 {
-    let (word, behind) = split_word(separators, line)?;
-    match split_word(separators, behind) {
+    let (word, following) = split_word(separators, line)?;
+    match split_word(separators, following) {
         None => Some(word),
         Some(_) => None,
     }
@@ -62,8 +62,8 @@ pub fn two_numbers(separators: Separators, line: &[u8]) -> Option<(u32, u32)>
     ensures { MatchOption result ((x y : ℕ) → numbers_of (words_of separators line.now) ≢ Some (x ∷ y ∷ []))
         (λ found. numbers_of (words_of separators line.now) ≡ Some (found.0 ∷ found.1 ∷ [])) }
 {
-    let (first, behind) = split_number(separators, line)?;
-    let second = one_number(separators, behind)?;
+    let (first, following) = split_number(separators, line)?;
+    let second = one_number(separators, following)?;
     Some((first, second))
 }
 
@@ -72,8 +72,8 @@ pub fn three_numbers(separators: Separators, line: &[u8]) -> Option<(u32, u32, u
     ensures { MatchOption result ((x y z : ℕ) → numbers_of (words_of separators line.now) ≢ Some (x ∷ y ∷ z ∷ []))
         (λ found. numbers_of (words_of separators line.now) ≡ Some (found.0 ∷ found.1 ∷ found.2 ∷ [])) }
 {
-    let (first, behind) = split_number(separators, line)?;
-    let (second, third) = two_numbers(separators, behind)?;
+    let (first, following) = split_number(separators, line)?;
+    let (second, third) = two_numbers(separators, following)?;
     Some((first, second, third))
 }
 
@@ -82,8 +82,8 @@ pub fn four_numbers(separators: Separators, line: &[u8]) -> Option<(u32, u32, u3
     ensures { MatchOption result ((w x y z : ℕ) → numbers_of (words_of separators line.now) ≢ Some (w ∷ x ∷ y ∷ z ∷ []))
         (λ found. numbers_of (words_of separators line.now) ≡ Some (found.0 ∷ found.1 ∷ found.2 ∷ found.3 ∷ [])) }
 {
-    let (first, behind) = split_number(separators, line)?;
-    let (second, third, fourth) = three_numbers(separators, behind)?;
+    let (first, following) = split_number(separators, line)?;
+    let (second, third, fourth) = three_numbers(separators, following)?;
     Some((first, second, third, fourth))
 }
 
@@ -92,9 +92,9 @@ fn split_number(separators: Separators, line: &[u8]) -> Option<(u32, &[u8])>
     ensures { MatchOption result ((x : ℕ) (xs : List ℕ) → numbers_of (words_of separators line.now) ≢ Some (x ∷ xs))
         (λ found. numbers_of (words_of separators line.now) ≡ with_number (Some found.0) (numbers_of (words_of separators found.1.now))) }
 {
-    let (word, behind) = split_word(separators, line)?;
+    let (word, following) = split_word(separators, line)?;
     let first = number(word)?;
-    Some((first, behind))
+    Some((first, following))
 }
 
 /// The number of a line of exactly one word, if the word writes one.

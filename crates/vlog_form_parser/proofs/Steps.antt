@@ -10,7 +10,7 @@ use Rattle.vlog_forms.specs.declared.slot.Slot.{Slot}
 use Rattle.vlog_forms.specs.declared.slot.Slot.TheVariants as slot
 use Rattle.vlog_forms.specs.Values.{seen, value_tokens, tokens_at, is_same_token}
 use Rattle.vlog_forms.specs.Layout.{parts_of, more_slots, atom_slots, again_slots, first_again_slots}
-use Rattle.vlog_forms.specs.Reading.{Found, values_of, Reading, read_tokens, behind_tokens, read_single, read_atom, read_slot, read_slots, and_then, or_further}
+use Rattle.vlog_forms.specs.Reading.{Found, values_of, Reading, read_tokens, after_tokens, read_single, read_atom, read_slot, read_slots, and_then, or_further}
 use Rattle.vlog_forms.specs.Reading as reading
 use Rattle.vlog_form_parser.specs.declared.forms.Whole.{Whole}
 use Rattle.vlog_form_parser.specs.declared.found.Found as kept
@@ -69,22 +69,22 @@ stops-then first second (Stuck at) stops = ap (λ reading. and_then reading seco
 stops-then first second (Memory refused) stops = tt
 
 -- tokens that are passed
-pub passes-end : (reading : Result (List Spot) ℕ) (found : List Found) (spots : List Spot) → reading ≡ Ok spots → behind_tokens found reading ≡ Ok (found, spots)
-passes-end reading found spots reads = ap (behind_tokens found) reads
+pub passes-end : (reading : Result (List Spot) ℕ) (found : List Found) (spots : List Spot) → reading ≡ Ok spots → after_tokens found reading ≡ Ok (found, spots)
+passes-end reading found spots reads = ap (after_tokens found) reads
 
-pub passes-stuck : (reading : Result (List Spot) ℕ) (found : List Found) (at : ℕ) → reading ≡ Err at → behind_tokens found reading ≡ Err at
-passes-stuck reading found at reads = ap (behind_tokens found) reads
+pub passes-stuck : (reading : Result (List Spot) ℕ) (found : List Found) (at : ℕ) → reading ≡ Err at → after_tokens found reading ≡ Err at
+passes-stuck reading found at reads = ap (after_tokens found) reads
 
 -- a sign before other slots
 pub fixed-then : (end : ℕ) (fixed : Fixed) (slots : List Slot) (found : List Found) (spots rest : List Spot) → read_tokens end (token.fixed fixed ∷ []) spots ≡ Ok rest
     → read_slots end (slot.Fixed fixed ∷ slots) found spots ≡ read_slots end slots found rest
 unfolding read_slots
-fixed-then end fixed slots found spots rest reads = ap (λ reading. and_then (behind_tokens found reading) (read_slots end slots)) reads
+fixed-then end fixed slots found spots rest reads = ap (λ reading. and_then (after_tokens found reading) (read_slots end slots)) reads
 
 pub fixed-stuck : (end : ℕ) (fixed : Fixed) (slots : List Slot) (found : List Found) (spots : List Spot) (at : ℕ) → read_tokens end (token.fixed fixed ∷ []) spots ≡ Err at
     → read_slots end (slot.Fixed fixed ∷ slots) found spots ≡ Err at
 unfolding read_slots
-fixed-stuck end fixed slots found spots at reads = ap (λ reading. and_then (behind_tokens found reading) (read_slots end slots)) reads
+fixed-stuck end fixed slots found spots at reads = ap (λ reading. and_then (after_tokens found reading) (read_slots end slots)) reads
 
 -- a first token that is a sign, or isn't
 pub first-then : (end : ℕ) (fixed : Fixed) (slots : List Slot) (found : List Found) (first : Spot) (spots : List Spot) → is_same_token (token.fixed fixed) first.token ≡ true
@@ -117,12 +117,12 @@ atom-stops end slots found spots stop stops = stops-then (read_atom end found sp
 pub again-then : (end place : ℕ) (slots : List Slot) (found : List Found) (spots rest : List Spot) → read_tokens end (tokens_at (values_of found) place) spots ≡ Ok rest
     → read_slots end (slot.Again place ∷ slots) found spots ≡ read_slots end slots found rest
 unfolding read_slots
-again-then end place slots found spots rest reads = ap (λ reading. and_then (behind_tokens found reading) (read_slots end slots)) reads
+again-then end place slots found spots rest reads = ap (λ reading. and_then (after_tokens found reading) (read_slots end slots)) reads
 
 pub again-stuck : (end place : ℕ) (slots : List Slot) (found : List Found) (spots : List Spot) (at : ℕ) → read_tokens end (tokens_at (values_of found) place) spots ≡ Err at
     → read_slots end (slot.Again place ∷ slots) found spots ≡ Err at
 unfolding read_slots
-again-stuck end place slots found spots at reads = ap (λ reading. and_then (behind_tokens found reading) (read_slots end slots)) reads
+again-stuck end place slots found spots at reads = ap (λ reading. and_then (after_tokens found reading) (read_slots end slots)) reads
 
 -- ---- tokens one after another
 
@@ -146,24 +146,24 @@ tokens-stuck end one more (first ∷ spots) at reads = by (is_same_token one fir
 
 -- tokens that keep no value
 pub stop-over : (reading : Result (List Spot) ℕ) (bytes : List ℕ) (found : List Found) (read : Result ℕ ℕ) (result : Result ℕ ReadStop) → ReadsTokens reading bytes read
-    → MatchResult read (λ end. result ≡ Ok end) (λ stuck. result ≡ Err (Stuck stuck)) → ReadsTo (behind_tokens found reading) bytes found result
-stop-over reading bytes found (Ok end) result reads is = subst (λ (r : Result ℕ ReadStop). ReadsTo (behind_tokens found reading) bytes found r) (sym is) (ap (behind_tokens found) reads)
-stop-over reading bytes found (Err at) result reads is = subst (λ (r : Result ℕ ReadStop). ReadsTo (behind_tokens found reading) bytes found r) (sym is) (ap (behind_tokens found) reads)
+    → MatchResult read (λ end. result ≡ Ok end) (λ stuck. result ≡ Err (Stuck stuck)) → ReadsTo (after_tokens found reading) bytes found result
+stop-over reading bytes found (Ok end) result reads is = subst (λ (r : Result ℕ ReadStop). ReadsTo (after_tokens found reading) bytes found r) (sym is) (ap (after_tokens found) reads)
+stop-over reading bytes found (Err at) result reads is = subst (λ (r : Result ℕ ReadStop). ReadsTo (after_tokens found reading) bytes found r) (sym is) (ap (after_tokens found) reads)
 
 pub over-stop : (reading : Reading (List Found)) (bytes : List ℕ) (found : List Found) (read : Result ℕ ℕ) (result : Result ℕ ReadStop) → ReadsOver reading bytes found read
     → MatchResult read (λ end. result ≡ Ok end) (λ stuck. result ≡ Err (Stuck stuck)) → ReadsTo reading bytes found result
 over-stop reading bytes found (Ok end) result reads is = subst (λ (r : Result ℕ ReadStop). ReadsTo reading bytes found r) (sym is) reads
 over-stop reading bytes found (Err at) result reads is = subst (λ (r : Result ℕ ReadStop). ReadsTo reading bytes found r) (sym is) reads
 
-pub tokens-over : (reading : Result (List Spot) ℕ) (bytes : List ℕ) (found : List Found) (read : Result ℕ ℕ) → ReadsTokens reading bytes read → ReadsOver (behind_tokens found reading) bytes found read
-tokens-over reading bytes found (Ok end) reads = ap (behind_tokens found) reads
-tokens-over reading bytes found (Err at) reads = ap (behind_tokens found) reads
+pub tokens-over : (reading : Result (List Spot) ℕ) (bytes : List ℕ) (found : List Found) (read : Result ℕ ℕ) → ReadsTokens reading bytes read → ReadsOver (after_tokens found reading) bytes found read
+tokens-over reading bytes found (Ok end) reads = ap (after_tokens found) reads
+tokens-over reading bytes found (Err at) reads = ap (after_tokens found) reads
 
 pub tokens-along : (one other : Result (List Spot) ℕ) (bytes : List ℕ) (read : Result ℕ ℕ) → one ≡ other → ReadsTokens other bytes read → ReadsTokens one bytes read
 tokens-along one other bytes read same reads = subst (λ (r : Result (List Spot) ℕ). ReadsTokens r bytes read) (sym same) reads
 
 -- a sign alone
-pub fixed-one : (end : ℕ) (fixed : Fixed) (found : List Found) (spots : List Spot) → read_slots end (slot.Fixed fixed ∷ []) found spots ≡ behind_tokens found (read_tokens end (token.fixed fixed ∷ []) spots)
+pub fixed-one : (end : ℕ) (fixed : Fixed) (found : List Found) (spots : List Spot) → read_slots end (slot.Fixed fixed ∷ []) found spots ≡ after_tokens found (read_tokens end (token.fixed fixed ∷ []) spots)
 fixed-one end fixed found spots = slots-one end (slot.Fixed fixed) found spots
 
 -- slots of one token

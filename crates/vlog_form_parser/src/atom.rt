@@ -3,7 +3,7 @@ ghost use Rattle.std.specs.Prelude.{◌≡◌, ◌≤◌, ◌++◌, [], ◌∷�
 ghost use Rattle.vlog_tokens.specs.Tokens.{spots_at};
 ghost use Rattle.vlog_tokens.specs.Tokens.{TokenValue as token};
 ghost use Rattle.vlog_forms.specs.Values.{seen};
-ghost use Rattle.vlog_forms.specs.Reading.{atom_from, behind_open, close_part, found_at, opens, read_atom, read_part};
+ghost use Rattle.vlog_forms.specs.Reading.{atom_from, after_open, close_part, found_at, opens, read_atom, read_part};
 ghost use Rattle.vlog_form_parser.specs.Found.{all_found};
 ghost use Rattle.vlog_form_parser.specs.Readings.{IsMemory, ReadsIndex, ReadsTo};
 
@@ -48,9 +48,9 @@ fn read_named<'a>(
     ensures reads { ReadsTo (atom_from (length bytes.now) (all_found values.old.items) at (token.name name.now) (spots_at bytes.now from)) bytes.now (all_found values.new.items) result }
     ensures within { IfOk result (λ end. end ≤ length bytes.now) }
 {
-    match behind_open(bytes, from) {
+    match after_open(bytes, from) {
         None => keep_atom(values, at, Value::AtomName(name), from),
-        Some(behind) => match read_part(bytes, behind) {
+        Some(following) => match read_part(bytes, following) {
             Err(stuck) => Err(ReadStop::Stuck(stuck)),
             Ok((k, end)) => keep_atom(values, at, Value::AtomPart(name, k), end),
         },
@@ -64,7 +64,7 @@ fn keep_atom<'a>(
     value: Value<'a>,
     end: usize,
 ) -> Result<usize, ReadStop>
-    ensures { MatchResult result (λ behind. (behind ≡ end) × (all_found values.new.items ≡ all_found values.old.items ++ found_at at (seen value.entry) ∷ []))
+    ensures { MatchResult result (λ following. (following ≡ end) × (all_found values.new.items ≡ all_found values.old.items ++ found_at at (seen value.entry) ∷ []))
         (λ stop. IsMemory stop) }
 {
     match push_found(values, at, value) {
@@ -74,10 +74,10 @@ fn keep_atom<'a>(
 }
 
 /// The offset after `[`, if that is the next token.
-fn behind_open(bytes: &[u8], from: usize) -> Option<usize>
+fn after_open(bytes: &[u8], from: usize) -> Option<usize>
     requires { from ≤ length bytes.now }
     ensures opens { MatchOption result (opens (spots_at bytes.now from) ≡ false)
-        (λ end. (opens (spots_at bytes.now from) ≡ true) × (behind_open (spots_at bytes.now from) ≡ spots_at bytes.now end)) }
+        (λ end. (opens (spots_at bytes.now from) ≡ true) × (after_open (spots_at bytes.now from) ≡ spots_at bytes.now end)) }
     ensures within { IfSome result (λ end. end ≤ length bytes.now) }
 {
     match next_token(bytes, from) {

@@ -87,7 +87,7 @@ fn read_each<'a>(
 ) -> Result<Whole, ReadStop>
     requires within { from ≤ length bytes.now }
     requires first { IfSome first (λ found. spots_at bytes.now from ≡ spot found.at (seen found.token) ∷ spots_at bytes.now found.end) }
-    requires behind { IfSome first (λ found. found.end ≤ length bytes.now) }
+    requires following { IfSome first (λ found. found.end ≤ length bytes.now) }
     ensures reads { ReadsForm (read_forms (length bytes.now) (all_found given.now) forms.now (spots_at bytes.now from)) bytes.now (all_found values.new.items) result }
     ensures within { IfOk result (λ whole. whole.end ≤ length bytes.now) }
 {
@@ -114,12 +114,12 @@ fn read_form<'a>(
 ) -> Result<usize, ReadStop>
     requires within { from ≤ length bytes.now }
     requires first { IfSome first (λ found. spots_at bytes.now from ≡ spot found.at (seen found.token) ∷ spots_at bytes.now found.end) }
-    requires behind { IfSome first (λ found. found.end ≤ length bytes.now) }
+    requires following { IfSome first (λ found. found.end ≤ length bytes.now) }
     ensures reads { ReadsTo (read_slots (length bytes.now) (slots_of form) (all_found given.now) (spots_at bytes.now from)) bytes.now (all_found values.new.items) result }
     ensures within { IfOk result (λ end. end ≤ length bytes.now) }
 {
     match first {
-        None => read_behind(bytes, from, given, slots(form), values),
+        None => read_after(bytes, from, given, slots(form), values),
         Some(spot) => read_begun(bytes, from, spot, given, slots(form), values),
     }
 }
@@ -135,15 +135,15 @@ fn read_begun<'a>(
 ) -> Result<usize, ReadStop>
     requires within { from ≤ length bytes.now }
     requires first { spots_at bytes.now from ≡ spot first.at (seen first.token) ∷ spots_at bytes.now first.end }
-    requires behind { first.end ≤ length bytes.now }
+    requires following { first.end ≤ length bytes.now }
     ensures reads { ReadsTo (read_slots (length bytes.now) (flat_map parts_of slots.now) (all_found given.now) (spots_at bytes.now from)) bytes.now (all_found values.new.items) result }
     ensures within { IfOk result (λ end. end ≤ length bytes.now) }
 {
     match first_sign(slots) {
-        None => read_behind(bytes, from, given, slots, values),
+        None => read_after(bytes, from, given, slots, values),
         Some(fixed) => {
             if is_fixed(fixed, first.token) {
-                read_behind(bytes, first.end, given, &slots[1..], values)
+                read_after(bytes, first.end, given, &slots[1..], values)
             } else {
                 Err(ReadStop::Stuck(first.at))
             }
@@ -165,7 +165,7 @@ fn first_sign(slots: &[Slot]) -> Option<Fixed>
 }
 
 /// Reads slots after the values that are given.
-fn read_behind<'a>(
+fn read_after<'a>(
     bytes: &'a [u8],
     from: usize,
     given: &[Found<'a>],

@@ -1,6 +1,6 @@
 // Items from values.
 ghost use Rattle.std.specs.Prelude.{◌≡◌, ◌<◌, ◌^◌, IfOk};
-ghost use Rattle.vlog_forms.specs.Items.{behind, item_of, lut_in};
+ghost use Rattle.vlog_forms.specs.Items.{following, item_of, lut_in};
 ghost use Rattle.vlog_forms.specs.Reading.{values_of};
 ghost use Rattle.vlog_form_parser.specs.Found.{all_found};
 ghost use Rattle.vlog_form_parser.specs.Named.{AreNamed};
@@ -167,7 +167,7 @@ fn assign_of(alloc: Global, values: &[Found<'_>]) -> Result<Item, AllocError>
 fn lut_at(alloc: Global, values: &[Found<'_>], place: usize) -> Result<Lut, AllocError>
     requires named { AreNamed (values_of (all_found values.now)) }
     requires small { place < 2 ^ 32 }
-    ensures { IfOk result (λ lut. lut ≡ lut_in (behind place (values_of (all_found values.now)))) }
+    ensures { IfOk result (λ lut. lut ≡ lut_in (following place (values_of (all_found values.now)))) }
 {
     let ins = atoms_at(alloc, values, place + 1, 4)?;
     Ok(Lut {

@@ -1,7 +1,7 @@
 // Values by their indexes.
 ghost use Rattle.std.specs.Prelude.{◌≡◌, ◌+◌, ◌<◌, ◌^◌, List, [], ◌∷◌, reverse, IfOk, MatchOption};
 ghost use Rattle.vlog_module.specs.Names.{IsName};
-ghost use Rattle.vlog_forms.specs.Items.{atom_in, atoms_in, behind, bit_in, edge_in, index_in, name_in, word_in};
+ghost use Rattle.vlog_forms.specs.Items.{atom_in, atoms_in, following, bit_in, edge_in, index_in, name_in, word_in};
 ghost use Rattle.vlog_forms.specs.Reading.{values_of};
 ghost use Rattle.vlog_forms.specs.Values.{Value as Meant, seen};
 ghost use Rattle.vlog_form_parser.specs.Found.{all_found};
@@ -21,7 +21,7 @@ pub(crate) fn atoms_at(
 ) -> Result<Atoms, AllocError>
     requires named { AreNamed (values_of (all_found values.now)) }
     requires small { place + count < 2 ^ 64 }
-    ensures { IfOk result (λ atoms. atoms ≡ reverse (atoms_in count (behind place (values_of (all_found values.now))))) }
+    ensures { IfOk result (λ atoms. atoms ≡ reverse (atoms_in count (following place (values_of (all_found values.now))))) }
 {
     let mut atoms = Atoms::new(alloc);
     let mut left = count;
@@ -34,8 +34,8 @@ pub(crate) fn atoms_at(
 
 /// The value at an index, if there is one.
 fn value_at<'a>(values: &[Found<'a>], place: usize) -> Option<Value<'a>>
-    ensures { MatchOption result (behind place (values_of (all_found values.now)) ≡ [])
-        (λ value. (rest : List Meant) × (behind place (values_of (all_found values.now)) ≡ seen value ∷ rest)) }
+    ensures { MatchOption result (following place (values_of (all_found values.now)) ≡ [])
+        (λ value. (rest : List Meant) × (following place (values_of (all_found values.now)) ≡ seen value ∷ rest)) }
 {
     if place < values.len() {
         Some(values[place].value)
@@ -47,7 +47,7 @@ fn value_at<'a>(values: &[Found<'a>], place: usize) -> Option<Value<'a>>
 /// The atom at an index; `1'b0` if no atom is there.
 pub(crate) fn atom_at(alloc: Global, values: &[Found<'_>], place: usize) -> Result<Atom, AllocError>
     requires { AreNamed (values_of (all_found values.now)) }
-    ensures { IfOk result (λ atom. atom ≡ atom_in (behind place (values_of (all_found values.now)))) }
+    ensures { IfOk result (λ atom. atom ≡ atom_in (following place (values_of (all_found values.now)))) }
 {
     match value_at(values, place) {
         Some(value) => atom_of(alloc, value),
@@ -81,14 +81,14 @@ fn atom_of(alloc: Global, value: Value<'_>) -> Result<Atom, AllocError>
 /// `AllocError` if memory is out, and for no other cause.
 pub fn name_at(alloc: Global, values: &[Found<'_>], place: usize) -> Result<Name, AllocError>
     requires { AreNamed (values_of (all_found values.now)) }
-    ensures { IfOk result (λ name. name ≡ name_in (behind place (values_of (all_found values.now)))) }
+    ensures { IfOk result (λ name. name ≡ name_in (following place (values_of (all_found values.now)))) }
 {
     Name::new(alloc, text_at(values, place))
 }
 
 /// The text of the name at an index; `x` if no name is there.
 pub fn text_at<'a>(values: &[Found<'a>], place: usize) -> &'a [u8]
-    ensures text { result.now ≡ name_in (behind place (values_of (all_found values.now))) }
+    ensures text { result.now ≡ name_in (following place (values_of (all_found values.now))) }
     ensures named { AreNamed (values_of (all_found values.now)) → IsName result.now }
 {
     match value_at(values, place) {
@@ -118,7 +118,7 @@ pub fn text_of<'a>(value: Value<'a>) -> &'a [u8]
 
 /// Whether the edge at an index is `negedge`; `posedge` if no edge is there.
 pub(crate) fn edge_at(values: &[Found<'_>], place: usize) -> bool
-    ensures { result ≡ edge_in (behind place (values_of (all_found values.now))) }
+    ensures { result ≡ edge_in (following place (values_of (all_found values.now))) }
 {
     match value_at(values, place) {
         Some(value) => edge_of(value),
@@ -144,7 +144,7 @@ fn edge_of(value: Value<'_>) -> bool
 
 /// The bit at an index; 0 if no bit is there.
 pub fn bit_at(values: &[Found<'_>], place: usize) -> bool
-    ensures { result ≡ bit_in (behind place (values_of (all_found values.now))) }
+    ensures { result ≡ bit_in (following place (values_of (all_found values.now))) }
 {
     match value_at(values, place) {
         Some(value) => bit_of(value),
@@ -170,7 +170,7 @@ fn bit_of(value: Value<'_>) -> bool
 
 /// The word at an index; 0 if no word is there.
 pub(crate) fn word_at(values: &[Found<'_>], place: usize) -> u16
-    ensures { result ≡ word_in (behind place (values_of (all_found values.now))) }
+    ensures { result ≡ word_in (following place (values_of (all_found values.now))) }
 {
     match value_at(values, place) {
         Some(value) => word_of(value),
@@ -196,7 +196,7 @@ fn word_of(value: Value<'_>) -> u16
 
 /// The index that the value at an index is; 0 if it is none.
 pub fn index_at(values: &[Found<'_>], place: usize) -> u8
-    ensures { result ≡ index_in (behind place (values_of (all_found values.now))) }
+    ensures { result ≡ index_in (following place (values_of (all_found values.now))) }
 {
     match value_at(values, place) {
         Some(value) => index_of(value),

@@ -20,7 +20,7 @@ use Rattle.vlog_forms.specs.declared.slot.Slot.TheVariants as slot
 use Rattle.vlog_forms.specs.Values.{Value}
 use Rattle.vlog_forms.specs.Values.Value.{Name, Edge, Bit, Word, Index, AnAtom}
 use Rattle.vlog_forms.specs.Layout.{slots_of}
-use Rattle.vlog_forms.specs.Items.{item_of, index_in, word_in, atoms_in, behind}
+use Rattle.vlog_forms.specs.Items.{item_of, index_in, word_in, atoms_in, following}
 use Rattle.vlog_forms.specs.Reading.{Found, values_of}
 use Rattle.vlog_forms.specs.Outcome.{Fault, fault, role_use, value_uses, uses_from, uses_in, use_fault, or_fault, fault_from, name_fault, item_fault}
 use Rattle.vlog_forms.proofs.SlotLists.{FitAll}
@@ -107,7 +107,7 @@ are_limited [] = true
 are_limited (slot.Name role ∷ slots) = role_within role (next_limit slots) && are_limited slots
 are_limited (_ ∷ slots) = are_limited slots
 
-role-ranged : (role : Role) (all : List Value) (place : ℕ) (name : List ℕ) (limit : ℕ) → index_in (behind (place + 1) all) ≤ limit → role_within role limit ≡ true → IsInRange (role_use role all place name)
+role-ranged : (role : Role) (all : List Value) (place : ℕ) (name : List ℕ) (limit : ℕ) → index_in (following (place + 1) all) ≤ limit → role_within role limit ≡ true → IsInRange (role_use role all place name)
 role-ranged (Declares sort) all place name limit within limited = tt
 role-ranged Reads all place name limit within limited = tt
 role-ranged ReadsBit all place name limit within limited = let top : limit ≤ 15 = leb-true limit 15 limited in omega arith
@@ -117,45 +117,45 @@ role-ranged Chooses all place name limit within limited = tt
 role-ranged AssignsAsync all place name limit within limited = tt
 role-ranged Starts all place name limit within limited = let top : limit ≤ 255 = leb-true limit 255 limited in omega arith
 
-behind-next : (n : ℕ) (values : List Value) → behind (suc n) values ≡ drop 1 (behind n values)
-unfolding behind
-behind-next zero values = refl
-behind-next (suc n) values = behind-next n (drop 1 values)
+after-next : (n : ℕ) (values : List Value) → following (suc n) values ≡ drop 1 (following n values)
+unfolding following
+after-next zero values = refl
+after-next (suc n) values = after-next n (drop 1 values)
 
-behind-none : (values : List Value) → behind 0 values ≡ values
-unfolding behind
-behind-none values = refl
+after-none : (values : List Value) → following 0 values ≡ values
+unfolding following
+after-none values = refl
 
 -- the values after the first of those from an index on
-rest-behind : (all : List Value) (place : ℕ) (value : Value) (values : List Value) → behind place all ≡ value ∷ values → behind (place + 1) all ≡ values
-rest-behind all place value values is =
+rest-after : (all : List Value) (place : ℕ) (value : Value) (values : List Value) → following place all ≡ value ∷ values → following (place + 1) all ≡ values
+rest-after all place value values is =
     let one : place + 1 ≡ suc place = omega arith in
-    ap (λ n. behind n all) one ∙ behind-next place all ∙ ap (drop 1) is
+    ap (λ n. following n all) one ∙ after-next place all ∙ ap (drop 1) is
 
-uses-ranged : (slots : List Slot) (all : List Value) (place : ℕ) (values : List Value) → behind place all ≡ values → FitAll slots values → are_limited slots ≡ true
+uses-ranged : (slots : List Slot) (all : List Value) (place : ℕ) (values : List Value) → following place all ≡ values → FitAll slots values → are_limited slots ≡ true
     → All IsInRange (uses_from all place values)
 unfolding FitAll are_limited
 uses-ranged [] all place [] is fit limited = All-nil IsInRange
 uses-ranged [] all place (value ∷ values) is fit limited = absurd fit
 uses-ranged (slot.Name role ∷ slots) all place (Name other name ∷ values) is fit limited =
-    let rest : behind (place + 1) all ≡ values = rest-behind all place (Name other name) values is in
+    let rest : following (place + 1) all ≡ values = rest-after all place (Name other name) values is in
     let parts = and_parts (role_within role (next_limit slots)) (are_limited slots) limited in
     let here : role_within other (next_limit slots) ≡ true = ap (λ r. role_within r (next_limit slots)) fit.0 ∙ parts.0 in
-    let within : index_in (behind (place + 1) all) ≤ next_limit slots
+    let within : index_in (following (place + 1) all) ≤ next_limit slots
     = subst (λ (v : List Value). index_in v ≤ next_limit slots) (sym rest) (index-within slots values fit.1) in
     All-cons IsInRange (role_use other all place name) (uses_from all (place + 1) values)
     (role-ranged other all place name (next_limit slots) within here) (uses-ranged slots all (place + 1) values rest fit.1 parts.1)
-uses-ranged (slot.Edge ∷ slots) all place (Edge falling ∷ values) is fit limited = uses-ranged slots all (place + 1) values (rest-behind all place (Edge falling) values is) fit.1 limited
-uses-ranged (slot.Bit ∷ slots) all place (Bit bit ∷ values) is fit limited = uses-ranged slots all (place + 1) values (rest-behind all place (Bit bit) values is) fit.1 limited
-uses-ranged (slot.Word ∷ slots) all place (Word word ∷ values) is fit limited = uses-ranged slots all (place + 1) values (rest-behind all place (Word word) values is) fit.1 limited
-uses-ranged (slot.Index limit ∷ slots) all place (Index k ∷ values) is fit limited = uses-ranged slots all (place + 1) values (rest-behind all place (Index k) values is) fit.1 limited
-uses-ranged (slot.Atom ∷ slots) all place (AnAtom (atom.Bit bit) ∷ values) is fit limited = uses-ranged slots all (place + 1) values (rest-behind all place (AnAtom (atom.Bit bit)) values is) fit.1 limited
+uses-ranged (slot.Edge ∷ slots) all place (Edge falling ∷ values) is fit limited = uses-ranged slots all (place + 1) values (rest-after all place (Edge falling) values is) fit.1 limited
+uses-ranged (slot.Bit ∷ slots) all place (Bit bit ∷ values) is fit limited = uses-ranged slots all (place + 1) values (rest-after all place (Bit bit) values is) fit.1 limited
+uses-ranged (slot.Word ∷ slots) all place (Word word ∷ values) is fit limited = uses-ranged slots all (place + 1) values (rest-after all place (Word word) values is) fit.1 limited
+uses-ranged (slot.Index limit ∷ slots) all place (Index k ∷ values) is fit limited = uses-ranged slots all (place + 1) values (rest-after all place (Index k) values is) fit.1 limited
+uses-ranged (slot.Atom ∷ slots) all place (AnAtom (atom.Bit bit) ∷ values) is fit limited = uses-ranged slots all (place + 1) values (rest-after all place (AnAtom (atom.Bit bit)) values is) fit.1 limited
 uses-ranged (slot.Atom ∷ slots) all place (AnAtom (atom.Whole name) ∷ values) is fit limited =
     All-cons IsInRange (ReadsName name) (uses_from all (place + 1) values) tt
-    (uses-ranged slots all (place + 1) values (rest-behind all place (AnAtom (atom.Whole name)) values is) fit.1 limited)
+    (uses-ranged slots all (place + 1) values (rest-after all place (AnAtom (atom.Whole name)) values is) fit.1 limited)
 uses-ranged (slot.Atom ∷ slots) all place (AnAtom (atom.Part name k) ∷ values) is fit limited =
     All-cons IsInRange (ReadsPart name k) (uses_from all (place + 1) values) (leb-true k 15 fit.0)
-    (uses-ranged slots all (place + 1) values (rest-behind all place (AnAtom (atom.Part name k)) values is) fit.1 limited)
+    (uses-ranged slots all (place + 1) values (rest-after all place (AnAtom (atom.Part name k)) values is) fit.1 limited)
 uses-ranged (slot.Space ∷ slots) all place values is fit limited = uses-ranged slots all place values is fit.1 limited
 uses-ranged (slot.Fixed fixed ∷ slots) all place values is fit limited = uses-ranged slots all place values is fit.1 limited
 uses-ranged (slot.Literal number ∷ slots) all place values is fit limited = uses-ranged slots all place values is fit.1 limited
@@ -228,11 +228,11 @@ word-small (Bit bit ∷ values) sound = omega arith
 word-small (Index k ∷ values) sound = omega arith
 word-small (AnAtom one ∷ values) sound = omega arith
 
-pub sound-behind : (n : ℕ) (values : List Value) → AreSoundValues values → AreSoundValues (behind n values)
-unfolding behind
-sound-behind zero values sound = sound
-sound-behind (suc n) [] sound = sound-behind n [] tt
-sound-behind (suc n) (value ∷ values) sound = sound-behind n values sound.1
+pub sound-after : (n : ℕ) (values : List Value) → AreSoundValues values → AreSoundValues (following n values)
+unfolding following
+sound-after zero values sound = sound
+sound-after (suc n) [] sound = sound-after n [] tt
+sound-after (suc n) (value ∷ values) sound = sound-after n values sound.1
 
 atoms-count : (n : ℕ) (values : List Value) → length (atoms_in n values) ≡ n
 unfolding atoms_in
@@ -244,28 +244,28 @@ list-count n values = length-reverse (atoms_in n values) ∙ atoms-count n value
 
 item-shaped : (one : Form) (v : List Value) → AreSoundValues v → IsShaped (item_of one v)
 unfolding item_of
-item-shaped form.Input v sound = word-small (behind 2 v) (sound-behind 2 v sound)
-item-shaped form.Output v sound = word-small (behind 2 v) (sound-behind 2 v sound)
+item-shaped form.Input v sound = word-small (following 2 v) (sound-after 2 v sound)
+item-shaped form.Output v sound = word-small (following 2 v) (sound-after 2 v sound)
 item-shaped form.Register v sound = tt
-item-shaped form.Word v sound = word-small (behind 1 v) (sound-behind 1 v sound)
+item-shaped form.Word v sound = word-small (following 1 v) (sound-after 1 v sound)
 item-shaped form.Memory v sound = tt
 item-shaped form.WireBit v sound = tt
 item-shaped form.WireWhole v sound = tt
 item-shaped form.WirePart v sound = tt
-item-shaped form.WireLut v sound = (word-small (behind 1 v) (sound-behind 1 v sound), list-count 4 (drop 1 (behind 1 v)))
+item-shaped form.WireLut v sound = (word-small (following 1 v) (sound-after 1 v sound), list-count 4 (drop 1 (following 1 v)))
 item-shaped form.WireMajority v sound = tt
 item-shaped form.WireChoose v sound = tt
 item-shaped form.Assign v sound = tt
-item-shaped form.FlipFlop v sound = (word-small (behind 6 v) (sound-behind 6 v sound), list-count 4 (drop 1 (behind 6 v)))
-item-shaped form.AsyncFlipFlop v sound = (word-small (behind 6 v) (sound-behind 6 v sound), list-count 4 (drop 1 (behind 6 v)))
+item-shaped form.FlipFlop v sound = (word-small (following 6 v) (sound-after 6 v sound), list-count 4 (drop 1 (following 6 v)))
+item-shaped form.AsyncFlipFlop v sound = (word-small (following 6 v) (sound-after 6 v sound), list-count 4 (drop 1 (following 6 v)))
 item-shaped form.AsyncReset v sound = tt
-item-shaped form.Read v sound = list-count 8 (behind 6 v)
-item-shaped form.ReadNarrow v sound = (list-count 8 (behind 6 v), list-count 3 (behind 14 v), word-small (behind 17 v) (sound-behind 17 v sound))
-item-shaped form.Write v sound = (list-count 8 (behind 5 v), list-count 16 (behind 13 v), list-count 16 (behind 29 v))
+item-shaped form.Read v sound = list-count 8 (following 6 v)
+item-shaped form.ReadNarrow v sound = (list-count 8 (following 6 v), list-count 3 (following 14 v), word-small (following 17 v) (sound-after 17 v sound))
+item-shaped form.Write v sound = (list-count 8 (following 5 v), list-count 16 (following 13 v), list-count 16 (following 29 v))
 item-shaped form.WriteNarrow v sound =
-    (list-count 8 (behind 5 v), word-small (behind 13 v) (sound-behind 13 v sound), list-count 3 (behind 14 v), list-count 16 (behind 17 v))
-item-shaped form.Start v sound = word-small (behind 2 v) (sound-behind 2 v sound)
-item-shaped form.End v sound = word-small (behind 2 v) (sound-behind 2 v sound)
+    (list-count 8 (following 5 v), word-small (following 13 v) (sound-after 13 v sound), list-count 3 (following 14 v), list-count 16 (following 17 v))
+item-shaped form.Start v sound = word-small (following 2 v) (sound-after 2 v sound)
+item-shaped form.End v sound = word-small (following 2 v) (sound-after 2 v sound)
 
 -- ---- an item
 
@@ -285,7 +285,7 @@ item-allowed scope offset one found is fit sound none =
       shaped = item-shaped one v sound;
       ordered = ltb-false (section_of made) scope.section parts.0;
       named = subst (All Named) uses (uses-named v 0 v sound);
-      in_range = subst (All IsInRange) uses (uses-ranged (slots_of one) v 0 v (behind-none v) fit (form-limited one));
+      in_range = subst (All IsInRange) uses (uses-ranged (slots_of one) v 0 v (after-none v) fit (form-limited one));
       known = subst (All (Known scope)) uses names.0;
       first = subst (All (First scope)) uses names.1;
     }

@@ -9,7 +9,7 @@ use Rattle.vlog_module.specs.declared.atoms.Atom.TheVariants as atom
 use Rattle.vlog_forms.specs.Values.{atom_tokens, is_same_token}
 use Rattle.vlog_forms.specs.Values.Value.{AnAtom}
 use Rattle.vlog_forms.specs.Items.{tokens_in}
-use Rattle.vlog_forms.specs.Reading.{Found, found_at, Reading, opens, read_tokens, with_index, close_part, index_part, read_part, behind_open, with_atom, with_part, atom_from, read_atom}
+use Rattle.vlog_forms.specs.Reading.{Found, found_at, Reading, opens, read_tokens, with_index, close_part, index_part, read_part, after_open, with_atom, with_part, atom_from, read_atom}
 use Rattle.vlog_forms.proofs.Tokens.{token-same, same-token}
 use Rattle.vlog_forms.proofs.Pairs.{ok_first, ok_second}
 use Rattle.vlog_forms.proofs.Exact.{read_tokens-whole}
@@ -67,7 +67,7 @@ open_case : (first : Spot) (spots : List Spot) → opens (first ∷ spots) ≡ t
 open_case first spots same = sym (token-same (token.fixed sign.OpenBracket) first.token same)
 
 part_step : (found : List Found) (offset : ℕ) (name : List ℕ) (head : Spot) (spots : List Spot) (reading : Reading ℕ) (after : List Found) (rest : List Spot)
-    → head.token ≡ token.name name → opens spots ≡ true → ((k : ℕ) (left : List Spot) → reading ≡ Ok (k, left) → PartStands (behind_open spots) k left)
+    → head.token ≡ token.name name → opens spots ≡ true → ((k : ℕ) (left : List Spot) → reading ≡ Ok (k, left) → PartStands (after_open spots) k left)
     → with_part found offset name reading ≡ Ok (after, rest) → AtomStands found (head ∷ spots) after rest
 part_step found offset name head [] reading after rest named opened stands reads = absurd cc
 part_step found offset name head (first ∷ spots) (Err stuck) after rest named opened stands reads = absurd cc
@@ -75,15 +75,15 @@ part_step found offset name head (first ∷ spots) (Ok part) after rest named op
     let bracket : first.token ≡ token.fixed sign.OpenBracket = open_case first spots opened in
     let there = stands part.0 part.1 refl in
     let left : part.1 ≡ rest = ok_second reads in
-    let behind : tokens_in spots ≡ token.number part.0 ∷ token.fixed sign.CloseBracket ∷ tokens_in rest = rw left at there.tokens in
+    let following : tokens_in spots ≡ token.number part.0 ∷ token.fixed sign.CloseBracket ∷ tokens_in rest = rw left at there.tokens in
     record { offset = offset; one = atom.Part name part.0; gained = sym (ok_first reads); tokens = cc; fits = there.small }
 
 name_case : (b : Bool) (end : ℕ) (found : List Found) (offset : ℕ) (name : List ℕ) (head : Spot) (spots : List Spot) (after : List Found) (rest : List Spot)
     → head.token ≡ token.name name → opens spots ≡ b
-    → (if b then with_part found offset name (read_part end (behind_open spots)) else with_atom found offset (atom.Whole name) spots) ≡ Ok (after, rest)
+    → (if b then with_part found offset name (read_part end (after_open spots)) else with_atom found offset (atom.Whole name) spots) ≡ Ok (after, rest)
     → AtomStands found (head ∷ spots) after rest
 name_case true end found offset name head spots after rest named opened reads =
-    part_step found offset name head spots (read_part end (behind_open spots)) after rest named opened (λ k left. part-stands end k (behind_open spots) left) reads
+    part_step found offset name head spots (read_part end (after_open spots)) after rest named opened (λ k left. part-stands end k (after_open spots) left) reads
 name_case false end found offset name head spots after rest named opened reads =
     let left : spots ≡ rest = ok_second reads in
     record { offset = offset; one = atom.Whole name; gained = sym (ok_first reads); tokens = cc; fits = tt }
@@ -131,7 +131,7 @@ atom-read end found (atom.Whole name) (head ∷ spots) tail fits stands closed =
     let left : tokens_in spots ≡ tail = cc in
     let shut : opens spots ≡ false = opens-tokens spots ∙ ap opens_next left ∙ closed in
     let chosen : atom_from end found head.offset (token.name name) spots ≡ with_atom found head.offset (atom.Whole name) spots
-    = ap (λ b. if b then with_part found head.offset name (read_part end (behind_open spots)) else with_atom found head.offset (atom.Whole name) spots) shut in
+    = ap (λ b. if b then with_part found head.offset name (read_part end (after_open spots)) else with_atom found head.offset (atom.Whole name) spots) shut in
     record { offset = head.offset; rest = spots; reads = ap (λ one. atom_from end found head.offset one spots) is ∙ chosen; left = left }
 atom-read end found (atom.Part name k) (head ∷ bracket ∷ number ∷ close ∷ spots) tail fits stands closed =
     let is : head.token ≡ token.name name = cc in

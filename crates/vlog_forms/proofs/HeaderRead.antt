@@ -102,14 +102,14 @@ ports-spelled end (one ∷ names) before (port ∷ ports) spots tail next are st
     let read = port_case port.output end one port.name spots port more refl are.0 there in
     let named : name_in (one.value ∷ []) ≡ port.name = ap (λ v. name_in (v ∷ [])) are.0 in
     let here : List Port = before ++ port ∷ [] in
-    let behind = ports-spelled end names here ports read.whole.spots tail next are.1 read.left in (
-      behind.0,
+    let following = ports-spelled end names here ports read.whole.spots tail next are.1 read.left in (
+      following.0,
       ap (λ reading. after reading (λ whole. ports_outcome end names (before ++ port_of (name_in (one.value ∷ [])) (is_output whole.form) ∷ []) whole.spots next)) read.reads
           ∙ ap (λ name. ports_outcome end names (before ++ port_of name (is_output read.whole.form) ∷ []) read.whole.spots next) named
           ∙ ap (λ output. ports_outcome end names (before ++ port_of port.name output ∷ []) read.whole.spots next) read.is
-          ∙ behind.1
-          ∙ ap (λ all. next all behind.0) (append_assoc before (port ∷ []) ports),
-      behind.2,
+          ∙ following.1
+          ∙ ap (λ all. next all following.0) (append_assoc before (port ∷ []) ports),
+      following.2,
     )
 
 -- ---- the names of the ports

@@ -1,5 +1,5 @@
 -- The tokens of written tokens, whatever follows.
-use Rattle.std.proofs.Common.{◌≡◌, ℕ, zero, suc, ◌<◌, ◌≤◌, ◌+◌, ◌-◌, ◌*◌, ◌/◌, ◌%◌, ◌==◌, Bool, true, false, not, ◌&&◌, ◌||◌, List, [], ◌∷◌, ◌++◌, length, take, drop, get_or, map, refl, ap, sym, ◌∙◌, cond, arith}
+use Rattle.std.proofs.Common.{◌≡◌, ℕ, zero, suc, ◌<◌, ◌+◌, ◌-◌, ◌==◌, Bool, true, false, not, ◌&&◌, ◌||◌, List, [], ◌∷◌, ◌++◌, length, take, drop, map, refl, ap, ◌∙◌, cond, arith}
 use Rattle.std.proofs.lemmas.Bool.Decides.{nat_tests}
 use Rattle.std.proofs.lemmas.List.{take_at, drop_at, length-append}
 use Rattle.std.specs.Prelude.{if◌then◌else◌, codes, bytes_eq, Some, None}
@@ -59,10 +59,10 @@ plain-front text rest one front =
     let n : ℕ = length text in
     let some : 0 < length bytes = omega (arith, length-append text rest, front.some) in
     let first : is_blank (byte_at bytes 0) ≡ false = ap is_blank (byte-front text rest front.some) ∙ front.unblank in
-    let behind : drop (front_length bytes) bytes ≡ rest = ap (λ k. drop k bytes) front.length ∙ drop_at text rest n refl in
+    let following : drop (front_length bytes) bytes ≡ rest = ap (λ k. drop k bytes) front.length ∙ drop_at text rest n refl in
     ap tokens_in (spots_from-token 0 bytes some first)
     ∙ ap (λ each. each ∷ tokens_in (spots_from (0 + front_length bytes) zero (drop (front_length bytes) bytes))) front.token
-    ∙ ap (λ more. one ∷ more) (spots-anywhere (0 + front_length bytes) 0 zero (drop (front_length bytes) bytes) ∙ ap plain behind)
+    ∙ ap (λ more. one ∷ more) (spots-anywhere (0 + front_length bytes) 0 zero (drop (front_length bytes) bytes) ∙ ap plain following)
 
 -- whether a word or a number before the text ends there
 abbrev pub closes : List ℕ → Bool

@@ -205,11 +205,11 @@ more-closes (port ∷ ports) rest shut = refl
 more-plain : (ports : List Port) (rest : List ℕ) → All (λ port. IsName port.name) ports → closes rest ≡ true → plain (more_names_text ports ++ rest) ≡ more_names ports ++ plain rest
 more-plain [] rest named shut = refl
 more-plain (port ∷ ports) rest named shut =
-    let behind : List ℕ = more_names_text ports ++ rest in
+    let following : List ℕ = more_names_text ports ++ rest in
     let comma : plain (44 ∷ 32 ∷ ((port.name ++ more_names_text ports) ++ rest)) ≡ token.fixed sign.Comma ∷ plain (32 ∷ ((port.name ++ more_names_text ports) ++ rest))
     = plain-front (44 ∷ []) (32 ∷ ((port.name ++ more_names_text ports) ++ rest)) (token.fixed sign.Comma) (fixed-front sign.Comma (32 ∷ ((port.name ++ more_names_text ports) ++ rest)) (λ h. absurd cc)) in
-    let name : plain (port.name ++ behind) ≡ token.name port.name ∷ plain behind
-    = plain-front port.name behind (token.name port.name) (name-front port.name behind (All-head (λ each. IsName each.name) port ports named) (more-closes ports rest shut)) in
+    let name : plain (port.name ++ following) ≡ token.name port.name ∷ plain following
+    = plain-front port.name following (token.name port.name) (name-front port.name following (All-head (λ each. IsName each.name) port ports named) (more-closes ports rest shut)) in
     comma ∙ ap (λ more. token.fixed sign.Comma ∷ more)
     (plain-blank 32 ((port.name ++ more_names_text ports) ++ rest) refl ∙ ap plain (append_assoc port.name (more_names_text ports) rest) ∙ name
     ∙ ap (λ more. token.name port.name ∷ more) (more-plain ports rest (All-tail (λ each. IsName each.name) port ports named) shut))
@@ -217,9 +217,9 @@ more-plain (port ∷ ports) rest named shut =
 names-plain : (ports : List Port) (rest : List ℕ) → All (λ port. IsName port.name) ports → closes rest ≡ true → plain (names_text ports ++ rest) ≡ names_tokens ports ++ plain rest
 names-plain [] rest named shut = refl
 names-plain (port ∷ ports) rest named shut =
-    let behind : List ℕ = more_names_text ports ++ rest in
+    let following : List ℕ = more_names_text ports ++ rest in
     ap plain (append_assoc port.name (more_names_text ports) rest)
-    ∙ plain-front port.name behind (token.name port.name) (name-front port.name behind (All-head (λ each. IsName each.name) port ports named) (more-closes ports rest shut))
+    ∙ plain-front port.name following (token.name port.name) (name-front port.name following (All-head (λ each. IsName each.name) port ports named) (more-closes ports rest shut))
     ∙ ap (λ more. token.name port.name ∷ more) (more-plain ports rest (All-tail (λ each. IsName each.name) port ports named) shut)
 
 last-plain : plain (codes "endmodule\n") ≡ token.fixed sign.Endmodule ∷ []
@@ -233,18 +233,18 @@ unfolding printed module_tokens
 printed-plain m well =
     let items : List ℕ = flat_map item_line m.items ++ codes "endmodule\n" in
     let ports : List ℕ = flat_map port_line m.ports ++ items in
-    let behind : List ℕ = names_text m.ports ++ (codes ");\n" ++ ports) in
+    let following : List ℕ = names_text m.ports ++ (codes ");\n" ++ ports) in
     let last : List TokenValue = flat_map item_tokens m.items ++ token.fixed sign.Endmodule ∷ [] in
     let body : List TokenValue = flat_map port_tokens m.ports ++ last in
-    let first : plain (codes "module " ++ (m.name ++ (codes " (" ++ behind))) ≡ token.fixed sign.Module ∷ plain (m.name ++ (codes " (" ++ behind))
-    = plain-front (codes "module") (32 ∷ (m.name ++ (codes " (" ++ behind))) (token.fixed sign.Module) (fixed-front sign.Module (32 ∷ (m.name ++ (codes " (" ++ behind))) (λ h. refl))
-    ∙ ap (λ more. token.fixed sign.Module ∷ more) (plain-blank 32 (m.name ++ (codes " (" ++ behind)) refl) in
-    let name : plain (m.name ++ (codes " (" ++ behind)) ≡ token.name m.name ∷ plain (40 ∷ behind)
-    = plain-front m.name (codes " (" ++ behind) (token.name m.name) (name-front m.name (codes " (" ++ behind) well.named refl)
-    ∙ ap (λ more. token.name m.name ∷ more) (plain-blank 32 (40 ∷ behind) refl) in
-    let open_sign : plain (40 ∷ behind) ≡ token.fixed sign.OpenParen ∷ plain behind
-    = plain-front (40 ∷ []) behind (token.fixed sign.OpenParen) (fixed-front sign.OpenParen behind (λ h. absurd cc)) in
-    let names : plain behind ≡ names_tokens m.ports ++ plain (codes ");\n" ++ ports) = names-plain m.ports (codes ");\n" ++ ports) well.begun.named refl in
+    let first : plain (codes "module " ++ (m.name ++ (codes " (" ++ following))) ≡ token.fixed sign.Module ∷ plain (m.name ++ (codes " (" ++ following))
+    = plain-front (codes "module") (32 ∷ (m.name ++ (codes " (" ++ following))) (token.fixed sign.Module) (fixed-front sign.Module (32 ∷ (m.name ++ (codes " (" ++ following))) (λ h. refl))
+    ∙ ap (λ more. token.fixed sign.Module ∷ more) (plain-blank 32 (m.name ++ (codes " (" ++ following)) refl) in
+    let name : plain (m.name ++ (codes " (" ++ following)) ≡ token.name m.name ∷ plain (40 ∷ following)
+    = plain-front m.name (codes " (" ++ following) (token.name m.name) (name-front m.name (codes " (" ++ following) well.named refl)
+    ∙ ap (λ more. token.name m.name ∷ more) (plain-blank 32 (40 ∷ following) refl) in
+    let open_sign : plain (40 ∷ following) ≡ token.fixed sign.OpenParen ∷ plain following
+    = plain-front (40 ∷ []) following (token.fixed sign.OpenParen) (fixed-front sign.OpenParen following (λ h. absurd cc)) in
+    let names : plain following ≡ names_tokens m.ports ++ plain (codes ");\n" ++ ports) = names-plain m.ports (codes ");\n" ++ ports) well.begun.named refl in
     let close : plain (codes ");\n" ++ ports) ≡ token.fixed sign.CloseParen ∷ plain (59 ∷ 10 ∷ ports)
     = plain-front (41 ∷ []) (59 ∷ 10 ∷ ports) (token.fixed sign.CloseParen) (fixed-front sign.CloseParen (59 ∷ 10 ∷ ports) (λ h. absurd cc)) in
     let semicolon : plain (59 ∷ 10 ∷ ports) ≡ token.fixed sign.Semicolon ∷ plain ports

@@ -14,7 +14,7 @@ use Rattle.vlog_forms.specs.declared.slot.Slot.TheVariants as slot
 use Rattle.vlog_forms.specs.Values.{Value}
 use Rattle.vlog_forms.specs.Values.Value.{Name, Edge, Bit, Word, Index, AnAtom}
 use Rattle.vlog_forms.specs.Layout.{slots_of, left_by}
-use Rattle.vlog_forms.specs.Items.{item_of, item_form, item_values, atoms_values, name_in, edge_in, bit_in, word_in, index_in, atom_in, atoms_in, behind, lut_in}
+use Rattle.vlog_forms.specs.Items.{item_of, item_form, item_values, atoms_values, name_in, edge_in, bit_in, word_in, index_in, atom_in, atoms_in, following, lut_in}
 use Rattle.vlog_forms.proofs.SlotLists.{FitAll}
 
 abbrev with_first : Slot → List Value → List Value → List Value
@@ -60,7 +60,7 @@ is_item _ = true
 
 -- the values of an item are of the kinds of its form
 pub values-rebuilt : (one : Form) (v : List Value) → is_item one ≡ true → item_values (item_of one v) ≡ rebuilt (slots_of one) v
-unfolding rebuilt slots_of item_of atoms_in behind
+unfolding rebuilt slots_of item_of atoms_in following
 values-rebuilt form.Input v is = absurd cc
 values-rebuilt form.Output v is = absurd cc
 values-rebuilt form.Register v is = refl
@@ -116,18 +116,18 @@ atoms-back zero (one ∷ list) more count = absurd (omega arith)
 atoms-back (suc n) [] more count = absurd (omega arith)
 atoms-back (suc n) (one ∷ list) more count = let rest : length list ≡ n = omega arith in ap (λ all. one ∷ all) (atoms-back n list more rest)
 
-behind-back : (n : ℕ) (list : List Atom) (more : List Value) → length list ≡ n → behind n (map AnAtom list ++ more) ≡ more
-unfolding behind
-behind-back zero [] more count = refl
-behind-back zero (one ∷ list) more count = absurd (omega arith)
-behind-back (suc n) [] more count = absurd (omega arith)
-behind-back (suc n) (one ∷ list) more count = let rest : length list ≡ n = omega arith in behind-back n list more rest
+after-back : (n : ℕ) (list : List Atom) (more : List Value) → length list ≡ n → following n (map AnAtom list ++ more) ≡ more
+unfolding following
+after-back zero [] more count = refl
+after-back zero (one ∷ list) more count = absurd (omega arith)
+after-back (suc n) [] more count = absurd (omega arith)
+after-back (suc n) (one ∷ list) more count = let rest : length list ≡ n = omega arith in after-back n list more rest
 
 list-back : (n : ℕ) (list : List Atom) (more : List Value) → length list ≡ n → reverse (atoms_in n (atoms_values list ++ more)) ≡ list
 list-back n list more count = ap reverse (atoms-back n (reverse list) more (length-reverse list ∙ count)) ∙ reverse-reverse list
 
-rest-back : (n : ℕ) (list : List Atom) (more : List Value) → length list ≡ n → behind n (atoms_values list ++ more) ≡ more
-rest-back n list more count = behind-back n (reverse list) more (length-reverse list ∙ count)
+rest-back : (n : ℕ) (list : List Atom) (more : List Value) → length list ≡ n → following n (atoms_values list ++ more) ≡ more
+rest-back n list more count = after-back n (reverse list) more (length-reverse list ∙ count)
 
 last-back : (n : ℕ) (list : List Atom) → length list ≡ n → reverse (atoms_in n (atoms_values list)) ≡ list
 last-back n list count = ap (λ values. reverse (atoms_in n values)) (sym (append-nil (atoms_values list))) ∙ list-back n list [] count
@@ -136,7 +136,7 @@ lut-back : (lut : Lut) → length lut.ins ≡ 4 → lut_in (Word lut.word ∷ at
 lut-back lut count = ap (λ ins. record { word = lut.word; ins = ins }) (last-back 4 lut.ins count)
 
 pub item-back : (one : Item) → IsShaped one → item_of (item_form one) (item_values one) ≡ one
-unfolding item_of behind
+unfolding item_of following
 item-back (item.Register name start) shaped = refl
 item-back (item.Word name start) shaped = refl
 item-back (item.Memory name) shaped = refl
@@ -159,24 +159,24 @@ item-back (item.ReadNarrow falling clock clock_enable enable target memory addre
     let s : List Value = atoms_values shift ++ Word pattern ∷ [] in
     let all : List Value = atoms_values address ++ s in
     let first : reverse (atoms_in 8 all) ≡ address = list-back 8 address s shaped.0 in
-    let middle : behind 8 all ≡ s = rest-back 8 address s shaped.0 in
-    let second : reverse (atoms_in 3 (behind 8 all)) ≡ shift = ap (λ v. reverse (atoms_in 3 v)) middle ∙ list-back 3 shift (Word pattern ∷ []) shaped.1 in
-    let third : word_in (behind 3 (behind 8 all)) ≡ pattern
-    = ap (λ v. word_in (behind 3 v)) middle ∙ ap word_in (rest-back 3 shift (Word pattern ∷ []) shaped.1) in
-    ap (λ list. made list (reverse (atoms_in 3 (behind 8 all))) (word_in (behind 3 (behind 8 all)))) first
-    ∙ ap (λ list. made address list (word_in (behind 3 (behind 8 all)))) second
+    let middle : following 8 all ≡ s = rest-back 8 address s shaped.0 in
+    let second : reverse (atoms_in 3 (following 8 all)) ≡ shift = ap (λ v. reverse (atoms_in 3 v)) middle ∙ list-back 3 shift (Word pattern ∷ []) shaped.1 in
+    let third : word_in (following 3 (following 8 all)) ≡ pattern
+    = ap (λ v. word_in (following 3 v)) middle ∙ ap word_in (rest-back 3 shift (Word pattern ∷ []) shaped.1) in
+    ap (λ list. made list (reverse (atoms_in 3 (following 8 all))) (word_in (following 3 (following 8 all)))) first
+    ∙ ap (λ list. made address list (word_in (following 3 (following 8 all)))) second
     ∙ ap (λ word. made address shift word) third
 item-back (item.Write falling clock clock_enable enable memory address mask bits) shaped =
     let a : List Value = atoms_values address in
     let m : List Value = atoms_values mask in
     let b : List Value = atoms_values bits in
     let first : reverse (atoms_in 8 (a ++ (m ++ b))) ≡ address = list-back 8 address (m ++ b) shaped.0 in
-    let middle : behind 8 (a ++ (m ++ b)) ≡ m ++ b = rest-back 8 address (m ++ b) shaped.0 in
-    let last : behind 16 (m ++ b) ≡ b = rest-back 16 mask b shaped.1 in
-    let second : reverse (atoms_in 16 (behind 8 (a ++ (m ++ b)))) ≡ mask = ap (λ v. reverse (atoms_in 16 v)) middle ∙ list-back 16 mask b shaped.1 in
-    let third : reverse (atoms_in 16 (behind 16 (behind 8 (a ++ (m ++ b))))) ≡ bits = ap (λ v. reverse (atoms_in 16 (behind 16 v))) middle ∙ ap (λ v. reverse (atoms_in 16 v)) last ∙ last-back 16 bits shaped.2 in
-    ap (λ list. item.Write falling clock clock_enable enable memory list (reverse (atoms_in 16 (behind 8 (a ++ (m ++ b))))) (reverse (atoms_in 16 (behind 16 (behind 8 (a ++ (m ++ b))))))) first
-    ∙ ap (λ list. item.Write falling clock clock_enable enable memory address list (reverse (atoms_in 16 (behind 16 (behind 8 (a ++ (m ++ b))))))) second
+    let middle : following 8 (a ++ (m ++ b)) ≡ m ++ b = rest-back 8 address (m ++ b) shaped.0 in
+    let last : following 16 (m ++ b) ≡ b = rest-back 16 mask b shaped.1 in
+    let second : reverse (atoms_in 16 (following 8 (a ++ (m ++ b)))) ≡ mask = ap (λ v. reverse (atoms_in 16 v)) middle ∙ list-back 16 mask b shaped.1 in
+    let third : reverse (atoms_in 16 (following 16 (following 8 (a ++ (m ++ b))))) ≡ bits = ap (λ v. reverse (atoms_in 16 (following 16 v))) middle ∙ ap (λ v. reverse (atoms_in 16 v)) last ∙ last-back 16 bits shaped.2 in
+    ap (λ list. item.Write falling clock clock_enable enable memory list (reverse (atoms_in 16 (following 8 (a ++ (m ++ b))))) (reverse (atoms_in 16 (following 16 (following 8 (a ++ (m ++ b))))))) first
+    ∙ ap (λ list. item.Write falling clock clock_enable enable memory address list (reverse (atoms_in 16 (following 16 (following 8 (a ++ (m ++ b))))))) second
     ∙ ap (λ list. item.Write falling clock clock_enable enable memory address mask list) third
 item-back (item.WriteNarrow falling clock clock_enable enable memory address pattern shift bits) shaped =
     let made : List Atom → ℕ → List Atom → List Atom → Item = item.WriteNarrow falling clock clock_enable enable memory in
@@ -184,14 +184,14 @@ item-back (item.WriteNarrow falling clock clock_enable enable memory address pat
     let w : List Value = Word pattern ∷ (atoms_values shift ++ b) in
     let all : List Value = atoms_values address ++ w in
     let first : reverse (atoms_in 8 all) ≡ address = list-back 8 address w shaped.0 in
-    let middle : behind 8 all ≡ w = rest-back 8 address w shaped.0 in
-    let second : word_in (behind 8 all) ≡ pattern = ap word_in middle in
-    let third : reverse (atoms_in 3 (behind 1 (behind 8 all))) ≡ shift
-    = ap (λ v. reverse (atoms_in 3 (behind 1 v))) middle ∙ list-back 3 shift b shaped.2 in
-    let fourth : reverse (atoms_in 16 (behind 3 (behind 1 (behind 8 all)))) ≡ bits
-    = ap (λ v. reverse (atoms_in 16 (behind 3 (behind 1 v)))) middle ∙ ap (λ v. reverse (atoms_in 16 v)) (rest-back 3 shift b shaped.2) ∙ last-back 16 bits shaped.3 in
-    ap (λ list. made list (word_in (behind 8 all)) (reverse (atoms_in 3 (behind 1 (behind 8 all)))) (reverse (atoms_in 16 (behind 3 (behind 1 (behind 8 all)))))) first
-    ∙ ap (λ word. made address word (reverse (atoms_in 3 (behind 1 (behind 8 all)))) (reverse (atoms_in 16 (behind 3 (behind 1 (behind 8 all)))))) second
-    ∙ ap (λ list. made address pattern list (reverse (atoms_in 16 (behind 3 (behind 1 (behind 8 all)))))) third
+    let middle : following 8 all ≡ w = rest-back 8 address w shaped.0 in
+    let second : word_in (following 8 all) ≡ pattern = ap word_in middle in
+    let third : reverse (atoms_in 3 (following 1 (following 8 all))) ≡ shift
+    = ap (λ v. reverse (atoms_in 3 (following 1 v))) middle ∙ list-back 3 shift b shaped.2 in
+    let fourth : reverse (atoms_in 16 (following 3 (following 1 (following 8 all)))) ≡ bits
+    = ap (λ v. reverse (atoms_in 16 (following 3 (following 1 v)))) middle ∙ ap (λ v. reverse (atoms_in 16 v)) (rest-back 3 shift b shaped.2) ∙ last-back 16 bits shaped.3 in
+    ap (λ list. made list (word_in (following 8 all)) (reverse (atoms_in 3 (following 1 (following 8 all)))) (reverse (atoms_in 16 (following 3 (following 1 (following 8 all)))))) first
+    ∙ ap (λ word. made address word (reverse (atoms_in 3 (following 1 (following 8 all)))) (reverse (atoms_in 16 (following 3 (following 1 (following 8 all)))))) second
+    ∙ ap (λ list. made address pattern list (reverse (atoms_in 16 (following 3 (following 1 (following 8 all)))))) third
     ∙ ap (λ list. made address pattern shift list) fourth
 item-back (item.Start memory k word) shaped = refl

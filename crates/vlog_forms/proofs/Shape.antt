@@ -27,9 +27,9 @@ abbrev is_at : Fixed → List TokenValue → ℕ → Bool
 is_at fixed tokens place = is_same_token (token.fixed fixed) (get_or tokens place token.stray)
 
 -- the tokens after the first that is this sign
-unfoldable pub behind_sign : Fixed → List TokenValue → List TokenValue
-behind_sign fixed [] = []
-behind_sign fixed (one ∷ tokens) = if is_same_token (token.fixed fixed) one then tokens else behind_sign fixed tokens
+unfoldable pub after_sign : Fixed → List TokenValue → List TokenValue
+after_sign fixed [] = []
+after_sign fixed (one ∷ tokens) = if is_same_token (token.fixed fixed) one then tokens else after_sign fixed tokens
 
 abbrev right_shape : TokenValue → List TokenValue → Form
 right_shape (token.bit bit) tokens = form.WireBit
@@ -46,14 +46,14 @@ abbrev clocked_shape : List TokenValue → Form
 clocked_shape tokens =
     if is_at sign.Begin tokens 0 then form.FlipFlop
     else if is_at sign.LessEquals tokens 1 then (if is_at sign.OpenParen tokens 2 then form.ReadNarrow else form.Read)
-    else if is_at sign.Not (behind_sign sign.And tokens) 0 then form.WriteNarrow
+    else if is_at sign.Not (after_sign sign.And tokens) 0 then form.WriteNarrow
     else form.Write
 
 -- after `always`: the word `or` follows the clock, or `if` follows the edge, or neither
 abbrev always_shape : List TokenValue → Form
 always_shape tokens =
     if is_at sign.OrEdge tokens 4 then form.AsyncFlipFlop
-    else if is_at sign.If tokens 5 then clocked_shape (behind_sign sign.CloseParen (drop 7 tokens))
+    else if is_at sign.If tokens 5 then clocked_shape (after_sign sign.CloseParen (drop 7 tokens))
     else form.AsyncReset
 
 unfoldable pub shape : List TokenValue → Form
@@ -77,34 +77,34 @@ record IsApart (fixed : Fixed) : Type 0 where
   rises : is_same_token (token.fixed fixed) (token.fixed sign.Posedge) ≡ false
   falls : is_same_token (token.fixed fixed) (token.fixed sign.Negedge) ≡ false
 
-behind-value : (fixed : Fixed) (one : Value) (tokens : List TokenValue) → IsApart fixed → behind_sign fixed (value_tokens one ++ tokens) ≡ behind_sign fixed tokens
-unfolding behind_sign
-behind-value fixed (Name role name) tokens apart = refl
-behind-value fixed (Edge false) tokens apart = rw apart.rises refl
-behind-value fixed (Edge true) tokens apart = rw apart.falls refl
-behind-value fixed (Bit bit) tokens apart = refl
-behind-value fixed (Word word) tokens apart = refl
-behind-value fixed (Index k) tokens apart = refl
-behind-value fixed (AnAtom (atom.Bit bit)) tokens apart = refl
-behind-value fixed (AnAtom (atom.Whole name)) tokens apart = refl
-behind-value fixed (AnAtom (atom.Part name k)) tokens apart = rw (apart.opens, apart.closes) refl
+after-value : (fixed : Fixed) (one : Value) (tokens : List TokenValue) → IsApart fixed → after_sign fixed (value_tokens one ++ tokens) ≡ after_sign fixed tokens
+unfolding after_sign
+after-value fixed (Name role name) tokens apart = refl
+after-value fixed (Edge false) tokens apart = rw apart.rises refl
+after-value fixed (Edge true) tokens apart = rw apart.falls refl
+after-value fixed (Bit bit) tokens apart = refl
+after-value fixed (Word word) tokens apart = refl
+after-value fixed (Index k) tokens apart = refl
+after-value fixed (AnAtom (atom.Bit bit)) tokens apart = refl
+after-value fixed (AnAtom (atom.Whole name)) tokens apart = refl
+after-value fixed (AnAtom (atom.Part name k)) tokens apart = rw (apart.opens, apart.closes) refl
 
-behind-first : (fixed : Fixed) (after : List Value) (tokens : List TokenValue) → IsApart fixed → behind_sign fixed (first_tokens after ++ tokens) ≡ behind_sign fixed tokens
-behind-first fixed [] tokens apart = refl
-behind-first fixed (one ∷ after) tokens apart = behind-value fixed one tokens apart
+after-first : (fixed : Fixed) (after : List Value) (tokens : List TokenValue) → IsApart fixed → after_sign fixed (first_tokens after ++ tokens) ≡ after_sign fixed tokens
+after-first fixed [] tokens apart = refl
+after-first fixed (one ∷ after) tokens apart = after-value fixed one tokens apart
 
-behind-again : (fixed : Fixed) (before : List Value) (place : ℕ) (tokens : List TokenValue) → IsApart fixed → behind_sign fixed (tokens_at before place ++ tokens) ≡ behind_sign fixed tokens
-unfolding behind_sign
-behind-again fixed [] place tokens apart = refl
-behind-again fixed (one ∷ before) zero tokens apart = behind-value fixed one tokens apart
-behind-again fixed (one ∷ before) (suc place) tokens apart = behind-again fixed before place tokens apart
+after-again : (fixed : Fixed) (before : List Value) (place : ℕ) (tokens : List TokenValue) → IsApart fixed → after_sign fixed (tokens_at before place ++ tokens) ≡ after_sign fixed tokens
+unfolding after_sign
+after-again fixed [] place tokens apart = refl
+after-again fixed (one ∷ before) zero tokens apart = after-value fixed one tokens apart
+after-again fixed (one ∷ before) (suc place) tokens apart = after-again fixed before place tokens apart
 
 -- the tokens of slots after the first one that is this sign; none if there is no such slot
-unfoldable filled_behind : Fixed → List Slot → List Value → List Value → List TokenValue
-filled_behind fixed [] before after = []
-filled_behind fixed (slot.Fixed other ∷ slots) before after =
-    if is_same_token (token.fixed fixed) (token.fixed other) then filled slots before after else filled_behind fixed slots before after
-filled_behind fixed (one ∷ slots) before after = filled_behind fixed slots (passed_by one before after) (left_by one after)
+unfoldable filled_after : Fixed → List Slot → List Value → List Value → List TokenValue
+filled_after fixed [] before after = []
+filled_after fixed (slot.Fixed other ∷ slots) before after =
+    if is_same_token (token.fixed fixed) (token.fixed other) then filled slots before after else filled_after fixed slots before after
+filled_after fixed (one ∷ slots) before after = filled_after fixed slots (passed_by one before after) (left_by one after)
 
 unfoldable has_sign : Fixed → List Slot → Bool
 has_sign fixed [] = false
@@ -112,44 +112,44 @@ has_sign fixed (slot.Fixed other ∷ slots) = if is_same_token (token.fixed fixe
 has_sign fixed (one ∷ slots) = has_sign fixed slots
 
 -- one slot before it
-slot-behind : (fixed : Fixed) (one : Slot) (slots : List Slot) (before after : List Value) (tail : List TokenValue)
-    → ((tokens : List TokenValue) → behind_sign fixed (slot_tokens before after one ++ tokens) ≡ behind_sign fixed tokens)
-    → behind_sign fixed (filled slots (passed_by one before after) (left_by one after) ++ tail) ≡ filled_behind fixed slots (passed_by one before after) (left_by one after) ++ tail
-    → behind_sign fixed (filled (one ∷ slots) before after ++ tail) ≡ filled_behind fixed slots (passed_by one before after) (left_by one after) ++ tail
+slot-after : (fixed : Fixed) (one : Slot) (slots : List Slot) (before after : List Value) (tail : List TokenValue)
+    → ((tokens : List TokenValue) → after_sign fixed (slot_tokens before after one ++ tokens) ≡ after_sign fixed tokens)
+    → after_sign fixed (filled slots (passed_by one before after) (left_by one after) ++ tail) ≡ filled_after fixed slots (passed_by one before after) (left_by one after) ++ tail
+    → after_sign fixed (filled (one ∷ slots) before after ++ tail) ≡ filled_after fixed slots (passed_by one before after) (left_by one after) ++ tail
 unfolding filled
-slot-behind fixed one slots before after tail skips more =
+slot-after fixed one slots before after tail skips more =
     let rest : List TokenValue = filled slots (passed_by one before after) (left_by one after) in
-    ap (behind_sign fixed) (append_assoc (slot_tokens before after one) rest tail) ∙ skips (rest ++ tail) ∙ more
+    ap (after_sign fixed) (append_assoc (slot_tokens before after one) rest tail) ∙ skips (rest ++ tail) ∙ more
 
-sign-behind : (fixed : Fixed) (slots : List Slot) (before after : List Value) (tail : List TokenValue) → IsApart fixed → has_sign fixed slots ≡ true
-    → behind_sign fixed (filled slots before after ++ tail) ≡ filled_behind fixed slots before after ++ tail
-unfolding behind_sign filled filled_behind has_sign
-sign-behind fixed [] before after tail apart has = absurd cc
-sign-behind fixed (slot.Fixed other ∷ slots) before after tail apart has =
-    by (is_same_token (token.fixed fixed) (token.fixed other)) has (sign-behind fixed slots before after tail apart)
+sign-after : (fixed : Fixed) (slots : List Slot) (before after : List Value) (tail : List TokenValue) → IsApart fixed → has_sign fixed slots ≡ true
+    → after_sign fixed (filled slots before after ++ tail) ≡ filled_after fixed slots before after ++ tail
+unfolding after_sign filled filled_after has_sign
+sign-after fixed [] before after tail apart has = absurd cc
+sign-after fixed (slot.Fixed other ∷ slots) before after tail apart has =
+    by (is_same_token (token.fixed fixed) (token.fixed other)) has (sign-after fixed slots before after tail apart)
   where
-    by : (b : Bool) → (if b then true else has_sign fixed slots) ≡ true → (has_sign fixed slots ≡ true → behind_sign fixed (filled slots before after ++ tail) ≡ filled_behind fixed slots before after ++ tail)
-        → (if b then filled slots before after ++ tail else behind_sign fixed (filled slots before after ++ tail)) ≡ (if b then filled slots before after else filled_behind fixed slots before after) ++ tail
+    by : (b : Bool) → (if b then true else has_sign fixed slots) ≡ true → (has_sign fixed slots ≡ true → after_sign fixed (filled slots before after ++ tail) ≡ filled_after fixed slots before after ++ tail)
+        → (if b then filled slots before after ++ tail else after_sign fixed (filled slots before after ++ tail)) ≡ (if b then filled slots before after else filled_after fixed slots before after) ++ tail
     by true has more = refl
     by false has more = more has
-sign-behind fixed (slot.Space ∷ slots) before after tail apart has = sign-behind fixed slots before after tail apart has
-sign-behind fixed (slot.Literal number ∷ slots) before after tail apart has = sign-behind fixed slots before after tail apart has
-sign-behind fixed (slot.AtomsAgain first n ∷ slots) before after tail apart has = sign-behind fixed slots before after tail apart has
-sign-behind fixed (slot.Atoms n ∷ slots) before after tail apart has = sign-behind fixed slots before after tail apart has
-sign-behind fixed (slot.Again place ∷ slots) before after tail apart has =
-    slot-behind fixed (slot.Again place) slots before after tail (λ tokens. behind-again fixed before place tokens apart) (sign-behind fixed slots before after tail apart has)
-sign-behind fixed (slot.Name role ∷ slots) before after tail apart has =
-    slot-behind fixed (slot.Name role) slots before after tail (λ tokens. behind-first fixed after tokens apart) (sign-behind fixed slots (before ++ take 1 after) (drop 1 after) tail apart has)
-sign-behind fixed (slot.Edge ∷ slots) before after tail apart has =
-    slot-behind fixed slot.Edge slots before after tail (λ tokens. behind-first fixed after tokens apart) (sign-behind fixed slots (before ++ take 1 after) (drop 1 after) tail apart has)
-sign-behind fixed (slot.Bit ∷ slots) before after tail apart has =
-    slot-behind fixed slot.Bit slots before after tail (λ tokens. behind-first fixed after tokens apart) (sign-behind fixed slots (before ++ take 1 after) (drop 1 after) tail apart has)
-sign-behind fixed (slot.Word ∷ slots) before after tail apart has =
-    slot-behind fixed slot.Word slots before after tail (λ tokens. behind-first fixed after tokens apart) (sign-behind fixed slots (before ++ take 1 after) (drop 1 after) tail apart has)
-sign-behind fixed (slot.Index limit ∷ slots) before after tail apart has =
-    slot-behind fixed (slot.Index limit) slots before after tail (λ tokens. behind-first fixed after tokens apart) (sign-behind fixed slots (before ++ take 1 after) (drop 1 after) tail apart has)
-sign-behind fixed (slot.Atom ∷ slots) before after tail apart has =
-    slot-behind fixed slot.Atom slots before after tail (λ tokens. behind-first fixed after tokens apart) (sign-behind fixed slots (before ++ take 1 after) (drop 1 after) tail apart has)
+sign-after fixed (slot.Space ∷ slots) before after tail apart has = sign-after fixed slots before after tail apart has
+sign-after fixed (slot.Literal number ∷ slots) before after tail apart has = sign-after fixed slots before after tail apart has
+sign-after fixed (slot.AtomsAgain first n ∷ slots) before after tail apart has = sign-after fixed slots before after tail apart has
+sign-after fixed (slot.Atoms n ∷ slots) before after tail apart has = sign-after fixed slots before after tail apart has
+sign-after fixed (slot.Again place ∷ slots) before after tail apart has =
+    slot-after fixed (slot.Again place) slots before after tail (λ tokens. after-again fixed before place tokens apart) (sign-after fixed slots before after tail apart has)
+sign-after fixed (slot.Name role ∷ slots) before after tail apart has =
+    slot-after fixed (slot.Name role) slots before after tail (λ tokens. after-first fixed after tokens apart) (sign-after fixed slots (before ++ take 1 after) (drop 1 after) tail apart has)
+sign-after fixed (slot.Edge ∷ slots) before after tail apart has =
+    slot-after fixed slot.Edge slots before after tail (λ tokens. after-first fixed after tokens apart) (sign-after fixed slots (before ++ take 1 after) (drop 1 after) tail apart has)
+sign-after fixed (slot.Bit ∷ slots) before after tail apart has =
+    slot-after fixed slot.Bit slots before after tail (λ tokens. after-first fixed after tokens apart) (sign-after fixed slots (before ++ take 1 after) (drop 1 after) tail apart has)
+sign-after fixed (slot.Word ∷ slots) before after tail apart has =
+    slot-after fixed slot.Word slots before after tail (λ tokens. after-first fixed after tokens apart) (sign-after fixed slots (before ++ take 1 after) (drop 1 after) tail apart has)
+sign-after fixed (slot.Index limit ∷ slots) before after tail apart has =
+    slot-after fixed (slot.Index limit) slots before after tail (λ tokens. after-first fixed after tokens apart) (sign-after fixed slots (before ++ take 1 after) (drop 1 after) tail apart has)
+sign-after fixed (slot.Atom ∷ slots) before after tail apart has =
+    slot-after fixed slot.Atom slots before after tail (λ tokens. after-first fixed after tokens apart) (sign-after fixed slots (before ++ take 1 after) (drop 1 after) tail apart has)
 
 -- ---- the forms on an edge
 
@@ -164,47 +164,47 @@ module _ (condition : List Slot) (clock_role : Role) (falling : Bool) (clock : L
   edge_values = Edge falling ∷ Name clock_role clock ∷ []
 
   clocked : has_sign sign.CloseParen condition ≡ true
-      → shape (filled edge_slots [] (Edge falling ∷ Name clock_role clock ∷ values) ++ tail) ≡ clocked_shape (filled_behind sign.CloseParen condition edge_values values ++ tail)
+      → shape (filled edge_slots [] (Edge falling ∷ Name clock_role clock ∷ values) ++ tail) ≡ clocked_shape (filled_after sign.CloseParen condition edge_values values ++ tail)
   unfolding shape filled
   clocked has =
-      ap clocked_shape (sign-behind sign.CloseParen condition edge_values values tail (record { opens = refl; closes = refl; rises = refl; falls = refl }) has)
+      ap clocked_shape (sign-after sign.CloseParen condition edge_values values tail (record { opens = refl; closes = refl; rises = refl; falls = refl }) has)
 
 flip-item : (falling : Bool) (clock : List ℕ) (one : Atom) (values : List Value) (tail : List TokenValue)
     → shape (filled (slots_of form.FlipFlop) [] (Edge falling ∷ Name (role.Takes sort.Input) clock ∷ AnAtom one ∷ values) ++ tail) ≡ form.FlipFlop
-unfolding slots_of filled filled_behind has_sign
+unfolding slots_of filled filled_after has_sign
 flip-item falling clock one values tail = clocked (drop 12 (slots_of form.FlipFlop)) (role.Takes sort.Input) falling clock (AnAtom one ∷ values) tail refl
 
 read-item : (falling : Bool) (clock : List ℕ) (one other : Atom) (target memory : List ℕ) (values : List Value) (tail : List TokenValue)
     → shape (filled (slots_of form.Read) [] (Edge falling ∷ Name (role.Takes sort.Input) clock ∷ AnAtom one ∷ AnAtom other ∷ Name (role.Assigns sort.Word) target ∷ Name (role.Takes sort.Memory) memory ∷ values) ++ tail) ≡ form.Read
-unfolding slots_of filled filled_behind has_sign
+unfolding slots_of filled filled_after has_sign
 read-item falling clock one other target memory values tail =
     clocked (drop 12 (slots_of form.Read)) (role.Takes sort.Input) falling clock (AnAtom one ∷ AnAtom other ∷ Name (role.Assigns sort.Word) target ∷ Name (role.Takes sort.Memory) memory ∷ values) tail refl
 
 narrow-read : (falling : Bool) (clock : List ℕ) (one other : Atom) (target : List ℕ) (values : List Value) (tail : List TokenValue)
     → shape (filled (slots_of form.ReadNarrow) [] (Edge falling ∷ Name (role.Takes sort.Input) clock ∷ AnAtom one ∷ AnAtom other ∷ Name (role.Assigns sort.Word) target ∷ values) ++ tail) ≡ form.ReadNarrow
-unfolding slots_of filled filled_behind has_sign
+unfolding slots_of filled filled_after has_sign
 narrow-read falling clock one other target values tail =
     clocked (drop 12 (slots_of form.ReadNarrow)) (role.Takes sort.Input) falling clock (AnAtom one ∷ AnAtom other ∷ Name (role.Assigns sort.Word) target ∷ values) tail refl
 
 -- after the condition of a write, the first `&` comes before the mask
 masked-shape : (slots : List Slot) (before values : List Value) (memory : List ℕ) (tail : List TokenValue) → has_sign sign.And slots ≡ true
     → clocked_shape (filled (slot.Space ∷ slot.Name (role.Assigns sort.Memory) ∷ slot.Fixed sign.OpenBracket ∷ slots) before (Name (role.Assigns sort.Memory) memory ∷ values) ++ tail)
-    ≡ (if is_at sign.Not (filled_behind sign.And slots (before ++ Name (role.Assigns sort.Memory) memory ∷ []) values ++ tail) 0 then form.WriteNarrow else form.Write)
-unfolding filled behind_sign
+    ≡ (if is_at sign.Not (filled_after sign.And slots (before ++ Name (role.Assigns sort.Memory) memory ∷ []) values ++ tail) 0 then form.WriteNarrow else form.Write)
+unfolding filled after_sign
 masked-shape slots before values memory tail has =
     ap (λ tokens. if is_at sign.Not tokens 0 then form.WriteNarrow else form.Write)
-    (sign-behind sign.And slots (before ++ Name (role.Assigns sort.Memory) memory ∷ []) values tail (record { opens = refl; closes = refl; rises = refl; falls = refl }) has)
+    (sign-after sign.And slots (before ++ Name (role.Assigns sort.Memory) memory ∷ []) values tail (record { opens = refl; closes = refl; rises = refl; falls = refl }) has)
 
 write-item : (falling : Bool) (clock : List ℕ) (one other : Atom) (memory : List ℕ) (values : List Value) (tail : List TokenValue)
     → shape (filled (slots_of form.Write) [] (Edge falling ∷ Name (role.Takes sort.Input) clock ∷ AnAtom one ∷ AnAtom other ∷ Name (role.Assigns sort.Memory) memory ∷ values) ++ tail) ≡ form.Write
-unfolding slots_of filled filled_behind has_sign
+unfolding slots_of filled filled_after has_sign
 write-item falling clock one other memory values tail =
     clocked (drop 12 (slots_of form.Write)) (role.Takes sort.Input) falling clock (AnAtom one ∷ AnAtom other ∷ Name (role.Assigns sort.Memory) memory ∷ values) tail refl
     ∙ masked-shape (drop 21 (slots_of form.Write)) (Edge falling ∷ Name (role.Takes sort.Input) clock ∷ AnAtom one ∷ AnAtom other ∷ []) values memory tail refl
 
 narrow-write : (falling : Bool) (clock : List ℕ) (one other : Atom) (memory : List ℕ) (values : List Value) (tail : List TokenValue)
     → shape (filled (slots_of form.WriteNarrow) [] (Edge falling ∷ Name (role.Takes sort.Input) clock ∷ AnAtom one ∷ AnAtom other ∷ Name (role.Assigns sort.Memory) memory ∷ values) ++ tail) ≡ form.WriteNarrow
-unfolding slots_of filled filled_behind has_sign
+unfolding slots_of filled filled_after has_sign
 narrow-write falling clock one other memory values tail =
     clocked (drop 12 (slots_of form.WriteNarrow)) (role.Takes sort.Input) falling clock (AnAtom one ∷ AnAtom other ∷ Name (role.Assigns sort.Memory) memory ∷ values) tail refl
     ∙ masked-shape (drop 21 (slots_of form.WriteNarrow)) (Edge falling ∷ Name (role.Takes sort.Input) clock ∷ AnAtom one ∷ AnAtom other ∷ []) values memory tail refl

@@ -15,7 +15,7 @@ use Rattle.vlog_forms.specs.Values.{Value, atom_tokens, value_tokens, tokens_at,
 use Rattle.vlog_forms.specs.Values.Value.{Name, Edge, Bit, Word, Index, AnAtom}
 use Rattle.vlog_forms.specs.Layout.{takes_value, exact_tokens, first_tokens, left_by, filled}
 use Rattle.vlog_forms.specs.Items.{tokens_in}
-use Rattle.vlog_forms.specs.Reading.{Found, found_at, values_of, Reading, with_value, single, read_single, read_tokens, behind_tokens, read_slot, read_slots, and_then}
+use Rattle.vlog_forms.specs.Reading.{Found, found_at, values_of, Reading, with_value, single, read_single, read_tokens, after_tokens, read_slot, read_slots, and_then}
 use Rattle.vlog_forms.proofs.Pairs.{ok_first, ok_second}
 use Rattle.vlog_forms.proofs.Exact.{read_tokens-whole, read_tokens-exact, AreReal}
 use Rattle.vlog_forms.proofs.ValueKinds.{Fits, single-fits, single-takes, takes_atom}
@@ -75,7 +75,7 @@ single_case wanted found first spots after rest (Some value) takes is reads =
 
 exact_case : (wanted : Slot) (found : List Found) (spots : List Spot) (after : List Found) (rest : List Spot) (reading : Result (List Spot) ℕ)
     → takes_value wanted ≡ false → ((left : List Spot) → reading ≡ Ok left → tokens_in spots ≡ exact_tokens (values_of found) wanted ++ tokens_in left)
-    → behind_tokens found reading ≡ Ok (after, rest) → SlotStands wanted found spots after rest
+    → after_tokens found reading ≡ Ok (after, rest) → SlotStands wanted found spots after rest
 exact_case wanted found spots after rest (Err stuck) takes stands reads = absurd cc
 exact_case wanted found spots after rest (Ok left) takes stands reads =
     let same : left ≡ rest = ok_second reads in
@@ -88,7 +88,7 @@ single_stands end wanted found (first ∷ spots) after rest takes reads =
     single_case wanted found first spots after rest (single wanted first.token) takes refl reads
 
 exact_stands : (end : ℕ) (wanted : Slot) (found : List Found) (spots : List Spot) (after : List Found) (rest : List Spot)
-    → takes_value wanted ≡ false → behind_tokens found (read_tokens end (exact_tokens (values_of found) wanted) spots) ≡ Ok (after, rest) → SlotStands wanted found spots after rest
+    → takes_value wanted ≡ false → after_tokens found (read_tokens end (exact_tokens (values_of found) wanted) spots) ≡ Ok (after, rest) → SlotStands wanted found spots after rest
 exact_stands end wanted found spots after rest takes reads =
     exact_case wanted found spots after rest (read_tokens end (exact_tokens (values_of found) wanted) spots) takes
     (λ left. read_tokens-whole end (exact_tokens (values_of found) wanted) spots left) reads
@@ -125,9 +125,9 @@ after_slot wanted slots found middle spots left after rest (took takes one is to
   gained = more.gained ∙ ap (λ before. before ++ more.given) is ∙ append_assoc found (one ∷ []) more.given;
   tokens =
       let values : values_of middle ≡ values_of found ++ one.value ∷ [] = ap values_of is ∙ map-append (λ (each : Found). each.value) found (one ∷ []) in
-      let behind : tokens_in left ≡ filled slots (values_of found ++ one.value ∷ []) (values_of more.given) ++ tokens_in rest
+      let following : tokens_in left ≡ filled slots (values_of found ++ one.value ∷ []) (values_of more.given) ++ tokens_in rest
       = more.tokens ∙ ap (λ before. filled slots before (values_of more.given) ++ tokens_in rest) values in
-      tokens ∙ ap (λ more. value_tokens one.value ++ more) behind
+      tokens ∙ ap (λ more. value_tokens one.value ++ more) following
       ∙ sym (append_assoc (value_tokens one.value) (filled slots (values_of found ++ one.value ∷ []) (values_of more.given)) (tokens_in rest))
       ∙ ap (λ all. all ++ tokens_in rest) (sym (filled-took wanted slots (values_of found) one.value (values_of more.given) takes));
   fit = FitAll-took wanted slots one.value (values_of more.given) takes fits more.fit;
@@ -136,9 +136,9 @@ after_slot wanted slots found middle spots left after rest (passed takes is toke
   given = more.given;
   gained = more.gained ∙ ap (λ before. before ++ more.given) is;
   tokens =
-      let behind : tokens_in left ≡ filled slots (values_of found) (values_of more.given) ++ tokens_in rest
+      let following : tokens_in left ≡ filled slots (values_of found) (values_of more.given) ++ tokens_in rest
       = more.tokens ∙ ap (λ before. filled slots (values_of before) (values_of more.given) ++ tokens_in rest) is in
-      tokens ∙ ap (λ more. exact_tokens (values_of found) wanted ++ more) behind
+      tokens ∙ ap (λ more. exact_tokens (values_of found) wanted ++ more) following
       ∙ sym (append_assoc (exact_tokens (values_of found) wanted) (filled slots (values_of found) (values_of more.given)) (tokens_in rest))
       ∙ ap (λ all. all ++ tokens_in rest) (sym (filled-passed wanted slots (values_of found) (values_of more.given) takes));
   fit = FitAll-passed wanted slots (values_of more.given) takes more.fit;
@@ -275,10 +275,10 @@ pub record PassedRead (reading : Reading (List Found)) (found : List Found) (tai
   pub left : tokens_in rest ≡ tail
 
 exact_read : (end : ℕ) (wanted : Slot) (found : List Found) (spots : List Spot) (tail : List TokenValue) → AreReal (exact_tokens (values_of found) wanted)
-    → tokens_in spots ≡ exact_tokens (values_of found) wanted ++ tail → PassedRead (behind_tokens found (read_tokens end (exact_tokens (values_of found) wanted) spots)) found tail
+    → tokens_in spots ≡ exact_tokens (values_of found) wanted ++ tail → PassedRead (after_tokens found (read_tokens end (exact_tokens (values_of found) wanted) spots)) found tail
 exact_read end wanted found spots tail real stands =
-    let behind = read_tokens-exact end (exact_tokens (values_of found) wanted) spots tail real stands in
-    record { rest = behind.0; reads = ap (behind_tokens found) behind.1; left = behind.2 }
+    let following = read_tokens-exact end (exact_tokens (values_of found) wanted) spots tail real stands in
+    record { rest = following.0; reads = ap (after_tokens found) following.1; left = following.2 }
 
 slot_passed : (end : ℕ) (wanted : Slot) (found : List Found) (spots : List Spot) (tail : List TokenValue) → takes_value wanted ≡ false → AreReal (exact_tokens (values_of found) wanted)
     → tokens_in spots ≡ exact_tokens (values_of found) wanted ++ tail → PassedRead (read_slot end wanted found spots) found tail
@@ -363,8 +363,8 @@ read_took end wanted slots found value values spots tail takes sound fits fit st
     (λ offset left is.
     let grown : values_of (found ++ found_at offset value ∷ []) ≡ before = map-append (λ (each : Found). each.value) found (found_at offset value ∷ []) in
     let count : length (found ++ found_at offset value ∷ []) ≡ suc (length found) = omega (arith, length-append found (found_at offset value ∷ [])) in
-    let behind : IsSound (suc (length found)) slots = subst (λ (b : Bool). IsSound (if b then suc (length found) else length found) slots) takes first.more in
-    more (found ++ found_at offset value ∷ []) values left (subst (λ (n : ℕ). IsSound n slots) (sym count) behind) fit
+    let following : IsSound (suc (length found)) slots = subst (λ (b : Bool). IsSound (if b then suc (length found) else length found) slots) takes first.more in
+    more (found ++ found_at offset value ∷ []) values left (subst (λ (n : ℕ). IsSound n slots) (sym count) following) fit
     (is ∙ ap (λ front. filled slots front values ++ tail) (sym grown)))
 
 read_passed : (end : ℕ) (wanted : Slot) (slots : List Slot) (found : List Found) (values : List Value) (spots : List Spot) (tail : List TokenValue)
@@ -379,10 +379,10 @@ read_passed end wanted slots found values spots tail takes sound fit stands more
     ∙ append_assoc (exact_tokens (values_of found) wanted) (filled slots (values_of found) values) tail in
     let count : length (values_of found) ≡ length found = length-map found (λ (each : Found). each.value) in
     let known : is_before (length (values_of found)) wanted ≡ true = ap (λ n. is_before n wanted) count ∙ first.known in
-    let behind : IsSound (length found) slots = subst (λ (b : Bool). IsSound (if b then suc (length found) else length found) slots) takes first.more in
+    let following : IsSound (length found) slots = subst (λ (b : Bool). IsSound (if b then suc (length found) else length found) slots) takes first.more in
     read_step_passed end wanted slots found values spots middle tail
     (slot_passed end wanted found spots middle takes (exact-real (values_of found) wanted known) there)
-    (λ left is. more found values left behind fit is)
+    (λ left is. more found values left following fit is)
 
 read_case : (b : Bool) (end : ℕ) (wanted : Slot) (slots : List Slot) (found : List Found) (values : List Value) (spots : List Spot) (tail : List TokenValue)
     → takes_value wanted ≡ b → IsSound (length found) (wanted ∷ slots) → FitAll (wanted ∷ slots) values

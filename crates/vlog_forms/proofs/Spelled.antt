@@ -110,11 +110,11 @@ unfolding spots_outcome module_tokens
 spots-spelled end m spots stands well =
     let last : List TokenValue = flat_map item_tokens m.items ++ token.fixed sign.Endmodule ∷ [] in
     let body : List TokenValue = flat_map port_tokens m.ports ++ last in
-    let behind : List TokenValue = names_tokens m.ports ++ token.fixed sign.CloseParen ∷ token.fixed sign.Semicolon ∷ body in
-    let there : tokens_in spots ≡ token.fixed sign.Module ∷ token.name m.name ∷ token.fixed sign.OpenParen ∷ behind
+    let following : List TokenValue = names_tokens m.ports ++ token.fixed sign.CloseParen ∷ token.fixed sign.Semicolon ∷ body in
+    let there : tokens_in spots ≡ token.fixed sign.Module ∷ token.name m.name ∷ token.fixed sign.OpenParen ∷ following
     = stands ∙ ap (λ more. token.fixed sign.Module ∷ token.name m.name ∷ token.fixed sign.OpenParen ∷ more)
     (append_assoc (names_tokens m.ports) (token.fixed sign.CloseParen ∷ token.fixed sign.Semicolon ∷ []) body) in
-    let head = head-read end m.name spots behind there in
+    let head = head-read end m.name spots following there in
     let names = names-read end m.ports head.rest (token.fixed sign.Semicolon ∷ body) head.left in
     let semicolon = read_tokens-exact end (token.fixed sign.Semicolon ∷ []) names.rest body (tt, tt) names.left in
     let alone : twice_fault [] names.names ≡ None = none-twice [] names.names m.ports names.are (apart-ports m.ports well.begun.apart) in

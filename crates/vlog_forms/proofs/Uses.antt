@@ -13,7 +13,7 @@ use Rattle.vlog_module.specs.Uses.Use.{Declares, Takes, Assigns, AssignsAsync}
 use Rattle.vlog_forms.specs.declared.slot.Role.TheVariants as role
 use Rattle.vlog_forms.specs.Values.{Value}
 use Rattle.vlog_forms.specs.Values.{Value as value}
-use Rattle.vlog_forms.specs.Items.{item_values, atoms_values, behind, lut_values}
+use Rattle.vlog_forms.specs.Items.{item_values, atoms_values, following, lut_values}
 use Rattle.vlog_forms.specs.Outcome.{value_uses, uses_from, uses_in}
 
 atom-value : (one : Atom) (all : List Value) (place : ℕ) → value_uses (value.AnAtom one) all place ≡ atom_uses one
@@ -26,16 +26,16 @@ atom-next : (all : List Value) (place : ℕ) (one : Atom) (values : List Value) 
 atom-next all place one values = ap (λ uses. uses ++ uses_from all (place + 1) values) (atom-value one all place)
 
 -- the index after this many atoms
-abbrev behind_atoms : List Atom → ℕ → ℕ
-behind_atoms [] place = place
-behind_atoms (one ∷ list) place = behind_atoms list (place + 1)
+abbrev after_atoms : List Atom → ℕ → ℕ
+after_atoms [] place = place
+after_atoms (one ∷ list) place = after_atoms list (place + 1)
 
 atoms-next : (all : List Value) (place : ℕ) (list : List Atom) (values : List Value)
-    → uses_from all place (map value.AnAtom list ++ values) ≡ flat_map atom_uses list ++ uses_from all (behind_atoms list place) values
+    → uses_from all place (map value.AnAtom list ++ values) ≡ flat_map atom_uses list ++ uses_from all (after_atoms list place) values
 atoms-next all place [] values = refl
 atoms-next all place (one ∷ list) values =
     atom-next all place one (map value.AnAtom list ++ values) ∙ ap (λ more. atom_uses one ++ more) (atoms-next all (place + 1) list values)
-    ∙ sym (append_assoc (atom_uses one) (flat_map atom_uses list) (uses_from all (behind_atoms list (place + 1)) values))
+    ∙ sym (append_assoc (atom_uses one) (flat_map atom_uses list) (uses_from all (after_atoms list (place + 1)) values))
 
 flat-push : (list : List Atom) (one : Atom) → flat_map atom_uses (list ++ one ∷ []) ≡ flat_map atom_uses list ++ atom_uses one
 flat-push [] one = append-nil (atom_uses one)
@@ -51,8 +51,8 @@ list-reversed (one ∷ list) =
 list-next : (all : List Value) (place : ℕ) (list : List Atom) (values : List Value) (uses : List Use) → ((next : ℕ) → uses_from all next values ≡ uses)
     → uses_from all place (atoms_values list ++ values) ≡ atoms_uses list ++ uses
 list-next all place list values uses is =
-    atoms-next all place (reverse list) values ∙ ap (λ front. front ++ uses_from all (behind_atoms (reverse list) place) values) (list-reversed list)
-    ∙ ap (λ more. atoms_uses list ++ more) (is (behind_atoms (reverse list) place))
+    atoms-next all place (reverse list) values ∙ ap (λ front. front ++ uses_from all (after_atoms (reverse list) place) values) (list-reversed list)
+    ∙ ap (λ more. atoms_uses list ++ more) (is (after_atoms (reverse list) place))
 
 list-last : (all : List Value) (place : ℕ) (list : List Atom) → uses_from all place (atoms_values list) ≡ atoms_uses list
 list-last all place list =
@@ -80,7 +80,7 @@ write-next all clock_enable enable memory address values first second is =
     regroup front one a b c = simp append_assoc
 
 pub uses-of-values : (one : Item) → uses_in (item_values one) ≡ uses_of one
-unfolding behind
+unfolding following
 uses-of-values (item.Register name start) = refl
 uses-of-values (item.Word name start) = refl
 uses-of-values (item.Memory name) = refl
@@ -115,12 +115,12 @@ uses-of-values (item.Read falling clock clock_enable enable target memory addres
 uses-of-values (item.ReadNarrow falling clock clock_enable enable target memory address shift pattern) =
     let all : List Value = item_values (item.ReadNarrow falling clock clock_enable enable target memory address shift pattern) in
     let values : List Value = atoms_values shift ++ value.Word pattern ∷ [] in
-    let behind_them : uses_from all 6 (atoms_values address ++ values) ≡ atoms_uses address ++ atoms_uses shift
+    let after_them : uses_from all 6 (atoms_values address ++ values) ≡ atoms_uses address ++ atoms_uses shift
     = list-next all 6 address values (atoms_uses shift)
     (λ next. list-next all next shift (value.Word pattern ∷ []) [] (λ last. refl) ∙ append-nil (atoms_uses shift)) in
     ap (λ more. Takes sort.Input clock ∷ more)
     (two-next all 2 clock_enable enable (value.Name (role.Assigns sort.Word) target ∷ value.Name (role.Takes sort.Memory) memory ∷ (atoms_values address ++ values))
-    (Assigns sort.Word target ∷ Takes sort.Memory memory ∷ (atoms_uses address ++ atoms_uses shift)) (ap (λ more. Assigns sort.Word target ∷ Takes sort.Memory memory ∷ more) behind_them)
+    (Assigns sort.Word target ∷ Takes sort.Memory memory ∷ (atoms_uses address ++ atoms_uses shift)) (ap (λ more. Assigns sort.Word target ∷ Takes sort.Memory memory ∷ more) after_them)
     ∙ sym (append_assoc (atom_uses clock_enable ++ atom_uses enable) (Assigns sort.Word target ∷ Takes sort.Memory memory ∷ atoms_uses address) (atoms_uses shift)))
 uses-of-values (item.Write falling clock clock_enable enable memory address mask bits) =
     let all : List Value = item_values (item.Write falling clock clock_enable enable memory address mask bits) in

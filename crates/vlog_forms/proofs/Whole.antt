@@ -26,7 +26,7 @@ use Rattle.vlog_forms.specs.Values.{Value, is_same_token}
 use Rattle.vlog_forms.specs.Values.Value.{Name}
 use Rattle.vlog_forms.specs.Layout.{slots_of, filled}
 use Rattle.vlog_forms.specs.Items.{item_of, item_tokens, port_form, port_tokens, more_names, names_tokens, module_tokens, tokens_in, name_in, IsSpelling}
-use Rattle.vlog_forms.specs.Reading.{Found, found_at, values_of, offset_of, Reading, read_slots, read_tokens, behind_tokens, and_then, Whole, first_whole, read_forms, port_forms, all_forms}
+use Rattle.vlog_forms.specs.Reading.{Found, found_at, values_of, offset_of, Reading, read_slots, read_tokens, after_tokens, and_then, Whole, first_whole, read_forms, port_forms, all_forms}
 use Rattle.vlog_forms.specs.Outcome.{Fault, fault, after, unless_fault, item_fault, are_assigned, at_end, ending, is_end, module_of, with_item, item_outcome, items_outcome, is_output, port_of, ports_outcome, uses_in, Turn, wants_name, may_close, PortStep, sign_step, port_step, next_port, port_names, twice_fault, header_slots, with_head, with_names, with_semicolon, ports_next, header_outcome, spots_outcome, outcome_of}
 use Rattle.vlog_forms.specs.Outcome.Turn.{Opened, Named, Parted}
 use Rattle.vlog_forms.specs.Outcome.PortStep.{TakesName, PartsNames, Closes, Stops}
@@ -79,12 +79,12 @@ stray-stuck end [] rest reads = cc
 stray-stuck end (first ∷ spots) rest reads = cc
 
 after_stray : (end : ℕ) (left : List Spot) (reading : Result (List Spot) ℕ) (step : List Found × List Spot) → read_tokens end (token.stray ∷ []) left ≡ reading
-    → and_then (behind_tokens [] reading) (read_slots end (slot.Fixed sign.Semicolon ∷ [])) ≡ Ok step → ⊥
+    → and_then (after_tokens [] reading) (read_slots end (slot.Fixed sign.Semicolon ∷ [])) ≡ Ok step → ⊥
 after_stray end left (Ok rest) step is reads = stray-stuck end left rest is
 after_stray end left (Err stuck) step is reads = cc
 
 after_fixed : (end : ℕ) (reading : Result (List Spot) ℕ) (step : List Found × List Spot)
-    → and_then (behind_tokens [] reading) (read_slots end (slot.Space ∷ slot.Again 0 ∷ slot.Fixed sign.Semicolon ∷ [])) ≡ Ok step → ⊥
+    → and_then (after_tokens [] reading) (read_slots end (slot.Space ∷ slot.Again 0 ∷ slot.Fixed sign.Semicolon ∷ [])) ≡ Ok step → ⊥
 unfolding read_slots
 after_fixed end (Err stuck) step reads = cc
 after_fixed end (Ok left) step reads = after_stray end left (read_tokens end (token.stray ∷ []) left) step refl reads
@@ -131,11 +131,11 @@ whole-stands end spots one sound is =
     }
 
 -- what follows an item
-abbrev StandsBehind : ℕ → ℕ → Parts → Type 0
-StandsBehind most end whole = (next : Parts) (left : List Spot) → AreSoundTokens (tokens_in left) → items_outcome most end next left ≡ Ok whole → ItemsStand next left whole
+abbrev StandsAfter : ℕ → ℕ → Parts → Type 0
+StandsAfter most end whole = (next : Parts) (left : List Spot) → AreSoundTokens (tokens_in left) → items_outcome most end next left ≡ Ok whole → ItemsStand next left whole
 
 whole_case : (b : Bool) (most end : ℕ) (m : Parts) (spots : List Spot) (whole : Parts) (one : Whole) → AreSoundTokens (tokens_in spots) → read_forms end [] all_forms spots ≡ Ok one
-    → StandsBehind most end whole → is_end one.form ≡ b
+    → StandsAfter most end whole → is_end one.form ≡ b
     → (if b then ending m (offset_of end spots) one.spots
     else unless_fault (item_fault (scope_of m.ports m.items) (offset_of end spots) (item_of one.form (values_of one.found)) one.found) (items_outcome most end (with_item m (item_of one.form (values_of one.found))) one.spots)) ≡ Ok whole
     → ItemsStand m spots whole
@@ -173,7 +173,7 @@ whole_case false most end m spots whole one sound is more ends reads =
     }
 
 forms_case : (most end : ℕ) (m : Parts) (spots : List Spot) (whole : Parts) (reading : Result Whole ℕ) → AreSoundTokens (tokens_in spots) → read_forms end [] all_forms spots ≡ reading
-    → StandsBehind most end whole → after reading (item_outcome (items_outcome most end) m (offset_of end spots)) ≡ Ok whole → ItemsStand m spots whole
+    → StandsAfter most end whole → after reading (item_outcome (items_outcome most end) m (offset_of end spots)) ≡ Ok whole → ItemsStand m spots whole
 forms_case most end m spots whole (Err stuck) sound is more reads = absurd cc
 forms_case most end m spots whole (Ok one) sound is more reads = whole_case (is_end one.form) most end m spots whole one sound is more refl reads
 
@@ -195,7 +195,7 @@ record PortsStand (names : List Found) (before : List Port) (spots : List Spot) 
   rest : List Spot
   are : NamesOf names ports
   tokens : tokens_in spots ≡ flat_map port_tokens ports ++ tokens_in rest
-  behind : next (before ++ ports) rest ≡ Ok whole
+  following : next (before ++ ports) rest ≡ Ok whole
   sound : AreSoundTokens (tokens_in rest)
 
 port-whole : (first second : Reading (List Found)) (one : Whole) → first_whole form.Input first (first_whole form.Output second (Err 0)) ≡ Ok one → one.form ≡ port_form (is_output one.form)
@@ -243,7 +243,7 @@ port_case end name names before spots next whole (Ok one) is sound reads more ou
       rest = rest.rest;
       are = (is, rest.are);
       tokens = stands ∙ ap (λ tokens. port_tokens port ++ tokens) rest.tokens ∙ sym (append_assoc (port_tokens port) (flat_map port_tokens rest.ports) (tokens_in rest.rest));
-      behind = ap (λ all. next all rest.rest) (sym (append_assoc before (port ∷ []) rest.ports)) ∙ rest.behind;
+      following = ap (λ all. next all rest.rest) (sym (append_assoc before (port ∷ []) rest.ports)) ∙ rest.following;
       sound = rest.sound;
     }
 
@@ -251,7 +251,7 @@ ports-stand : (end : ℕ) (names : List Found) (before : List Port) (spots : Lis
     → AreNames names → AreSoundTokens (tokens_in spots) → ports_outcome end names before spots next ≡ Ok whole → PortsStand names before spots next whole
 unfolding ports_outcome
 ports-stand end [] before spots next whole are sound outcome =
-    record { ports = []; rest = spots; are = tt; tokens = refl; behind = ap (λ all. next all spots) (append-nil before) ∙ outcome; sound = sound }
+    record { ports = []; rest = spots; are = tt; tokens = refl; following = ap (λ all. next all spots) (append-nil before) ∙ outcome; sound = sound }
 ports-stand end (name ∷ names) before spots next whole are sound outcome =
     port_case end name names before spots next whole (read_forms end (name ∷ []) port_forms spots) are.0 sound refl
     (λ ports left good. ports-stand end names ports left next whole are.1 good) outcome
@@ -544,11 +544,11 @@ unfolding IsDistinct
 nothing-apart = tt
 
 -- a text whose header is read, with no fault after it
-behind_header : (end : ℕ) (spots : List Spot) (head : List Found) (listed : List Spot) (names : List Found) (closed rest : List Spot) (m : Parts) → AreSoundTokens (tokens_in spots)
+after_header : (end : ℕ) (spots : List Spot) (head : List Found) (listed : List Spot) (names : List Found) (closed rest : List Spot) (m : Parts) → AreSoundTokens (tokens_in spots)
     → read_slots end header_slots [] spots ≡ Ok (head, listed) → port_names end Opened [] listed ≡ Ok (names, closed) → read_tokens end (token.fixed sign.Semicolon ∷ []) closed ≡ Ok rest
     → header_outcome end (record { head = head; names = names; spots = rest }) ≡ Ok m → TokensStand spots m
 unfolding module_tokens
-behind_header end spots head listed names closed rest m sound heads lists shuts outcome =
+after_header end spots head listed names closed rest m sound heads lists shuts outcome =
     let name : List ℕ = name_in (values_of head) in
     let front : tokens_in spots ≡ token.fixed sign.Module ∷ token.name name ∷ token.fixed sign.OpenParen ∷ tokens_in listed = head-tokens end spots head listed heads in
     let good = subst AreSoundTokens front sound in
@@ -561,7 +561,7 @@ behind_header end spots head listed names closed rest m sound heads lists shuts 
     let rest_good : AreSoundTokens (tokens_in rest) = (subst AreSoundTokens closed_is names_good.1.1).1 in
     let parts = unless_parts (twice_fault [] names) (ports_outcome end names [] rest (ports_next end name)) m outcome in
     let ports = ports-stand end names [] rest (ports_next end name) m are rest_good parts.1 in
-    let items = items-stand (suc (length ports.rest)) end (module_of name ports.ports []) ports.rest m ports.sound ports.behind in
+    let items = items-stand (suc (length ports.rest)) end (module_of name ports.ports []) ports.rest m ports.sound ports.following in
     let same : turn_tokens Opened names ≡ names_tokens ports.ports = names-same names ports.ports ports.are in
     let last : List TokenValue = flat_map item_tokens items.items ++ token.fixed sign.Endmodule ∷ [] in
     let body : List TokenValue = flat_map port_tokens ports.ports ++ last in
@@ -589,7 +589,7 @@ semicolon_case : (end : ℕ) (spots : List Spot) (head : List Found) (listed : L
     → read_slots end header_slots [] spots ≡ Ok (head, listed) → port_names end Opened [] listed ≡ Ok (names, closed) → read_tokens end (token.fixed sign.Semicolon ∷ []) closed ≡ reading
     → after (with_semicolon head names reading) (header_outcome end) ≡ Ok m → TokensStand spots m
 semicolon_case end spots head listed names closed (Err stuck) m sound heads lists shuts outcome = absurd cc
-semicolon_case end spots head listed names closed (Ok rest) m sound heads lists shuts outcome = behind_header end spots head listed names closed rest m sound heads lists shuts outcome
+semicolon_case end spots head listed names closed (Ok rest) m sound heads lists shuts outcome = after_header end spots head listed names closed rest m sound heads lists shuts outcome
 
 names_case : (end : ℕ) (spots : List Spot) (head : List Found) (listed : List Spot) (reading : Reading (List Found)) (m : Parts) → AreSoundTokens (tokens_in spots)
     → read_slots end header_slots [] spots ≡ Ok (head, listed) → port_names end Opened [] listed ≡ reading

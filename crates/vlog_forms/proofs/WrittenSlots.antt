@@ -99,7 +99,7 @@ AreWritable (value ∷ values) = IsWritable value × AreWritable values
 part-plain : (name : List ℕ) (k : ℕ) (rest : List ℕ) → IsName name → k < 1000
     → plain (tokens_text (value_tokens (AnAtom (atom.Part name k))) ++ rest) ≡ value_tokens (AnAtom (atom.Part name k)) ++ plain rest
 part-plain name k rest named small =
-    let behind : List ℕ = 93 ∷ rest in
+    let following : List ℕ = 93 ∷ rest in
     let close : plain (93 ∷ rest) ≡ token.fixed sign.CloseBracket ∷ plain rest = plain-front (93 ∷ []) rest (token.fixed sign.CloseBracket) (fixed-front sign.CloseBracket rest (λ h. absurd cc)) in
     let number : plain (decimal_text k ++ 93 ∷ rest) ≡ token.number k ∷ plain (93 ∷ rest) = plain-front (decimal_text k) (93 ∷ rest) (token.number k) (number-front k (93 ∷ rest) small refl) in
     let bracket : plain (91 ∷ (decimal_text k ++ 93 ∷ rest)) ≡ token.fixed sign.OpenBracket ∷ plain (decimal_text k ++ 93 ∷ rest)
@@ -243,12 +243,12 @@ took_case one slots before value after rest takes parts proper fine others fit c
     let shut : closes (text ++ rest) ≡ true = written-closes slots here after rest (parts.next (takes-needs one takes)) closed in
     let count : suc (length before) ≡ length here = omega (arith, length-append before (value ∷ [])) in
     let places : are_before (suc (length before)) slots ≡ true = ap (λ b. are_before (if b then suc (length before) else length before) slots) (sym takes) ∙ parts.before in
-    let behind : plain (text ++ rest) ≡ filled slots here after ++ plain rest
+    let following : plain (text ++ rest) ≡ filled slots here after ++ plain rest
     = more here after (ap (λ n. are_before n slots) (sym count) ∙ places) (push-writable before value proper fine) others fit in
     ap (λ all. plain (all ++ rest)) (written-took one slots before value after takes)
     ∙ ap plain (append_assoc front text rest)
     ∙ value-plain value (text ++ rest) fine shut
-    ∙ ap (λ tokens. value_tokens value ++ tokens) behind
+    ∙ ap (λ tokens. value_tokens value ++ tokens) following
     ∙ sym (append_assoc (value_tokens value) (filled slots here after) (plain rest))
     ∙ ap (λ all. all ++ plain rest) (sym (filled-took one slots before value after takes))
 
@@ -259,11 +259,11 @@ passed_case one slots before after rest takes parts proper others fit closed mor
     let text : List ℕ = written slots before after in
     let front : List ℕ = space_text one ++ tokens_text (exact_tokens before one) in
     let places : are_before (length before) slots ≡ true = ap (λ b. are_before (if b then suc (length before) else length before) slots) (sym takes) ∙ parts.before in
-    let behind : plain (text ++ rest) ≡ filled slots before after ++ plain rest = more before after places proper others fit in
+    let following : plain (text ++ rest) ≡ filled slots before after ++ plain rest = more before after places proper others fit in
     ap (λ all. plain (all ++ rest)) (written-passed one slots before after takes)
     ∙ ap plain (append_assoc front text rest)
     ∙ exact-plain one before (text ++ rest) takes parts.small parts.known proper (λ needs. written-closes slots before after rest (parts.next needs) closed)
-    ∙ ap (λ tokens. exact_tokens before one ++ tokens) behind
+    ∙ ap (λ tokens. exact_tokens before one ++ tokens) following
     ∙ sym (append_assoc (exact_tokens before one) (filled slots before after) (plain rest))
     ∙ ap (λ all. all ++ plain rest) (sym (filled-passed one slots before after takes))
 

@@ -162,45 +162,45 @@ atoms_in zero values = []
 atoms_in (suc n) values = atom_in values ∷ atoms_in n (drop 1 values)
 
 -- the values after the first n
-unfoldable pub behind : ℕ → List Value → List Value
-behind zero values = values
-behind (suc n) values = behind n (drop 1 values)
+unfoldable pub following : ℕ → List Value → List Value
+following zero values = values
+following (suc n) values = following n (drop 1 values)
 
 -- the LUT of a word and four atoms
 abbrev pub lut_in : List Value → Lut
 lut_in values = record { word = word_in values; ins = reverse (atoms_in 4 (drop 1 values)) }
 
 unfoldable pub item_of : Form → List Value → Item
-item_of form.Register v = item.Register (name_in v) (bit_in (behind 1 v))
-item_of form.Word v = item.Word (name_in v) (word_in (behind 1 v))
+item_of form.Register v = item.Register (name_in v) (bit_in (following 1 v))
+item_of form.Word v = item.Word (name_in v) (word_in (following 1 v))
 item_of form.Memory v = item.Memory (name_in v)
-item_of form.WireBit v = item.Wire (name_in v) (right.Bit (bit_in (behind 1 v)))
-item_of form.WireWhole v = item.Wire (name_in v) (right.Whole (name_in (behind 1 v)))
-item_of form.WirePart v = item.Wire (name_in v) (right.Part (name_in (behind 1 v)) (index_in (behind 2 v)))
-item_of form.WireLut v = item.Wire (name_in v) (right.Lut (lut_in (behind 1 v)))
+item_of form.WireBit v = item.Wire (name_in v) (right.Bit (bit_in (following 1 v)))
+item_of form.WireWhole v = item.Wire (name_in v) (right.Whole (name_in (following 1 v)))
+item_of form.WirePart v = item.Wire (name_in v) (right.Part (name_in (following 1 v)) (index_in (following 2 v)))
+item_of form.WireLut v = item.Wire (name_in v) (right.Lut (lut_in (following 1 v)))
 item_of form.WireMajority v =
-    item.Wire (name_in v) (right.Majority (atom_in (behind 1 v)) (atom_in (behind 2 v)) (atom_in (behind 3 v)))
+    item.Wire (name_in v) (right.Majority (atom_in (following 1 v)) (atom_in (following 2 v)) (atom_in (following 3 v)))
 item_of form.WireChoose v =
-    item.Wire (name_in v) (right.Choose (name_in (behind 1 v)) (bit_in (behind 2 v)) (name_in (behind 3 v)))
-item_of form.Assign v = item.Assign (name_in v) (atom_in (behind 1 v))
+    item.Wire (name_in v) (right.Choose (name_in (following 1 v)) (bit_in (following 2 v)) (name_in (following 3 v)))
+item_of form.Assign v = item.Assign (name_in v) (atom_in (following 1 v))
 item_of form.FlipFlop v =
-    item.FlipFlop (edge_in v) (name_in (behind 1 v)) (atom_in (behind 2 v)) (atom_in (behind 3 v)) (bit_in (behind 5 v))
-    (name_in (behind 4 v)) (lut_in (behind 6 v))
+    item.FlipFlop (edge_in v) (name_in (following 1 v)) (atom_in (following 2 v)) (atom_in (following 3 v)) (bit_in (following 5 v))
+    (name_in (following 4 v)) (lut_in (following 6 v))
 item_of form.AsyncFlipFlop v =
-    item.AsyncFlipFlop (edge_in v) (name_in (behind 1 v)) (name_in (behind 2 v)) (bit_in (behind 4 v)) (name_in (behind 3 v))
-    (atom_in (behind 5 v)) (lut_in (behind 6 v))
-item_of form.AsyncReset v = item.AsyncReset (name_in v) (bit_in (behind 2 v)) (name_in (behind 1 v))
+    item.AsyncFlipFlop (edge_in v) (name_in (following 1 v)) (name_in (following 2 v)) (bit_in (following 4 v)) (name_in (following 3 v))
+    (atom_in (following 5 v)) (lut_in (following 6 v))
+item_of form.AsyncReset v = item.AsyncReset (name_in v) (bit_in (following 2 v)) (name_in (following 1 v))
 item_of form.Read v =
-    item.Read (edge_in v) (name_in (behind 1 v)) (atom_in (behind 2 v)) (atom_in (behind 3 v)) (name_in (behind 4 v))
-    (name_in (behind 5 v)) (reverse (atoms_in 8 (behind 6 v)))
+    item.Read (edge_in v) (name_in (following 1 v)) (atom_in (following 2 v)) (atom_in (following 3 v)) (name_in (following 4 v))
+    (name_in (following 5 v)) (reverse (atoms_in 8 (following 6 v)))
 item_of form.ReadNarrow v =
-    item.ReadNarrow (edge_in v) (name_in (behind 1 v)) (atom_in (behind 2 v)) (atom_in (behind 3 v)) (name_in (behind 4 v))
-    (name_in (behind 5 v)) (reverse (atoms_in 8 (behind 6 v))) (reverse (atoms_in 3 (behind 14 v))) (word_in (behind 17 v))
+    item.ReadNarrow (edge_in v) (name_in (following 1 v)) (atom_in (following 2 v)) (atom_in (following 3 v)) (name_in (following 4 v))
+    (name_in (following 5 v)) (reverse (atoms_in 8 (following 6 v))) (reverse (atoms_in 3 (following 14 v))) (word_in (following 17 v))
 item_of form.Write v =
-    item.Write (edge_in v) (name_in (behind 1 v)) (atom_in (behind 2 v)) (atom_in (behind 3 v)) (name_in (behind 4 v))
-    (reverse (atoms_in 8 (behind 5 v))) (reverse (atoms_in 16 (behind 13 v))) (reverse (atoms_in 16 (behind 29 v)))
+    item.Write (edge_in v) (name_in (following 1 v)) (atom_in (following 2 v)) (atom_in (following 3 v)) (name_in (following 4 v))
+    (reverse (atoms_in 8 (following 5 v))) (reverse (atoms_in 16 (following 13 v))) (reverse (atoms_in 16 (following 29 v)))
 item_of form.WriteNarrow v =
-    item.WriteNarrow (edge_in v) (name_in (behind 1 v)) (atom_in (behind 2 v)) (atom_in (behind 3 v)) (name_in (behind 4 v))
-    (reverse (atoms_in 8 (behind 5 v))) (word_in (behind 13 v)) (reverse (atoms_in 3 (behind 14 v)))
-    (reverse (atoms_in 16 (behind 17 v)))
-item_of _ v = item.Start (name_in v) (index_in (behind 1 v)) (word_in (behind 2 v))
+    item.WriteNarrow (edge_in v) (name_in (following 1 v)) (atom_in (following 2 v)) (atom_in (following 3 v)) (name_in (following 4 v))
+    (reverse (atoms_in 8 (following 5 v))) (word_in (following 13 v)) (reverse (atoms_in 3 (following 14 v)))
+    (reverse (atoms_in 16 (following 17 v)))
+item_of _ v = item.Start (name_in v) (index_in (following 1 v)) (word_in (following 2 v))

@@ -22,7 +22,7 @@ use Rattle.vlog_forms.specs.declared.slot.Slot.{Slot}
 use Rattle.vlog_forms.specs.declared.slot.Slot.TheVariants as slot
 use Rattle.vlog_forms.specs.Values.{Value, is_same_token}
 use Rattle.vlog_forms.specs.Values.Value.{Name, AnAtom}
-use Rattle.vlog_forms.specs.Items.{item_of, behind, name_in, bit_in, index_in}
+use Rattle.vlog_forms.specs.Items.{item_of, following, name_in, bit_in, index_in}
 use Rattle.vlog_forms.specs.Reading.{Found, found_at, values_of, offset_of, read_tokens, Reading, read_slots, Whole, read_forms, port_forms, all_forms}
 
 -- a fault: an offset of the text, and the cause
@@ -39,14 +39,14 @@ fault offset cause = record { offset = offset; cause = cause }
 abbrev pub role_use : Role → List Value → ℕ → List ℕ → Use
 role_use (Declares sort) values place name = use_as.Declares sort name
 role_use Reads values place name = use_as.Reads name
-role_use ReadsBit values place name = use_as.ReadsBit name (index_in (behind (place + 1) values))
+role_use ReadsBit values place name = use_as.ReadsBit name (index_in (following (place + 1) values))
 role_use (Takes sort) values place name = use_as.Takes sort name
 role_use (Assigns sort) values place name = use_as.Assigns sort name
 role_use Chooses values place name =
-    use_as.Chooses (name_in (behind (place - 2) values)) (bit_in (behind (place - 1) values)) name
+    use_as.Chooses (name_in (following (place - 2) values)) (bit_in (following (place - 1) values)) name
 role_use AssignsAsync values place name =
-    use_as.AssignsAsync (name_in (behind (place - 1) values)) (bit_in (behind (place + 1) values)) name
-role_use Starts values place name = use_as.Starts name (index_in (behind (place + 1) values))
+    use_as.AssignsAsync (name_in (following (place - 1) values)) (bit_in (following (place + 1) values)) name
+role_use Starts values place name = use_as.Starts name (index_in (following (place + 1) values))
 
 -- the uses of names in a value; `place` is its index among the values of the item
 abbrev pub value_uses : Value → List Value → ℕ → List Use

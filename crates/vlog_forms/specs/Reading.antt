@@ -89,9 +89,9 @@ read_part end [] = Err end
 read_part end (first ∷ spots) = index_part end first.offset first.token spots
 
 -- the tokens after the first one, which is `[`
-abbrev pub behind_open : List Spot → List Spot
-behind_open [] = []
-behind_open (first ∷ spots) = spots
+abbrev pub after_open : List Spot → List Spot
+after_open [] = []
+after_open (first ∷ spots) = spots
 
 -- adds an atom to the values that were found before
 abbrev pub with_atom : List Found → ℕ → Atom → List Spot → Reading (List Found)
@@ -105,7 +105,7 @@ with_part found offset name (Err stuck) = Err stuck
 abbrev pub atom_from : ℕ → List Found → ℕ → TokenValue → List Spot → Reading (List Found)
 atom_from end found offset (token.bit bit) spots = with_atom found offset (atom.Bit bit) spots
 atom_from end found offset (token.name name) spots =
-    if opens spots then with_part found offset name (read_part end (behind_open spots))
+    if opens spots then with_part found offset name (read_part end (after_open spots))
     else with_atom found offset (atom.Whole name) spots
 atom_from end found offset _ spots = Err offset
 
@@ -114,16 +114,16 @@ read_atom end found [] = Err end
 read_atom end found (first ∷ spots) = atom_from end found first.offset first.token spots
 
 -- tokens that are no value
-abbrev pub behind_tokens : List Found → Result (List Spot) ℕ → Reading (List Found)
-behind_tokens found (Ok spots) = Ok (found, spots)
-behind_tokens found (Err stuck) = Err stuck
+abbrev pub after_tokens : List Found → Result (List Spot) ℕ → Reading (List Found)
+after_tokens found (Ok spots) = Ok (found, spots)
+after_tokens found (Err stuck) = Err stuck
 
 -- One slot. Its value is added to the values that were found before.
 abbrev pub read_slot : ℕ → Slot → List Found → List Spot → Reading (List Found)
 read_slot end slot.Atom found spots = read_atom end found spots
 read_slot end wanted found spots =
     if takes_value wanted then read_single end wanted found spots
-    else behind_tokens found (read_tokens end (exact_tokens (values_of found) wanted) spots)
+    else after_tokens found (read_tokens end (exact_tokens (values_of found) wanted) spots)
 
 abbrev pub and_then : Reading (List Found) → (List Found → List Spot → Reading (List Found)) → Reading (List Found)
 and_then (Ok step) next = next step.0 step.1

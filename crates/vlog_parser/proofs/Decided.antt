@@ -1,5 +1,5 @@
 -- What is said of a text by its outcome, and by the modules that it spells, is the same.
-use Rattle.std.proofs.Common.{◌≡◌, ◌∙◌, ◌↔◌, ℕ, List, Option, Some, None, Result, Ok, Err, ap, refl, sym}
+use Rattle.std.proofs.Common.{◌≡◌, ◌∙◌, ℕ, List, Some, Result, Ok, Err, ap, sym}
 use Rattle.vlog_module.specs.Parts.{Parts}
 use Rattle.vlog_forms.specs.Items.{IsSpelling}
 use Rattle.vlog_forms.specs.Outcome.{Fault, fault_in, outcome_of, vlog_fault_of}

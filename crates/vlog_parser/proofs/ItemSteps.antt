@@ -14,7 +14,7 @@ use Rattle.vlog_parser.specs.declared.fault.ParseRefusal.{ParseRefusal}
 use Rattle.vlog_parser.specs.Answers.{RefusesAt}
 use Rattle.vlog_parser.specs.declared.items.Step.{Step}
 use Rattle.vlog_parser.specs.declared.items.Step.TheVariants as step
-use Rattle.vlog_parser.specs.Steps.{IsAt, IsBehind, items_from}
+use Rattle.vlog_parser.specs.Steps.{IsAt, IsAfter, items_from}
 
 -- ---- what follows doesn't depend on how many items there may be at most
 
@@ -54,9 +54,9 @@ unfolding items_outcome
 items-first bytes m from = refl
 
 -- and those after it
-pub items-behind : (bytes : List ℕ) (m : Parts) (from end : ℕ) → length (spots_at bytes end) < length (spots_at bytes from)
+pub items-after : (bytes : List ℕ) (m : Parts) (from end : ℕ) → length (spots_at bytes end) < length (spots_at bytes from)
     → items_outcome (length (spots_at bytes from)) (length bytes) m (spots_at bytes end) ≡ items_from bytes m end
-items-behind bytes m from end shorter =
+items-after bytes m from end shorter =
     let long : length (spots_at bytes end) < suc (length (spots_at bytes end)) = omega arith in
     enough (length (spots_at bytes from)) (suc (length (spots_at bytes end))) (length bytes) m (spots_at bytes end) (spots_at-sound bytes end) shorter long
 
@@ -70,6 +70,6 @@ pub form-stands : (bytes : List ℕ) (from : ℕ) (forms : List Form) (one : Who
 form-stands bytes from forms one all is =
     whole-stands (length bytes) (spots_at bytes from) one (spots_at-sound bytes from) (ap (λ list. read_forms (length bytes) [] list (spots_at bytes from)) (sym all) ∙ is)
 
-pub step-behind : (bytes : List ℕ) (from end : ℕ) (step : Step) → IsAt end step → end ≤ length bytes → length (spots_at bytes end) < length (spots_at bytes from) → IsBehind bytes from step
-step-behind bytes from end (step.Next behind) at within shorter = let same : behind ≡ end = at in rw same (within, shorter)
-step-behind bytes from end step.Done at within shorter = tt
+pub step-after : (bytes : List ℕ) (from end : ℕ) (step : Step) → IsAt end step → end ≤ length bytes → length (spots_at bytes end) < length (spots_at bytes from) → IsAfter bytes from step
+step-after bytes from end (step.Next following) at within shorter = let same : following ≡ end = at in rw same (within, shorter)
+step-after bytes from end step.Done at within shorter = tt

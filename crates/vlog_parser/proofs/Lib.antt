@@ -9,7 +9,7 @@ pub mod Outcomes
 -- names and words of memories as keys
 pub mod NameKeys
 -- the names of values: those of the first value, and those of the values after it
-pub mod ValuesBehind
+pub mod ValuesAfter
 -- how wires read names: what is kept of one name, and what of all
 pub mod WireReadings
 -- names that are added stand for the scope with what they declare, read and assign

@@ -58,21 +58,21 @@ unfolding outcome_of spots_outcome
 header-stuck text (stop.Stuck at) stops = ap (λ reading. after reading (header_outcome (length text))) stops
 header-stuck text (stop.Memory refused) stops = tt
 
-behind-header : (text : List ℕ) (header : Header) → read_header (length text) (spots_of text) ≡ Ok header → outcome_of text ≡ header_outcome (length text) header
+after-header : (text : List ℕ) (header : Header) → read_header (length text) (spots_of text) ≡ Ok header → outcome_of text ≡ header_outcome (length text) header
 unfolding outcome_of spots_outcome
-behind-header text header reads = ap (λ reading. after reading (header_outcome (length text))) reads
+after-header text header reads = ap (λ reading. after reading (header_outcome (length text))) reads
 
 pub names-twice : (text : List ℕ) (header : Header) (found : Option kept.Fault) (one : kept.Fault) → read_header (length text) (spots_of text) ≡ Ok header → option_map seen_fault found ≡ twice_fault [] header.names → found ≡ Some one
     → outcome_of text ≡ Err (seen_fault one)
 names-twice text header found one reads twice is =
     let there : twice_fault [] header.names ≡ Some (seen_fault one) = sym twice ∙ ap (option_map seen_fault) is in
-    behind-header text header reads ∙ ap (λ each. unless_fault each (ports_outcome (length text) header.names [] header.spots (ports_next (length text) (name_in (values_of header.head))))) there
+    after-header text header reads ∙ ap (λ each. unless_fault each (ports_outcome (length text) header.names [] header.spots (ports_next (length text) (name_in (values_of header.head))))) there
 
 pub names-once : (text : List ℕ) (header : Header) (found : Option kept.Fault) → read_header (length text) (spots_of text) ≡ Ok header → option_map seen_fault found ≡ twice_fault [] header.names → found ≡ None
     → outcome_of text ≡ ports_outcome (length text) header.names [] header.spots (ports_next (length text) (name_in (values_of header.head)))
 names-once text header found reads twice is =
     let none : twice_fault [] header.names ≡ None = sym twice ∙ ap (option_map seen_fault) is in
-    behind-header text header reads ∙ ap (λ each. unless_fault each (ports_outcome (length text) header.names [] header.spots (ports_next (length text) (name_in (values_of header.head))))) none
+    after-header text header reads ∙ ap (λ each. unless_fault each (ports_outcome (length text) header.names [] header.spots (ports_next (length text) (name_in (values_of header.head))))) none
 
 -- ---- answers
 

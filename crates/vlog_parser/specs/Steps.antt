@@ -26,13 +26,13 @@ Steps outcome bytes m (Err refusal) = (more : Parts → List Spot → Result Par
 
 -- the step ends at this offset, if the module isn't finished
 abbrev pub IsAt : ℕ → Step → Type 0
-IsAt end (step.Next behind) = behind ≡ end
+IsAt end (step.Next following) = following ≡ end
 IsAt end step.Done = Unit {0}
 
 -- the step ends at an offset after which fewer tokens are left
-abbrev pub IsBehind : List ℕ → ℕ → Step → Type 0
-IsBehind bytes from (step.Next end) = (end ≤ length bytes) × (length (spots_at bytes end) < length (spots_at bytes from))
-IsBehind bytes from step.Done = Unit {0}
+abbrev pub IsAfter : List ℕ → ℕ → Step → Type 0
+IsAfter bytes from (step.Next end) = (end ≤ length bytes) × (length (spots_at bytes end) < length (spots_at bytes from))
+IsAfter bytes from step.Done = Unit {0}
 
 -- an item has no fault and is added, or it has this fault
 abbrev pub Adds : Option Fault → Parts → Parts → Result (Unit {0}) ParseRefusal → Type 0
@@ -58,7 +58,7 @@ abbrev pub Declares : Declarations → List ℕ → List Port → Result ℕ Par
 Declares outcome bytes ports (Ok end) = (next : List Port → List Spot → Result Parts Fault) → outcome next ≡ next ports (spots_at bytes end)
 Declares outcome bytes ports (Err refusal) = (next : List Port → List Spot → Result Parts Fault) → RefusesAt (outcome next) refusal
 
--- one more port is declared, and its declaration ends at an offset; `behind` is what comes of the others
+-- one more port is declared, and its declaration ends at an offset; `following` is what comes of the others
 abbrev pub DeclaresOne : Declarations → (List Port → List Spot → Declarations) → List ℕ → List Port → Result ℕ ParseRefusal → Type 0
-DeclaresOne outcome behind bytes ports (Ok end) = (next : List Port → List Spot → Result Parts Fault) → outcome next ≡ behind ports (spots_at bytes end) next
-DeclaresOne outcome behind bytes ports (Err refusal) = (next : List Port → List Spot → Result Parts Fault) → RefusesAt (outcome next) refusal
+DeclaresOne outcome following bytes ports (Ok end) = (next : List Port → List Spot → Result Parts Fault) → outcome next ≡ following ports (spots_at bytes end) next
+DeclaresOne outcome following bytes ports (Err refusal) = (next : List Port → List Spot → Result Parts Fault) → RefusesAt (outcome next) refusal

@@ -11,7 +11,7 @@ ghost use Rattle.vlog_form_parser.specs.Readings.{whole_of};
 ghost use Rattle.vlog_form_parser.specs.Named.{AreNamed};
 ghost use Rattle.vlog_parser.specs.Seen.{seen_fault};
 ghost use Rattle.vlog_parser.specs.Drafts.{IsKept, next_scope, so_far};
-ghost use Rattle.vlog_parser.specs.Steps.{Adds, Ends, IsAt, IsBehind, Steps, items_from};
+ghost use Rattle.vlog_parser.specs.Steps.{Adds, Ends, IsAt, IsAfter, Steps, items_from};
 
 use crate::draft::{Draft, push_item, section_of};
 use crate::ending::{end_module, is_end};
@@ -67,7 +67,7 @@ fn read_item<'a>(
     ensures steps { Steps (λ more. after (read_forms (length bytes.now) [] all_forms (spots_at bytes.now from))
         (item_outcome more (so_far draft.old) (offset_of (length bytes.now) (spots_at bytes.now from)))) bytes.now (so_far draft.new) result }
     ensures kept { OnOk result (IsKept draft.new) }
-    ensures shorter { IfOk result (IsBehind bytes.now from) }
+    ensures shorter { IfOk result (IsAfter bytes.now from) }
 {
     match read_forms(bytes, from, &[], all_forms(), values) {
         Err(stop) => Err(refusal_of(stop)),

@@ -38,9 +38,9 @@ fn write_slot(
     next: usize,
 ) -> Result<usize, AllocError>
     requires { next ≤ length values.now }
-    ensures within { IfOk result (λ behind. behind ≤ length values.now) }
-    ensures text { IfOk result (λ behind. (more : List Slot) →
-        with_rest out.old.items (parts_of slot ++ more) values.now next ≡ with_rest out.new.items more values.now behind) }
+    ensures within { IfOk result (λ after. after ≤ length values.now) }
+    ensures text { IfOk result (λ after. (more : List Slot) →
+        with_rest out.old.items (parts_of slot ++ more) values.now next ≡ with_rest out.new.items more values.now after) }
 {
     match slot {
         Slot::Space => {
@@ -76,9 +76,9 @@ fn write_slot(
 /// Adds the next value, if there is one, and returns how many values are used up after it.
 fn write_next(out: &mut Vec<u8>, values: &[Value<'_>], next: usize) -> Result<usize, AllocError>
     requires { next ≤ length values.now }
-    ensures within { IfOk result (λ behind. behind ≤ length values.now) }
-    ensures text { IfOk result (λ behind. (slot : Slot) (more : List Slot) → takes_value slot ≡ true →
-        with_rest out.old.items (slot ∷ more) values.now next ≡ with_rest out.new.items more values.now behind) }
+    ensures within { IfOk result (λ after. after ≤ length values.now) }
+    ensures text { IfOk result (λ after. (slot : Slot) (more : List Slot) → takes_value slot ≡ true →
+        with_rest out.old.items (slot ∷ more) values.now next ≡ with_rest out.new.items more values.now after) }
 {
     if next < values.len() {
         write_value(out, values[next])?;
@@ -150,9 +150,9 @@ fn write_atoms(
     count: usize,
 ) -> Result<usize, AllocError>
     requires { next ≤ length values.now }
-    ensures within { IfOk result (λ behind. behind ≤ length values.now) }
-    ensures text { IfOk result (λ behind. (more : List Slot) →
-        with_rest out.old.items (Slot.Fixed Fixed.OpenBrace ∷ (atom_slots count ++ more)) values.now next ≡ with_rest out.new.items more values.now behind) }
+    ensures within { IfOk result (λ after. after ≤ length values.now) }
+    ensures text { IfOk result (λ after. (more : List Slot) →
+        with_rest out.old.items (Slot.Fixed Fixed.OpenBrace ∷ (atom_slots count ++ more)) values.now next ≡ with_rest out.new.items more values.now after) }
 {
     push_text(out, b"{")?;
     if count == 0 {
@@ -171,9 +171,9 @@ fn write_more(
     count: usize,
 ) -> Result<usize, AllocError>
     requires { next ≤ length values.now }
-    ensures within { IfOk result (λ behind. behind ≤ length values.now) }
-    ensures text { IfOk result (λ behind. (more : List Slot) →
-        with_rest out.old.items (more_slots count ++ more) values.now next ≡ with_rest out.new.items more values.now behind) }
+    ensures within { IfOk result (λ after. after ≤ length values.now) }
+    ensures text { IfOk result (λ after. (more : List Slot) →
+        with_rest out.old.items (more_slots count ++ more) values.now next ≡ with_rest out.new.items more values.now after) }
 {
     if count == 0 {
         push_text(out, b"}")?;

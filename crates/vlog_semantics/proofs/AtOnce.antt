@@ -218,13 +218,13 @@ read-well m i k item wire one whole at is wire_at wire_is =
           all-read (is_read_well one) (take i m.items) k wire
           (and-right (is_sort Register (sort_in scope.declared one.target)) (is_read_unless scope.read one.reset one.set_to one.target) known.register)
           (get-take m.items i k wire (ltb-true k i before) wire_at)
-      | inr behind ↦
+      | inr after ↦
           let seven : section_of item ≡ 7 = section-in item one is in
           let ordered : (scope_of m.ports (take k m.items)).section ≤ section_of wire = (whole.begun.allowed k wire wire_at).ordered in
           elim (cases_Bool (ltb i k)) [
             | inl first ↦ absurd (omega (arith, seven, wire_is, ordered, rises m i item k whole at (ltb-true i k first) (below-length m.items k wire wire_at)))
             | inr last ↦
-                let same : i ≡ k = omega (arith, ltb-false k i behind, ltb-false i k last) in
+                let same : i ≡ k = omega (arith, ltb-false k i after, ltb-false i k last) in
                 let one_item : item ≡ wire = some-same item wire (sym at ∙ ap (slice_get m.items) same ∙ wire_at) in
                 absurd (omega (arith, seven, wire_is, ap section_of one_item))
           ]

@@ -29,42 +29,42 @@ abbrev pub slots_of : {A : Type 0} → List (List ℕ × A) → List ℕ → Opt
 slots_of entries = value_in (numbered 0 (names_of entries))
 
 -- an operand, whatever is in later slots
-pub operand-same : (from : Readable) (behind : List Bool) (atom : Atom)
-    → operand_value (values_of from.bits ++ behind) (values_of from.words) (operand_of (slots_of from.bits) (slots_of from.words) atom) ≡ atom_value from atom
-operand-same from behind (Bit bit) = refl
-operand-same from behind (Whole name) =
-    slot-value (values_of from.bits ++ behind) (values_of from.words) (slots_of from.bits name)
-    ∙ ap (λ value. unwrap_or value false) (sym (value_in-slot [] from.bits behind name false 0 refl))
-operand-same from behind (Part name k) =
-    part-value (values_of from.bits ++ behind) (values_of from.words) k (slots_of from.words name)
+pub operand-same : (from : Readable) (after : List Bool) (atom : Atom)
+    → operand_value (values_of from.bits ++ after) (values_of from.words) (operand_of (slots_of from.bits) (slots_of from.words) atom) ≡ atom_value from atom
+operand-same from after (Bit bit) = refl
+operand-same from after (Whole name) =
+    slot-value (values_of from.bits ++ after) (values_of from.words) (slots_of from.bits name)
+    ∙ ap (λ value. unwrap_or value false) (sym (value_in-slot [] from.bits after name false 0 refl))
+operand-same from after (Part name k) =
+    part-value (values_of from.bits ++ after) (values_of from.words) k (slots_of from.words name)
     ∙ ap (λ value. option_map_or (λ word. bit_of word k) value false) (sym (value_in-slots from.words name 0))
 
-operands-same : (from : Readable) (behind : List Bool) (atoms : List Atom)
-    → map (operand_value (values_of from.bits ++ behind) (values_of from.words)) (operands_of (slots_of from.bits) (slots_of from.words) atoms) ≡ map (atom_value from) atoms
-operands-same from behind [] = refl
-operands-same from behind (atom ∷ atoms) = ap₂ (λ bit bits. bit ∷ bits) (operand-same from behind atom) (operands-same from behind atoms)
+operands-same : (from : Readable) (after : List Bool) (atoms : List Atom)
+    → map (operand_value (values_of from.bits ++ after) (values_of from.words)) (operands_of (slots_of from.bits) (slots_of from.words) atoms) ≡ map (atom_value from) atoms
+operands-same from after [] = refl
+operands-same from after (atom ∷ atoms) = ap₂ (λ bit bits. bit ∷ bits) (operand-same from after atom) (operands-same from after atoms)
 
 -- the number of operands
-pub number-same : (from : Readable) (behind : List Bool) (atoms : List Atom)
-    → operands_value (values_of from.bits ++ behind) (values_of from.words) (operands_of (slots_of from.bits) (slots_of from.words) atoms) ≡ atoms_value from atoms
-number-same from behind atoms = ap number_of (operands-same from behind atoms)
+pub number-same : (from : Readable) (after : List Bool) (atoms : List Atom)
+    → operands_value (values_of from.bits ++ after) (values_of from.words) (operands_of (slots_of from.bits) (slots_of from.words) atoms) ≡ atoms_value from atoms
+number-same from after atoms = ap number_of (operands-same from after atoms)
 
 -- a table
-pub table-same : (from : Readable) (behind : List Bool) (lut : Lut)
-    → table_value (values_of from.bits ++ behind) (values_of from.words) (table_of (slots_of from.bits) (slots_of from.words) lut) ≡ lut_value from lut
-table-same from behind lut = ap (bit_of lut.word) (number-same from behind lut.ins)
+pub table-same : (from : Readable) (after : List Bool) (lut : Lut)
+    → table_value (values_of from.bits ++ after) (values_of from.words) (table_of (slots_of from.bits) (slots_of from.words) lut) ≡ lut_value from lut
+table-same from after lut = ap (bit_of lut.word) (number-same from after lut.ins)
 
 -- a right side
-pub rule-same : (from : Readable) (behind : List Bool) (right : Right)
-    → rule_value (values_of from.bits ++ behind) (values_of from.words) (rule_of (slots_of from.bits) (slots_of from.words) right) ≡ right_value from right
-rule-same from behind (RightBit bit) = refl
-rule-same from behind (RightWhole name) = operand-same from behind (Whole name)
-rule-same from behind (RightPart name k) = operand-same from behind (Part name k)
-rule-same from behind (RightLut lut) = table-same from behind lut
-rule-same from behind (RightMajority a b c) =
-    ap₂ (λ f z. f z) (ap₂ majority (operand-same from behind a) (operand-same from behind b)) (operand-same from behind c)
-rule-same from behind (RightChoose reset set_to target) =
-    ap₂ (λ one other. cond one set_to other) (operand-same from behind (Whole reset)) (operand-same from behind (Whole target))
+pub rule-same : (from : Readable) (after : List Bool) (right : Right)
+    → rule_value (values_of from.bits ++ after) (values_of from.words) (rule_of (slots_of from.bits) (slots_of from.words) right) ≡ right_value from right
+rule-same from after (RightBit bit) = refl
+rule-same from after (RightWhole name) = operand-same from after (Whole name)
+rule-same from after (RightPart name k) = operand-same from after (Part name k)
+rule-same from after (RightLut lut) = table-same from after lut
+rule-same from after (RightMajority a b c) =
+    ap₂ (λ f z. f z) (ap₂ majority (operand-same from after a) (operand-same from after b)) (operand-same from after c)
+rule-same from after (RightChoose reset set_to target) =
+    ap₂ (λ one other. cond one set_to other) (operand-same from after (Whole reset)) (operand-same from after (Whole target))
 
 -- ---- all slots
 

@@ -148,10 +148,10 @@ gate-same bits words wire small =
           ∙ choose-table (operand_value bits words reset) set_to (operand_value bits words target)
     ]
 
-set-case : (bits : List Bool) (behind : List Bool) (slot : ℕ) (value : Bool) (b : Bool) → ltb slot (length bits) ≡ b
-    → cond b (set (bits ++ behind) slot value) (bits ++ behind) ≡ set bits slot value ++ behind
-set-case bits behind slot value true below = set-append_left bits behind slot value (ltb-true slot (length bits) below)
-set-case bits behind slot value false above = ap (λ list. list ++ behind) (sym (set_out bits slot value (ltb-false slot (length bits) above)))
+set-case : (bits : List Bool) (after : List Bool) (slot : ℕ) (value : Bool) (b : Bool) → ltb slot (length bits) ≡ b
+    → cond b (set (bits ++ after) slot value) (bits ++ after) ≡ set bits slot value ++ after
+set-case bits after slot value true below = set-append_left bits after slot value (ltb-true slot (length bits) below)
+set-case bits after slot value false above = ap (λ list. list ++ after) (sym (set_out bits slot value (ltb-false slot (length bits) above)))
 
 gate-step : (bits : List Bool) (words : List ℕ) (wire : Wire) → AreWords words
     → gate_slot (length bits) (cells_of bits words) (gate_of (length bits) (length words) wire) ≡ cells_of (wire_slot words bits wire) words

@@ -49,14 +49,14 @@ value_in-known {A = A} entries name value q is =
 -- ---- values by slots, with other values before and after
 
 -- what a slot has
-pub value_in-slot : {A : Type 0} (before : List A) (entries : List (List ℕ × A)) (behind : List A) (name : List ℕ) (d : A) (from : ℕ) → length before ≡ from
-    → value_in entries name ≡ option_map (λ slot. get_or (before ++ (map (λ entry. entry.1) entries ++ behind)) slot d) (value_in (numbered from (map (λ entry. entry.0) entries)) name)
-value_in-slot before [] behind name d from is = refl
-value_in-slot {A = A} before (entry ∷ entries) behind name d from is =
-    let values : List A = map (λ (e : List ℕ × A). e.1) entries ++ behind in
+pub value_in-slot : {A : Type 0} (before : List A) (entries : List (List ℕ × A)) (after : List A) (name : List ℕ) (d : A) (from : ℕ) → length before ≡ from
+    → value_in entries name ≡ option_map (λ slot. get_or (before ++ (map (λ entry. entry.1) entries ++ after)) slot d) (value_in (numbered from (map (λ entry. entry.0) entries)) name)
+value_in-slot before [] after name d from is = refl
+value_in-slot {A = A} before (entry ∷ entries) after name d from is =
+    let values : List A = map (λ (e : List ℕ × A). e.1) entries ++ after in
     let all : List A = before ++ entry.1 ∷ values in
     let next : (before ++ entry.1 ∷ []) ++ values ≡ all = append_assoc before (entry.1 ∷ []) values in
-    let rest = value_in-slot (before ++ entry.1 ∷ []) entries behind name d (from + 1) (length_push before entry.1 ∙ ap (λ n. n + 1) is) in
+    let rest = value_in-slot (before ++ entry.1 ∷ []) entries after name d (from + 1) (length_push before entry.1 ∙ ap (λ n. n + 1) is) in
     let found : Option ℕ = value_in (numbered (from + 1) (map (λ (e : List ℕ × A). e.0) entries)) name in
     elim (bytes_eq entry.0 name) as (λ b. cond b (Some entry.1) (value_in entries name) ≡ option_map (λ slot. get_or all slot d) (cond b (Some from) found)) [
       | true ↦ ap (λ (v : A). Some v) (sym (get_or_at before entry.1 values d from is))
@@ -64,20 +64,20 @@ value_in-slot {A = A} before (entry ∷ entries) behind name d from is =
     ]
 
 -- a slot gets a value
-pub put-slot : {A : Type 0} (before : List A) (entries : List (List ℕ × A)) (behind : List A) (name : List ℕ) (value : A) (from : ℕ) → length before ≡ from
-    → before ++ (map (λ entry. entry.1) (put entries name value) ++ behind)
-    ≡ option_map_or (λ slot. set (before ++ (map (λ entry. entry.1) entries ++ behind)) slot value) (value_in (numbered from (map (λ entry. entry.0) entries)) name) (before ++ (map (λ entry. entry.1) entries ++ behind))
-put-slot before [] behind name value from is = refl
-put-slot {A = A} before (entry ∷ entries) behind name value from is =
-    let values : List A = map (λ (e : List ℕ × A). e.1) entries ++ behind in
+pub put-slot : {A : Type 0} (before : List A) (entries : List (List ℕ × A)) (after : List A) (name : List ℕ) (value : A) (from : ℕ) → length before ≡ from
+    → before ++ (map (λ entry. entry.1) (put entries name value) ++ after)
+    ≡ option_map_or (λ slot. set (before ++ (map (λ entry. entry.1) entries ++ after)) slot value) (value_in (numbered from (map (λ entry. entry.0) entries)) name) (before ++ (map (λ entry. entry.1) entries ++ after))
+put-slot before [] after name value from is = refl
+put-slot {A = A} before (entry ∷ entries) after name value from is =
+    let values : List A = map (λ (e : List ℕ × A). e.1) entries ++ after in
     let all : List A = before ++ entry.1 ∷ values in
     let next : (before ++ entry.1 ∷ []) ++ values ≡ all = append_assoc before (entry.1 ∷ []) values in
-    let rest = put-slot (before ++ entry.1 ∷ []) entries behind name value (from + 1) (length_push before entry.1 ∙ ap (λ n. n + 1) is) in
+    let rest = put-slot (before ++ entry.1 ∷ []) entries after name value (from + 1) (length_push before entry.1 ∙ ap (λ n. n + 1) is) in
     let found : Option ℕ = value_in (numbered (from + 1) (map (λ (e : List ℕ × A). e.0) entries)) name in
-    elim (bytes_eq entry.0 name) as (λ b. before ++ (map (λ (e : List ℕ × A). e.1) (cond b ((entry.0, value) ∷ entries) (entry ∷ put entries name value)) ++ behind)
+    elim (bytes_eq entry.0 name) as (λ b. before ++ (map (λ (e : List ℕ × A). e.1) (cond b ((entry.0, value) ∷ entries) (entry ∷ put entries name value)) ++ after)
     ≡ option_map_or (λ slot. set all slot value) (cond b (Some from) found) all) [
       | true ↦ sym (set_at before entry.1 values value from is)
-      | false ↦ sym (append_assoc before (entry.1 ∷ []) (map (λ (e : List ℕ × A). e.1) (put entries name value) ++ behind))
+      | false ↦ sym (append_assoc before (entry.1 ∷ []) (map (λ (e : List ℕ × A). e.1) (put entries name value) ++ after))
           ∙ rest ∙ ap (λ list. option_map_or (λ slot. set list slot value) found list) next
     ]
 

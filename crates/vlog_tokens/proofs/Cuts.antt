@@ -58,8 +58,8 @@ spots_at-blanks bytes from =
     spots_from-blanks from (drop from bytes) ∙ ap (λ left. spots_from (from + skipped) zero left) (drop-drop skipped from bytes)
 
 -- no white space follows them
-pub unblank_behind : (bytes : List ℕ) (from : ℕ) → from + position_or_len (λ byte. not (is_blank byte)) (drop from bytes) < length bytes → is_blank (byte_at bytes (from + position_or_len (λ byte. not (is_blank byte)) (drop from bytes))) ≡ false
-unblank_behind bytes from inside =
+pub unblank_after : (bytes : List ℕ) (from : ℕ) → from + position_or_len (λ byte. not (is_blank byte)) (drop from bytes) < length bytes → is_blank (byte_at bytes (from + position_or_len (λ byte. not (is_blank byte)) (drop from bytes))) ≡ false
+unblank_after bytes from inside =
     let skipped : ℕ = position_or_len (λ byte. not (is_blank byte)) (drop from bytes) in
     let lt : skipped < length (drop from bytes) = omega (arith, length-drop from bytes, inside) in
     let passes : not (is_blank (get_or (drop from bytes) skipped 0)) ≡ true = passes_at_first (λ byte. not (is_blank byte)) (drop from bytes) 0 lt in

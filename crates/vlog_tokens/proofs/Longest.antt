@@ -253,8 +253,8 @@ number_long (suc count) (a ∷ rest) short within all = by count rest short (ome
     by (suc zero) (b ∷ more) short within all true true p_is q_is = omega arith
     by (suc (suc n)) (b ∷ []) short within all true q p_is q_is = absurd (omega arith)
     by (suc (suc n)) (b ∷ c ∷ more) short within all true false p_is q_is =
-        let behind = (and_parts (is_digit b) (list_all is_digit (take (suc n) (c ∷ more))) all).1 in
-        absurd (clash (is_digit c) (and_parts (is_digit c) (list_all is_digit (take n more)) behind).0 q_is)
+        let after = (and_parts (is_digit b) (list_all is_digit (take (suc n) (c ∷ more))) all).1 in
+        absurd (clash (is_digit c) (and_parts (is_digit c) (list_all is_digit (take n more)) after).0 q_is)
     by (suc (suc n)) (b ∷ c ∷ more) short within all true true p_is q_is = omega arith
 
 digits_long : (count : ℕ) (bytes : List ℕ) → count ≤ 3 → count ≤ number_length bytes → count ≤ digits_length bytes
@@ -336,8 +336,8 @@ signs-most byte rest plain digitless (suc count) other within spelled = by other
         let two_long : suc count ≡ 2 = sym long ∙ ap (λ list. length list) (is ∙ paired) in
         let both : text ≡ a ∷ b ∷ [] = is ∙ paired in
         let next : byte_at (take count rest) 0 ≡ b = ap (λ list. byte_at list 1) both in
-        let behind : byte_at (take count rest) 0 ≡ byte_at rest 0 = get_or-take count rest 0 0 (omega (arith, two_long)) in
-        let some : pair_of byte (byte_at rest 0) ≡ Some one = ap₂ pair_of (ap (λ list. byte_at list 0) both) (sym behind ∙ next) ∙ found in
+        let after : byte_at (take count rest) 0 ≡ byte_at rest 0 = get_or-take count rest 0 0 (omega (arith, two_long)) in
+        let some : pair_of byte (byte_at rest 0) ≡ Some one = ap₂ pair_of (ap (λ list. byte_at list 0) both) (sym after ∙ next) ∙ found in
         subst (λ n. n ≤ most) (sym two_long) (subst (λ pair. 2 ≤ sign_most pair (sign_of byte)) (sym some) (omega arith))
 
     by : (one : TokenValue) → IsSpelling text one → suc count ≤ most

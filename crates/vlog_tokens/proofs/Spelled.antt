@@ -107,15 +107,15 @@ unfolding among
 among-word text [] one spelled found = absurd cc
 among-word text (word ∷ words) one spelled found =
     let here : word.0 ≡ fixed_text word.1 = cc in
-    let behind : map (λ other. other.0) words ≡ map (λ other. fixed_text other.1) words = cc in
-    by (bytes_eq text word.0) refl here (among-word text words one behind) found
+    let after : map (λ other. other.0) words ≡ map (λ other. fixed_text other.1) words = cc in
+    by (bytes_eq text word.0) refl here (among-word text words one after) found
   where
     by : (b : Bool) → bytes_eq text word.0 ≡ b → word.0 ≡ fixed_text word.1 → (among (bytes_eq text) words ≡ Some one → text ≡ fixed_text one)
         → cond b (Some word.1) (among (bytes_eq text) words) ≡ Some one → text ≡ fixed_text one
-    by true same here behind found =
+    by true same here after found =
         let is : word.1 ≡ one = cc in
         (bytes_eq-Decides text word.0).0 same ∙ here ∙ ap fixed_text is
-    by false apart here behind found = behind found
+    by false apart here after found = after found
 
 -- each of the bytes stands beside the sign that it spells
 among-sign : (byte : ℕ) (signs : List (ℕ × Fixed)) (one : Fixed) → map (λ other. other.0 ∷ []) signs ≡ map (λ other. fixed_text other.1) signs
@@ -124,15 +124,15 @@ unfolding among
 among-sign byte [] one spelled found = absurd cc
 among-sign byte (other ∷ signs) one spelled found =
     let here : other.0 ∷ [] ≡ fixed_text other.1 = cc in
-    let behind : map (λ next. next.0 ∷ []) signs ≡ map (λ next. fixed_text next.1) signs = cc in
-    by (byte == other.0) refl here (among-sign byte signs one behind) found
+    let after : map (λ next. next.0 ∷ []) signs ≡ map (λ next. fixed_text next.1) signs = cc in
+    by (byte == other.0) refl here (among-sign byte signs one after) found
   where
     by : (b : Bool) → (byte == other.0) ≡ b → other.0 ∷ [] ≡ fixed_text other.1 → (among (λ next. byte == next) signs ≡ Some one → byte ∷ [] ≡ fixed_text one)
         → cond b (Some other.1) (among (λ next. byte == next) signs) ≡ Some one → byte ∷ [] ≡ fixed_text one
-    by true same here behind found =
+    by true same here after found =
         let is : other.1 ≡ one = cc in
         ap (λ b. b ∷ []) (eqb-true byte other.0 same) ∙ here ∙ ap fixed_text is
-    by false apart here behind found = behind found
+    by false apart here after found = after found
 
 pub word-spelled : (text : List ℕ) (one : Fixed) → word_of text ≡ Some one → text ≡ fixed_text one
 unfolding word_of among
@@ -151,11 +151,11 @@ pair-spelled a b one found = step 60 61 sign.LessEquals refl _ (step 60 60 sign.
 
     step : (first second : ℕ) (sign : Fixed) → first ∷ second ∷ [] ≡ fixed_text sign → (others : Option Fixed) → (others ≡ Some one → a ∷ b ∷ [] ≡ fixed_text one)
         → (if (a == first) && (b == second) then Some sign else others) ≡ Some one → a ∷ b ∷ [] ≡ fixed_text one
-    step first second sign spelled others behind here = by (a == first) (b == second) refl refl here
+    step first second sign spelled others after here = by (a == first) (b == second) refl refl here
       where
         by : (p q : Bool) → (a == first) ≡ p → (b == second) ≡ q → (if p && q then Some sign else others) ≡ Some one → a ∷ b ∷ [] ≡ fixed_text one
         by true true a_is b_is is =
             let same : sign ≡ one = cc in
             rw (eqb-true a first a_is, eqb-true b second b_is) (spelled ∙ ap fixed_text same)
-        by true false a_is b_is is = behind is
-        by false q a_is b_is is = behind is
+        by true false a_is b_is is = after is
+        by false q a_is b_is is = after is

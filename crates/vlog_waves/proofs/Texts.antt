@@ -62,18 +62,18 @@ pub line-made : (start one two three four five a b c name d e : List ℕ) → on
     → five ≡ start ++ ((a ++ (b ++ (c ++ (32 ∷ name ++ (d ++ e))))) ++ 10 ∷ [])
 line-made start one two three four five a b c name d e first second third fourth fifth =
     let end : List ℕ = 10 ∷ [] in
-    let behind : List ℕ = name ++ (d ++ (e ++ end)) in
-    let left : five ≡ start ++ (a ++ (b ++ (c ++ (32 ∷ behind)))) =
+    let following : List ℕ = name ++ (d ++ (e ++ end)) in
+    let left : five ≡ start ++ (a ++ (b ++ (c ++ (32 ∷ following)))) =
     fifth
     ∙ ap (λ (text : List ℕ). text ++ (d ++ (e ++ end)))
     (fourth ∙ ap (λ (text : List ℕ). text ++ name) (third ∙ ap (λ (text : List ℕ). text ++ 32 ∷ []) (second ∙ ap (λ (text : List ℕ). text ++ c) first)))
     ∙ append_assoc (((start ++ (a ++ b)) ++ c) ++ (32 ∷ [])) name (d ++ (e ++ end))
-    ∙ append_assoc ((start ++ (a ++ b)) ++ c) (32 ∷ []) behind
-    ∙ append_assoc (start ++ (a ++ b)) c (32 ∷ behind)
-    ∙ append_assoc start (a ++ b) (c ++ (32 ∷ behind))
-    ∙ ap (λ (text : List ℕ). start ++ text) (append_assoc a b (c ++ (32 ∷ behind))) in
+    ∙ append_assoc ((start ++ (a ++ b)) ++ c) (32 ∷ []) following
+    ∙ append_assoc (start ++ (a ++ b)) c (32 ∷ following)
+    ∙ append_assoc start (a ++ b) (c ++ (32 ∷ following))
+    ∙ ap (λ (text : List ℕ). start ++ text) (append_assoc a b (c ++ (32 ∷ following))) in
     let word : List ℕ = 32 ∷ (name ++ (d ++ e)) in
-    let right : (a ++ (b ++ (c ++ word))) ++ end ≡ a ++ (b ++ (c ++ (32 ∷ behind))) =
+    let right : (a ++ (b ++ (c ++ word))) ++ end ≡ a ++ (b ++ (c ++ (32 ∷ following))) =
     append_assoc a (b ++ (c ++ word)) end
     ∙ ap (λ (text : List ℕ). a ++ text)
     (append_assoc b (c ++ word) end

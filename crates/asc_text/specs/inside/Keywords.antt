@@ -7,7 +7,7 @@ use Rattle.asc_text.specs.declared.reading.keyword.Keyword.{Keyword}
 use Rattle.asc_text.specs.declared.reading.keyword.Keyword.TheVariants.{Comment, Device, WarmBoot, FrequencyRange, NoSleep, Tile, RamData, ExtraBit, Symbol}
 use Rattle.asc_text.specs.declared.statement.Statement.{Statement}
 use Rattle.asc_text.specs.declared.statement.Statement.TheVariants.{Comment as CommentStatement}
-use Rattle.asc_text.specs.Statements.{comment_keyword, device_keyword, warm_boot_keyword, range_keyword, no_sleep_keyword, tile_keyword, ram_data_keyword, extra_bit_keyword, symbol_keyword, device_of_words, warm_boot_of_words, range_of_words, no_sleep_of_words, tile_of_numbers, ram_data_of_numbers, extra_bit_of_numbers, symbol_of_parts, name_behind}
+use Rattle.asc_text.specs.Statements.{comment_keyword, device_keyword, warm_boot_keyword, range_keyword, no_sleep_keyword, tile_keyword, ram_data_keyword, extra_bit_keyword, symbol_keyword, device_of_words, warm_boot_of_words, range_of_words, no_sleep_of_words, tile_of_numbers, ram_data_of_numbers, extra_bit_of_numbers, symbol_of_parts, name_after}
 
 -- the keyword that a word is
 unfoldable pub keyword_of : List ℕ → Option Keyword
@@ -28,12 +28,12 @@ keyword_of word =
 
 -- the statement of a keyword and the text after it
 abbrev pub spelled_as : Keyword → List ℕ → Option Statement
-spelled_as Comment behind = Some CommentStatement
-spelled_as Device behind = device_of_words (words_of Spaces behind)
-spelled_as WarmBoot behind = warm_boot_of_words (words_of Spaces behind)
-spelled_as FrequencyRange behind = range_of_words (words_of Spaces behind)
-spelled_as NoSleep behind = no_sleep_of_words (words_of Spaces behind)
-spelled_as (Tile kind) behind = tile_of_numbers kind (numbers_of (words_of Spaces behind))
-spelled_as RamData behind = ram_data_of_numbers (numbers_of (words_of Spaces behind))
-spelled_as ExtraBit behind = extra_bit_of_numbers (numbers_of (words_of Spaces behind))
-spelled_as Symbol behind = symbol_of_parts (number_of (first_word Spaces behind)) (name_behind behind)
+spelled_as Comment following = Some CommentStatement
+spelled_as Device following = device_of_words (words_of Spaces following)
+spelled_as WarmBoot following = warm_boot_of_words (words_of Spaces following)
+spelled_as FrequencyRange following = range_of_words (words_of Spaces following)
+spelled_as NoSleep following = no_sleep_of_words (words_of Spaces following)
+spelled_as (Tile kind) following = tile_of_numbers kind (numbers_of (words_of Spaces following))
+spelled_as RamData following = ram_data_of_numbers (numbers_of (words_of Spaces following))
+spelled_as ExtraBit following = extra_bit_of_numbers (numbers_of (words_of Spaces following))
+spelled_as Symbol following = symbol_of_parts (number_of (first_word Spaces following)) (name_after following)

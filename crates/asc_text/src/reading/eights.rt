@@ -1,4 +1,4 @@
-// Lines of the characters 0 and 1 as numbers, read eight characters at a time.
+// Lines of the characters 0 and 1 as numbers. Eight characters become eight bits in one step, in code that is made for each width.
 ghost use Rattle.std.specs.Prelude.{◌≡◌, ◌+◌, ◌-◌, ◌%◌, ◌≤◌, List, ℕ, take, drop, map, length};
 ghost use Rattle.std.specs.List.{list_all};
 ghost use Rattle.bit_plane.specs.BitList.{word_of};

@@ -1,4 +1,6 @@
-// The lines that follow the statement of a tile, of the contents of a RAM, or of a comment.
+// The lines that follow the statement of a tile, of the contents of a RAM, or of a comment. A row is expected to be as long as its tile is wide:
+// the rows or digits below a statement are taken in one loop as long as LF comes right after each, without a search for the line's end. Any
+// other line goes the long way.
 ghost use Rattle.std.specs.Prelude.{◌≡◌, ℕ, ◌≤◌, true, false, MatchOption};
 ghost use Rattle.std.specs.List.{list_all};
 ghost use Rattle.asc_text.specs.Faults.{is_printable};

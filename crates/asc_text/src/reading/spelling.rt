@@ -1,12 +1,12 @@
 // How statements are spelled.
 ghost use Rattle.std.specs.Prelude.{◌≡◌, ◌<◌, ℕ, List, drop, length, Some, IfSome};
 ghost use Rattle.text_lines.specs.declared.words.Separators.TheVariants.{Spaces};
-ghost use Rattle.text_lines.specs.Words.{first_word, behind_word, number_of, numbers_of, words_of};
+ghost use Rattle.text_lines.specs.Words.{first_word, after_word, number_of, numbers_of, words_of};
 ghost use Rattle.text_lines.specs.Numbers.{StartsWithNumber};
 ghost use Rattle.asc_text.specs.declared.statement.Statement.TheVariants.{Symbol};
 ghost use Rattle.asc_text.specs.inside.Keywords.{spelled_as};
 ghost use Rattle.plane_map.specs.DeviceWords.{device_named};
-ghost use Rattle.asc_text.specs.Statements.{begins_with_dot, device_of_words, extra_bit_of_numbers, name_behind, name_in, no_sleep_of_words, ram_data_of_numbers, range_named, range_of_words, spelled, statement_in, switch_named, symbol_of_parts, tile_of_numbers, warm_boot_of_words};
+ghost use Rattle.asc_text.specs.Statements.{begins_with_dot, device_of_words, extra_bit_of_numbers, name_after, name_in, no_sleep_of_words, ram_data_of_numbers, range_named, range_of_words, spelled, statement_in, switch_named, symbol_of_parts, tile_of_numbers, warm_boot_of_words};
 
 use crate::reading::keyword::{Keyword, keyword_of};
 use crate::statement::Statement;
@@ -55,7 +55,7 @@ pub(crate) fn plain_symbol_in(line: &[u8]) -> Option<u32>
 /// The net of `.sym NET NAME` with one space before the number, as most such lines have it. It looks only at the first byte of the
 /// name.
 fn plain_symbol(line: &[u8]) -> Option<u32>
-    ensures { IfSome result (λ net. spelled (first_word Spaces line.now) (behind_word Spaces line.now) ≡ Some (Symbol net)) }
+    ensures { IfSome result (λ net. spelled (first_word Spaces line.now) (after_word Spaces line.now) ≡ Some (Symbol net)) }
 {
     if 5 <= line.len() && &line[..5] == b".sym ".as_slice() {
         number_before_name(&line[5..])
@@ -77,11 +77,11 @@ fn number_before_name(text: &[u8]) -> Option<u32>
 /// The statement of a line by its words.
 #[inline(never)]
 fn statement_by_words(line: &[u8]) -> Option<Statement>
-    ensures { result ≡ spelled (first_word Spaces line.now) (behind_word Spaces line.now) }
+    ensures { result ≡ spelled (first_word Spaces line.now) (after_word Spaces line.now) }
 {
     match split_word(Separators::Spaces, line) {
         None => None,
-        Some((keyword, behind)) => spelled(keyword, behind),
+        Some((keyword, following)) => spelled(keyword, following),
     }
 }
 
@@ -90,102 +90,102 @@ fn statement_by_words(line: &[u8]) -> Option<Statement>
 pub(crate) fn name_in(line: &[u8]) -> &[u8]
     ensures { result.now ≡ name_in line.now }
 {
-    after_space(behind_word(behind_word(trimmed(line))))
+    after_space(after_word(after_word(trimmed(line))))
 }
 
 /// The statement of a keyword and the text after it.
 #[tactic(auto, using(crate::proofs::Spellings::spelled_by_keyword))]
-fn spelled(keyword: &[u8], behind: &[u8]) -> Option<Statement>
-    ensures { result ≡ spelled keyword.now behind.now }
+fn spelled(keyword: &[u8], following: &[u8]) -> Option<Statement>
+    ensures { result ≡ spelled keyword.now following.now }
 {
     match keyword_of(keyword) {
         None => None,
-        Some(keyword) => spelled_as(keyword, behind),
+        Some(keyword) => spelled_as(keyword, following),
     }
 }
 
 /// The statement of a known keyword and the text after it.
-fn spelled_as(keyword: Keyword, behind: &[u8]) -> Option<Statement>
-    ensures { result ≡ spelled_as keyword behind.now }
+fn spelled_as(keyword: Keyword, following: &[u8]) -> Option<Statement>
+    ensures { result ≡ spelled_as keyword following.now }
 {
     match keyword {
         Keyword::Comment => Some(Statement::Comment),
-        Keyword::Device => device_of(behind),
-        Keyword::WarmBoot => warm_boot_of(behind),
-        Keyword::FrequencyRange => range_of(behind),
-        Keyword::NoSleep => no_sleep_of(behind),
-        Keyword::Tile(kind) => tile_of(kind, behind),
-        Keyword::RamData => ram_data_of(behind),
-        Keyword::ExtraBit => extra_bit_of(behind),
-        Keyword::Symbol => symbol_of(behind),
+        Keyword::Device => device_of(following),
+        Keyword::WarmBoot => warm_boot_of(following),
+        Keyword::FrequencyRange => range_of(following),
+        Keyword::NoSleep => no_sleep_of(following),
+        Keyword::Tile(kind) => tile_of(kind, following),
+        Keyword::RamData => ram_data_of(following),
+        Keyword::ExtraBit => extra_bit_of(following),
+        Keyword::Symbol => symbol_of(following),
     }
 }
 
 /// The statement `.device` with the text after it.
-fn device_of(behind: &[u8]) -> Option<Statement>
-    ensures { result ≡ device_of_words (words_of Spaces behind.now) }
+fn device_of(following: &[u8]) -> Option<Statement>
+    ensures { result ≡ device_of_words (words_of Spaces following.now) }
 {
-    match one_word(Separators::Spaces, behind) {
+    match one_word(Separators::Spaces, following) {
         None => None,
         Some(word) => Some(Statement::Device(DeviceName::named(word))),
     }
 }
 
 /// The statement `.warmboot` with the text after it.
-fn warm_boot_of(behind: &[u8]) -> Option<Statement>
-    ensures { result ≡ warm_boot_of_words (words_of Spaces behind.now) }
+fn warm_boot_of(following: &[u8]) -> Option<Statement>
+    ensures { result ≡ warm_boot_of_words (words_of Spaces following.now) }
 {
-    match one_word(Separators::Spaces, behind) {
+    match one_word(Separators::Spaces, following) {
         None => None,
         Some(word) => Some(Statement::WarmBoot(switch_named(word))),
     }
 }
 
 /// The statement `.freqrange` with the text after it.
-fn range_of(behind: &[u8]) -> Option<Statement>
-    ensures { result ≡ range_of_words (words_of Spaces behind.now) }
+fn range_of(following: &[u8]) -> Option<Statement>
+    ensures { result ≡ range_of_words (words_of Spaces following.now) }
 {
-    match one_word(Separators::Spaces, behind) {
+    match one_word(Separators::Spaces, following) {
         None => None,
         Some(word) => Some(Statement::FrequencyRange(range_named(word))),
     }
 }
 
 /// The statement `.nosleep` with the text after it.
-fn no_sleep_of(behind: &[u8]) -> Option<Statement>
-    ensures { result ≡ no_sleep_of_words (words_of Spaces behind.now) }
+fn no_sleep_of(following: &[u8]) -> Option<Statement>
+    ensures { result ≡ no_sleep_of_words (words_of Spaces following.now) }
 {
-    match one_word(Separators::Spaces, behind) {
+    match one_word(Separators::Spaces, following) {
         None => None,
         Some(word) => Some(Statement::NoSleep(switch_named(word))),
     }
 }
 
 /// The statement of a tile of this kind, with the text after its keyword.
-fn tile_of(kind: TileKind, behind: &[u8]) -> Option<Statement>
-    ensures { result ≡ tile_of_numbers kind (numbers_of (words_of Spaces behind.now)) }
+fn tile_of(kind: TileKind, following: &[u8]) -> Option<Statement>
+    ensures { result ≡ tile_of_numbers kind (numbers_of (words_of Spaces following.now)) }
 {
-    match two_numbers(Separators::Spaces, behind) {
+    match two_numbers(Separators::Spaces, following) {
         None => None,
         Some((x, y)) => Some(Statement::Tile { kind, x, y }),
     }
 }
 
 /// The statement `.ram_data` with the text after it.
-fn ram_data_of(behind: &[u8]) -> Option<Statement>
-    ensures { result ≡ ram_data_of_numbers (numbers_of (words_of Spaces behind.now)) }
+fn ram_data_of(following: &[u8]) -> Option<Statement>
+    ensures { result ≡ ram_data_of_numbers (numbers_of (words_of Spaces following.now)) }
 {
-    match two_numbers(Separators::Spaces, behind) {
+    match two_numbers(Separators::Spaces, following) {
         None => None,
         Some((x, y)) => Some(Statement::RamData { x, y }),
     }
 }
 
 /// The statement `.extra_bit` with the text after it.
-fn extra_bit_of(behind: &[u8]) -> Option<Statement>
-    ensures { result ≡ extra_bit_of_numbers (numbers_of (words_of Spaces behind.now)) }
+fn extra_bit_of(following: &[u8]) -> Option<Statement>
+    ensures { result ≡ extra_bit_of_numbers (numbers_of (words_of Spaces following.now)) }
 {
-    match three_numbers(Separators::Spaces, behind) {
+    match three_numbers(Separators::Spaces, following) {
         None => None,
         Some((bank, x, y)) => Some(Statement::ExtraBit { bank, x, y }),
     }
@@ -193,10 +193,10 @@ fn extra_bit_of(behind: &[u8]) -> Option<Statement>
 
 /// The statement `.sym` with the text after it.
 #[tactic(auto, unfolding(text_lines::specs::Words::number_of))]
-fn symbol_of(behind: &[u8]) -> Option<Statement>
-    ensures { result ≡ symbol_of_parts (number_of (first_word Spaces behind.now)) (name_behind behind.now) }
+fn symbol_of(following: &[u8]) -> Option<Statement>
+    ensures { result ≡ symbol_of_parts (number_of (first_word Spaces following.now)) (name_after following.now) }
 {
-    match split_word(Separators::Spaces, behind) {
+    match split_word(Separators::Spaces, following) {
         None => None,
         Some((word, rest)) => named(number(word), after_space(rest)),
     }
@@ -223,13 +223,13 @@ fn after_space(rest: &[u8]) -> &[u8]
 }
 
 /// The text after the first word.
-#[tactic(auto, using(text_lines::proofs::Spaced::behind_no_word))]
-fn behind_word(line: &[u8]) -> &[u8]
-    ensures { result.now ≡ behind_word Spaces line.now }
+#[tactic(auto, using(text_lines::proofs::Spaced::after_no_word))]
+fn after_word(line: &[u8]) -> &[u8]
+    ensures { result.now ≡ after_word Spaces line.now }
 {
     match split_word(Separators::Spaces, line) {
         None => &[],
-        Some((_, behind)) => behind,
+        Some((_, following)) => following,
     }
 }
 

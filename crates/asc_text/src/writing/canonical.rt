@@ -26,9 +26,9 @@ pub struct CanonicalText {
     image: AnyImage,
     // The lines before the tiles and the lines after them, and where the latter begin.
     around: Vec<u8>,
-    behind: usize,
+    following: usize,
     row: Vec<u8>,
-    ghost within: { behind ≤ vec_len around },
+    ghost within: { following ≤ vec_len around },
     ghost room: { row_room ≤ vec_capacity row },
 }
 
@@ -52,13 +52,13 @@ impl CanonicalText {
     {
         let mut around = Vec::new(alloc);
         append_head(&mut around, &image)?;
-        let behind = around.len();
+        let following = around.len();
         append_extra_bits(&mut around, &image, alloc)?;
         let row = Vec::with_capacity(alloc, ROW_ROOM)?;
         Ok(CanonicalText {
             image,
             around,
-            behind,
+            following,
             row,
         })
     }
@@ -74,10 +74,16 @@ impl Content for CanonicalText {
         let CanonicalText {
             image,
             around,
-            behind,
+            following,
             mut row,
         } = self;
-        match write_around(sink, &around[..behind], &image, &around[behind..], &mut row) {
+        match write_around(
+            sink,
+            &around[..following],
+            &image,
+            &around[following..],
+            &mut row,
+        ) {
             Ok(_) => Ok(()),
             Err(fault) => Err(fault),
         }
@@ -89,18 +95,18 @@ fn write_around<K: Sink>(
     sink: &mut K,
     before: &[u8],
     image: &AnyImage,
-    behind: &[u8],
+    following: &[u8],
     row: &mut Vec<u8>,
 ) -> Result<usize, PutFault>
-    requires few { length before.now + length behind.now < 2 ^ 63 }
+    requires few { length before.now + length following.now < 2 ^ 63 }
     requires room { row_room ≤ vec_capacity row.old }
-    ensures sends { Sends (K.held sink.old) (K.held sink.new) 0 (before.now ++ text_of (all_tile_lines (configuration_of image.now)) ++ behind.now) result }
+    ensures sends { Sends (K.held sink.old) (K.held sink.new) 0 (before.now ++ text_of (all_tile_lines (configuration_of image.now)) ++ following.now) result }
     ensures never_falls { K.faults sink.old ≤ K.faults sink.new }
     ensures failed { OnErr result (Rose (K.faults sink.old) (K.faults sink.new)) }
 {
     let start = write_piece(sink, before, 0)?;
     let end = write_tiles(sink, image, row, start)?;
-    write_piece(sink, behind, end)
+    write_piece(sink, following, end)
 }
 
 /// Writes a piece of a text of which `sent` bytes have been written, and returns how many have been written then.

@@ -84,8 +84,8 @@ abbrev pub LeavesWoken : Machine → Cursor → Taken → Type 0
 LeavesWoken machine at taken = (bytes : List ℕ) (comment : Option (List (List ℕ))) → ReadsAt machine at bytes comment → IsWoken machine.layouts bytes comment taken.machine.registers taken.machine.image
 
 -- a fault at a cursor or after it settles the bytes
-abbrev pub FailsBehind : Machine → Cursor → BinFault → Type 0
-FailsBehind machine at fault = (bytes : List ℕ) (comment : Option (List (List ℕ))) → ReadsAt machine at bytes comment → Settles (bin_read_of machine.layouts bytes) fault
+abbrev pub FailsAfter : Machine → Cursor → BinFault → Type 0
+FailsAfter machine at fault = (bytes : List ℕ) (comment : Option (List (List ℕ))) → ReadsAt machine at bytes comment → Settles (bin_read_of machine.layouts bytes) fault
 
 -- ---- stages
 

@@ -1,4 +1,5 @@
-// What a byte adds to the register of the CRC.
+// The tables of the check value. Eight bytes a step enter the CRC, by a table for each, and only the look-ups of the first two wait for the step
+// before. Each entry is proved to be its byte, doubled as often as the definition of the powers says.
 
 /// `REMAINDERS[n][b]` is what byte b adds if n bytes follow it in the same step: the remainder of its bits times
 /// x^(16 + 8n).

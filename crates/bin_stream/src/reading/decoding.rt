@@ -50,7 +50,7 @@ pub fn decode_with(alloc: Global, bytes: &[u8], layouts: Layouts) -> Result<AnyI
         Some(offset) => {
             let comment = comment_of(alloc, &bytes[..offset])?;
             let machine = Machine::new(layouts);
-            let at = Cursor::new(bytes).behind(offset + PREAMBLE.len());
+            let at = Cursor::new(bytes).following(offset + PREAMBLE.len());
             let taken = take_commands(alloc, machine, at)?;
             if taken.is_last {
                 image_at_end(taken.machine, comment, bytes.len())

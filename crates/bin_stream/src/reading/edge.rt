@@ -42,7 +42,7 @@ fn edge_of(last: [u8; 3], piece: &[u8]) -> Edge
 }
 
 /// The index in a piece right after the first preamble, which may begin in the last three bytes before the piece.
-pub(crate) fn start_behind(last: [u8; 3], piece: &[u8]) -> Option<usize>
+pub(crate) fn start_after(last: [u8; 3], piece: &[u8]) -> Option<usize>
     ensures within { IfSome result (λ start. start ≤ length piece.now) }
     ensures found { IfSome result (λ start. preamble_offset (last ++ piece.now) ≡ Some (start - 1)) }
     ensures some { IfSome result (λ start. 0 < start) }
@@ -68,7 +68,7 @@ fn start_within(piece: &[u8]) -> Option<usize>
 }
 
 /// The last three bytes after a piece has come.
-pub(crate) fn last_behind(last: [u8; 3], piece: &[u8]) -> [u8; 3]
+pub(crate) fn last_after(last: [u8; 3], piece: &[u8]) -> [u8; 3]
     ensures { result ≡ drop (length piece.now) (last ++ piece.now) }
 {
     if piece.len() >= KEPT {

@@ -48,7 +48,7 @@ impl<'a> Cursor<'a> {
     }
 
     /// The bytes after the first `count`.
-    pub(crate) fn behind(self, count: usize) -> Cursor<'a>
+    pub(crate) fn following(self, count: usize) -> Cursor<'a>
         requires within { count ≤ length self.bytes.now }
         requires offset { self.offset + length self.bytes.now < 2 ^ 64 }
         ensures offset { result.offset ≡ self.entry.offset + count }
@@ -121,7 +121,7 @@ impl<'a> Cursor<'a> {
         if self.bytes.len() < size {
             return Err(self.cut());
         }
-        self.behind(size).test_end()?;
+        self.following(size).test_end()?;
         Ok(&self.bytes[..size])
     }
 

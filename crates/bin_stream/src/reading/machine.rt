@@ -106,7 +106,7 @@ impl Machine {
             Err(cause) => Err(fault_at(at.offset, cause)),
             Ok(device) => {
                 let size = self.registers.data_size();
-                let body = at.behind(start).body(size)?;
+                let body = at.following(start).body(size)?;
                 self.draw(alloc, device, kind, body)?;
                 let end = start + size + DATA_END.len();
                 self.registers.enter_data(kind, &at.bytes[..end]);

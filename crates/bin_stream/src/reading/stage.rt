@@ -5,7 +5,7 @@ ghost use Rattle.bin_stream.specs.Front.{preamble_offset};
 ghost use Rattle.bin_stream.specs.inside.Stages.{begins_comment, IsPlain, KeepsFront, KeepsPlain, IsReading, ReadsAt, IsCut, IsWoken, length_kept, IsStage, stage_of, fault_in};
 ghost use Rattle.bin_stream.specs.declared.fault.BinFault.{BinFault as Fault};
 
-use super::edge::{KEPT, last_behind, last_three, start_behind};
+use super::edge::{KEPT, last_after, last_three, start_after};
 use super::front::{comment_of, preamble_offset};
 use super::head::Cursor;
 use super::machine::Machine;
@@ -181,7 +181,7 @@ fn begun_stage(
     ensures stands { preamble_offset bytes.now ≡ Some place → IsStage layouts bytes.now (stage_of result) }
 {
     let comment = comment_of(alloc, &bytes[..place])?;
-    let at = Cursor::new(bytes).behind(place + PREAMBLE.len());
+    let at = Cursor::new(bytes).following(place + PREAMBLE.len());
     commands_after(alloc, Machine::new(layouts), comment, at)
 }
 
@@ -198,16 +198,16 @@ fn plain_after(
     ensures room { length_kept (stage_of result) ≤ length piece.now }
     ensures stands { (bytes : List ℕ) → length bytes ≡ fed → KeepsPlain bytes last → IsStage layouts (bytes ++ piece.now) (stage_of result) }
 {
-    match start_behind(last, piece) {
+    match start_after(last, piece) {
         Some(start) => {
             let at = Cursor {
                 offset: fed,
                 bytes: piece,
             };
-            commands_after(alloc, Machine::new(layouts), None, at.behind(start))
+            commands_after(alloc, Machine::new(layouts), None, at.following(start))
         }
         None => Ok(Stage::Plain {
-            last: last_behind(last, piece),
+            last: last_after(last, piece),
         }),
     }
 }
@@ -243,7 +243,7 @@ fn pending_after(
     };
     let taken = take_commands(alloc, machine, at)?;
     let left = left_of_vector(alloc, &taken, joined)?;
-    stage_behind(taken, comment, fed, left)
+    stage_after(taken, comment, fed, left)
 }
 
 /// The stage after the complete commands with which bytes begin.
@@ -260,11 +260,11 @@ fn commands_after(
 {
     let taken = take_commands(alloc, machine, at)?;
     let left = left_of(alloc, &taken, at.bytes)?;
-    stage_behind(taken, comment, at.offset, left)
+    stage_after(taken, comment, at.offset, left)
 }
 
 /// The stage after commands that were taken, if these bytes remain.
-fn stage_behind(
+fn stage_after(
     taken: Taken,
     comment: Option<Comment>,
     offset: usize,

@@ -6,7 +6,7 @@ ghost use Rattle.ice_image.specs.Either.{configuration_of};
 ghost use Rattle.bin_stream.specs.Settled.{Settles};
 ghost use Rattle.bin_stream.specs.Spelling.{bin_read_of};
 ghost use Rattle.bin_stream.specs.inside.Step.{FailsFirst, EndsFirst, EntersFirst};
-ghost use Rattle.bin_stream.specs.inside.Stages.{is_cut, LeavesCut, LeavesWoken, FailsBehind, IsWoken};
+ghost use Rattle.bin_stream.specs.inside.Stages.{is_cut, LeavesCut, LeavesWoken, FailsAfter, IsWoken};
 
 use super::head::{Cursor, fault_at};
 use super::machine::{Entered, Machine};
@@ -30,12 +30,12 @@ pub(crate) fn take_commands(alloc: Global, machine: Machine, at: Cursor) -> Resu
     ensures within { IfOk result (λ taken. taken.end ≤ length at.entry.bytes.now) }
     ensures cut { IfOk result (λ taken. taken.is_last ≡ false → LeavesCut machine at.entry taken) }
     ensures woken { IfOk result (λ taken. taken.is_last ≡ true → LeavesWoken machine at.entry taken) }
-    ensures refused { IfErr result (FailsBehind machine at.entry) }
+    ensures refused { IfErr result (FailsAfter machine at.entry) }
 {
     let mut machine = machine;
     let mut end = 0;
     loop {
-        let entered = enter_whole(&mut machine, alloc, at.behind(end))?;
+        let entered = enter_whole(&mut machine, alloc, at.following(end))?;
         if entered.size == 0 {
             return Ok(Taken {
                 machine,

@@ -52,7 +52,7 @@ const UNNAMED: SampleBit = (0, 3, 9, 0);
 /// The bit by which a latch may hold what comes in at the place of the output.
 const LATCHED: SampleBit = (0, 1, 1, 0);
 
-/// The module of the inverter behind the PLL.
+/// The module of the inverter after the PLL.
 const PLL_TEXT: &str = "module chip (io_0_2_0, pll_0_1_a);
   output io_0_2_0;
   input pll_0_1_a;

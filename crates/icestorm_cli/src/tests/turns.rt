@@ -350,7 +350,7 @@ fn way_of(job: &Job, name: &str) -> Way {
 }
 
 /// The first call of files that comes after the reads of these files, or `None` if a call before it doesn't fail with the name of its file.
-fn call_behind(
+fn call_after(
     alloc: Global,
     job: &Job,
     files: &[Named<'_>],
@@ -380,7 +380,7 @@ fn calls_fail_in_turn(
     whole: &Ended,
 ) -> Result<bool, AllocError> {
     let setup = setup_of(job, files);
-    let Some(failing_call) = call_behind(alloc, job, files, setup)? else {
+    let Some(failing_call) = call_after(alloc, job, files, setup)? else {
         return Ok(false);
     };
     let setup = Setup {

@@ -21,8 +21,8 @@ impl TextReader {
         let mut count = before;
         let mut left = text;
         while !left.is_empty() {
-            let behind = self.accept_any(count + 1, left)?;
-            let plain = self.accept_plain(behind);
+            let following = self.accept_any(count + 1, left)?;
+            let plain = self.accept_plain(following);
             left = plain.rest;
             count += 1 + u64::from(plain.count);
         }

@@ -18,7 +18,7 @@ pub(super) fn take_names(text: &[u8]) -> TakenLines<'_>
     let mut count = 0;
     let mut left = text;
     while count < MOST_LINES {
-        match behind_name(left) {
+        match after_name(left) {
             Some(rest) => left = rest,
             None => return TakenLines { count, rest: left },
         }
@@ -29,7 +29,7 @@ pub(super) fn take_names(text: &[u8]) -> TakenLines<'_>
 
 /// The text after its first line, if that line names a net in its usual form.
 #[inline(always)]
-fn behind_name(text: &[u8]) -> Option<&[u8]>
+fn after_name(text: &[u8]) -> Option<&[u8]>
     ensures { IfSome result (λ rest. (s : ReaderState) → s.expected ≡ AnyStatement → s.in_comment ≡ false → TakesFirst s text.now rest.now s) }
 {
     // The end of any other line is not looked for.

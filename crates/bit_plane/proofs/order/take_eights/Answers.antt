@@ -21,5 +21,5 @@ loop-index-preserved c =
     let eight_long : length eight ≡ 8 = ap length read ∙ length-bytes_of 8 rest in
     let more : 8 * (i + 1) ≡ 8 * i + 8 = omega arith in
     let place : 8 * (8 * i) ≡ 64 * i = omega arith in
-    let behind : rest ≡ drop (8 * (8 * i)) bits = sym (ap (λ n. drop n bits) place ∙ drop-drop (64 * i) c.args.position (packed c.args.words.now)) in
-    ap (take (8 * (i + 1))) c.set_eight.ensures ∙ take-to_placed (8 * i) (8 * (i + 1)) eight c.loop-index.bytes (omega arith) (omega (arith, eight_long)) ∙ ap₂ (λ (front back : List ℕ). front ++ back) c.loop-index.invariant (read ∙ ap (bytes_of 8) behind) ∙ sym (ap (λ n. bytes_of n bits) more ∙ bytes_of-add (8 * i) 8 bits)
+    let following : rest ≡ drop (8 * (8 * i)) bits = sym (ap (λ n. drop n bits) place ∙ drop-drop (64 * i) c.args.position (packed c.args.words.now)) in
+    ap (take (8 * (i + 1))) c.set_eight.ensures ∙ take-to_placed (8 * i) (8 * (i + 1)) eight c.loop-index.bytes (omega arith) (omega (arith, eight_long)) ∙ ap₂ (λ (front back : List ℕ). front ++ back) c.loop-index.invariant (read ∙ ap (bytes_of 8) following) ∙ sym (ap (λ n. bytes_of n bits) more ∙ bytes_of-add (8 * i) 8 bits)

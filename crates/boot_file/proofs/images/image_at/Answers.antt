@@ -8,4 +8,4 @@ overflow_add-result c =
     let read = rw c.in-Err-At.field-0-is at c.in-Err-At.ensures.refused in
     let within = refused-within _ _ ((c.in-Err-At.ensures.decided.refused _).1 read) in
     let size = length-take (c.part_end.result - c.args.address) (drop c.args.address c.args.bytes.now) in
-    omega (arith, within, size, c.from.ensures, c.part_end.type_inv, c.part_end.ensures.behind)
+    omega (arith, within, size, c.from.ensures, c.part_end.type_inv, c.part_end.ensures.after)

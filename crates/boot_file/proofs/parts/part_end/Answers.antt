@@ -20,7 +20,7 @@ loop-entry-preserved c =
       | else-address-other w ↦
           subst (IsEnd bytes address (c.loop-entry.entry + 1)) (sym w.end-is)
           (end-kept bytes address c.loop-entry.entry old other c.entry_address-other.ensures
-          (λ behind. elim w.else-address-other.branch [
+          (λ after. elim w.else-address-other.branch [
             | else-address-other-via-then-address-other+else-other-end w ↦ w.if-other-end.false
             | else-address-other-via-else-address-other w ↦ absurd (omega (arith, w.if-address-other.false))
           ])
@@ -36,8 +36,8 @@ found c =
 pub returns-clause-is : goal.returns-clause-is
 returns-clause-is c = found c
 
-pub returns-clause-behind : goal.returns-clause-behind
-returns-clause-behind c = subst (λ end. c.args.address < end) (sym (found c)) (part_end-bounds c.args.bytes.now c.args.address c.requires.within).0
+pub returns-clause-after : goal.returns-clause-after
+returns-clause-after c = subst (λ end. c.args.address < end) (sym (found c)) (part_end-bounds c.args.bytes.now c.args.address c.requires.within).0
 
 pub returns-clause-inside : goal.returns-clause-inside
 returns-clause-inside c = subst (λ end. end ≤ length c.args.bytes.now) (sym (found c)) (part_end-bounds c.args.bytes.now c.args.address c.requires.within).1

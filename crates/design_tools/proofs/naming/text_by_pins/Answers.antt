@@ -1,4 +1,4 @@
-use Rattle.std.proofs.Common.{◌≡◌, ◌∙◌, ap}
+use Rattle.std.proofs.Common.{◌∙◌, ap}
 use Rattle.pin_file.specs.Faults.{ports_of}
 use Rattle.pin_file.specs.Feeding.{kept_in}
 use Rattle.design_tools.proofs.Written.{accepted_done, pins_stop}

@@ -1,5 +1,5 @@
 use Rattle.std.proofs.Common.{◌≡◌, ◌++◌, length, ap, ap₂, ◌∙◌, arith}
-use Rattle.fabric_model.specs.Registers.{registers_of, flips_among, pin_registers_of}
+use Rattle.fabric_model.specs.Registers.{flips_among, pin_registers_of}
 use Rattle.fabric.proofs.Composed.{flips-counted}
 use Rattle.fabric.proofs.parts.registers.Goals as goal
 

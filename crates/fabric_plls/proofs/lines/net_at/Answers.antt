@@ -1,4 +1,4 @@
-use Rattle.std.proofs.Common.{◌≡◌, ◌≤◌, sym, arith}
+use Rattle.std.proofs.Common.{sym, arith}
 use Rattle.chipdb_reader.specs.Kept.{database_in}
 use Rattle.fabric_plls.proofs.Kept.{none-right, none-below}
 use Rattle.fabric_plls.proofs.lines.net_at.Goals.{else-x-lt256-via-then-x-lt256+else-y-lt256, else-x-lt256-via-else-x-lt256}

@@ -1,4 +1,4 @@
-use Rattle.std.proofs.Common.{◌≡◌, take_all, arith, ap, ◌∙◌}
+use Rattle.std.proofs.Common.{take_all, arith, ap, ◌∙◌}
 use Rattle.std.specs.List.{flat_map}
 use Rattle.ice_image.specs.Either.{configuration_of}
 use Rattle.chipdb_reader.specs.Kept.{database_in}

@@ -1,5 +1,5 @@
-use Rattle.std.proofs.Common.{◌≡◌, ℕ, [], List, get_or, arith, ap, sym, ◌∙◌}
-use Rattle.std.specs.Prelude.{Option, Some}
+use Rattle.std.proofs.Common.{ℕ, [], List, get_or, arith, ap, sym, ◌∙◌}
+use Rattle.std.specs.Prelude.{Some}
 use Rattle.ice_image.specs.Either.{configuration_of}
 use Rattle.chipdb_reader.specs.Kept.{database_in}
 use Rattle.chipdb_reader.specs.declared.items.TileXy8.{TileXy8}

@@ -19,8 +19,8 @@ without_space text x none =
     elim (cases_lt (position_or_len (λ byte. byte == 32) text) (length text)) [
       | inl lt ↦ let chosen : position (λ byte. byte == 32) text ≡ Some (position_or_len (λ byte. byte == 32) text) = rw (lt-ltb (position_or_len (λ byte. byte == 32) text) (length text) lt) refl in absurd cc
       | inr le ↦
-          let behind : after_first (λ byte. byte == 32) text ≡ [] = drop_of_length-le text (omega arith) in
-          ap (λ rest. tile_of x (number_of rest)) behind ∙ without_row x
+          let after : after_first (λ byte. byte == 32) text ≡ [] = drop_of_length-le text (omega arith) in
+          ap (λ rest. tile_of x (number_of rest)) after ∙ without_row x
     ]
 
 pub returns-in-None : goal.returns-in-None

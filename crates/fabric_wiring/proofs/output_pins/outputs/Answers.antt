@@ -1,11 +1,8 @@
-use Rattle.std.proofs.Common.{◌≡◌, List, length, map, ap, ap₂, ◌∙◌}
-use Rattle.std.specs.Prelude.{flat_map, filter}
+use Rattle.std.proofs.Common.{◌≡◌, List, length, ap, ap₂, ◌∙◌}
+use Rattle.std.specs.Prelude.{filter}
 use Rattle.fabric_model.specs.declared.cell.LogicCell.{LogicCell}
-use Rattle.fabric_model.specs.declared.pin.Pin.{Pin}
-use Rattle.fabric_model.specs.Pins.{drives}
 use Rattle.fabric_model.specs.Fabric.{flip_count}
 use Rattle.fabric_model.specs.Outputs.{outputs_of}
-use Rattle.fabric_wiring.specs.Outputs.{outputs_from}
 use Rattle.fabric_wiring.proofs.output_pins.outputs.Goals as goal
 
 pub returns : goal.returns

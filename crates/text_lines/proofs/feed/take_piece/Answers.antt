@@ -2,7 +2,7 @@ use Rattle.std.proofs.Common.{◌≡◌, ◌++◌, List, ℕ, length, sym, subst
 use Rattle.std.proofs.lemmas.Result.{err_from_is_err_and, on_ok_weaker}
 use Rattle.text_lines.specs.Lines.{lines_of}
 use Rattle.text_lines.specs.Feeding.{HasFront}
-use Rattle.text_lines.proofs.Fronts.{front-keeps, front-lines, front-refuses_lines, none_kept, piece-is, behind-end, behind-lines}
+use Rattle.text_lines.proofs.Fronts.{front-keeps, front-lines, front-refuses_lines, none_kept, piece-is, after-end, after-lines}
 use Rattle.text_lines.proofs.feed.take_piece.Goals as goal
 
 pub returns-in_err-take_kept-clause-refused : goal.returns-in_err-take_kept-clause-refused
@@ -12,7 +12,7 @@ returns-in_err-take_kept-clause-refused g c =
     let refusal = c.in_err-take_kept.field-0.0 in
     let p = err_from_is_err_and c.from_residual.result c.from_residual.ensures.1 in
     rw (p.1, p.2) (λ setting text more has.
-    subst (λ (t : List ℕ). refuses setting (lines_of t) refusal) (behind-end text c.args.piece.now cut.end.now cut.lines.now cut.unended.now more c.cut_piece-cut.ensures.parts)
+    subst (λ (t : List ℕ). refuses setting (lines_of t) refusal) (after-end text c.args.piece.now cut.end.now cut.lines.now cut.unended.now more c.cut_piece-cut.ensures.parts)
     (c.in_err-take_kept.ensures.refused setting text (cut.lines.now ++ cut.unended.now ++ more) has))
 
 pub returns-in_err-take_lines-clause-refused : goal.returns-in_err-take_lines-clause-refused
@@ -28,7 +28,7 @@ returns-in_err-take_lines-clause-refused g c =
     let none = none_kept cut.end.now c.deref.result.now kept cut.lines.now before.empty same of.going_on in
     let p = err_from_is_err_and c.from_residual-in_err-take_lines.result c.from_residual-in_err-take_lines.ensures.1 in
     rw (p.1, p.2) (λ setting text more has.
-    subst (λ (t : List ℕ). refuses setting (lines_of t) refusal) (behind-lines text c.args.piece.now cut.end.now cut.lines.now cut.unended.now more of.parts)
+    subst (λ (t : List ℕ). refuses setting (lines_of t) refusal) (after-lines text c.args.piece.now cut.end.now cut.lines.now cut.unended.now more of.parts)
     (front-refuses_lines has_taken refuses setting c.take_kept.new.taker (text ++ cut.end.now) cut.lines.now kept (cut.unended.now ++ more) refusal none of.lines c.in_err-take_lines.ensures.refused (before.taken setting text has)))
 
 pub returns-clause-taken : goal.returns-clause-taken

@@ -3,7 +3,7 @@ use Rattle.std.proofs.lemmas.Bool.{eqb-true, eqb-false}
 use Rattle.std.proofs.lemmas.List.{take_rest}
 use Rattle.text_lines.specs.Words.{is_separator}
 use Rattle.text_lines.proofs.Cuts.{end-within}
-use Rattle.text_lines.proofs.Spaced.{words_of-none, words_of-cut, length-behind, empty}
+use Rattle.text_lines.proofs.Spaced.{words_of-none, words_of-cut, length-after, empty}
 use Rattle.text_lines.proofs.words.split_word.Goals as goal
 
 pub returns-then-is_empty-clause-words : goal.returns-then-is_empty-clause-words
@@ -29,4 +29,4 @@ returns-clause-shorter c =
     let rest : List ℕ = c.from_word-line.result.now in
     let full : length rest ≡ 0 → ⊥ = eqb-false (length rest) 0 (sym c.is_empty.ensures ∙ c.if-is_empty.false) in
     let some : 0 < length rest = omega arith in
-    rw (take_rest rest c.length_of_word-end.result, c.length_of_word-end.ensures) (length-behind c.args.separators c.args.line.now rest c.from_word-line.ensures some)
+    rw (take_rest rest c.length_of_word-end.result, c.length_of_word-end.ensures) (length-after c.args.separators c.args.line.now rest c.from_word-line.ensures some)

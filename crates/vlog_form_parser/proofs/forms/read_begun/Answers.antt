@@ -17,15 +17,15 @@ returns-then-is_fixed-clause-reads c =
     let first = c.args.first in
     let fixed = c.in-Some.fixed in
     let more = flat_map parts_of (drop 1 slots) in
-    let behind = spots_at c.args.bytes.now first.end in
+    let following = spots_at c.args.bytes.now first.end in
     let begins : slots ≡ slot.Fixed fixed ∷ drop 1 slots = c.in-Some.ensures in
     let same : is_same_token (token.fixed fixed) (seen first.token) ≡ true = sym c.is_fixed.ensures ∙ c.if-is_fixed.true in
-    reads-along _ _ c.args.bytes.now (all_found c.read_behind-then-is_fixed.new.values.items) c.read_behind-then-is_fixed.result
+    reads-along _ _ c.args.bytes.now (all_found c.read_after-then-is_fixed.new.values.items) c.read_after-then-is_fixed.result
     (ap (λ list. read_slots end (flat_map parts_of list) given (spots_at c.args.bytes.now c.args.from)) begins
     ∙ ap (λ spots. read_slots end (slot.Fixed fixed ∷ more) given spots) c.requires.first
-    ∙ first-then end fixed more given (spot first.at (seen first.token)) behind same
-    ∙ ap (λ list. read_slots end (flat_map parts_of list) given behind) (sym (rest-whole slots)))
-    c.read_behind-then-is_fixed.ensures.reads
+    ∙ first-then end fixed more given (spot first.at (seen first.token)) following same
+    ∙ ap (λ list. read_slots end (flat_map parts_of list) given following) (sym (rest-whole slots)))
+    c.read_after-then-is_fixed.ensures.reads
 
 pub returns-else-is_fixed-clause-reads : goal.returns-else-is_fixed-clause-reads
 returns-else-is_fixed-clause-reads c =

@@ -9,9 +9,9 @@ use Rattle.vlog_form_parser.proofs.forms.read_form.Goals as goal
 pub returns-in-None-clause-reads : goal.returns-in-None-clause-reads
 unfolding slots_of
 returns-in-None-clause-reads c =
-    reads-along _ _ c.args.bytes.now (all_found c.read_behind.new.values.items) c.read_behind.result
+    reads-along _ _ c.args.bytes.now (all_found c.read_after.new.values.items) c.read_after.result
     (ap (λ slots. read_slots (length c.args.bytes.now) (flat_map parts_of slots) (all_found c.args.given.now) (spots_at c.args.bytes.now c.args.from)) (sym c.slots.ensures))
-    c.read_behind.ensures.reads
+    c.read_after.ensures.reads
 
 pub returns-in-Some-clause-reads : goal.returns-in-Some-clause-reads
 unfolding slots_of

@@ -4,7 +4,7 @@ use Rattle.vlog_tokens.specs.Tokens.{TokenValue as token}
 use Rattle.vlog_forms.specs.declared.slot.Slot.TheVariants as slot
 use Rattle.vlog_forms.specs.Layout.{parts_of}
 use Rattle.vlog_forms.specs.Values.{tokens_at}
-use Rattle.vlog_forms.specs.Reading.{values_of, read_tokens, read_slots, behind_tokens}
+use Rattle.vlog_forms.specs.Reading.{values_of, read_tokens, read_slots, after_tokens}
 use Rattle.vlog_form_parser.specs.Found.{all_found}
 use Rattle.vlog_form_parser.proofs.Steps.{slots-one, single-one, is_single, reads-along, stop-over}
 use Rattle.vlog_form_parser.proofs.slots.read_slot.Goals as goal
@@ -31,7 +31,7 @@ returns-in-Literal-clause-reads c =
     let same : c.in-Literal.number ≡ c.from.result = cc in
     reads-along _ _ c.args.bytes.now found c.stop_at-in-Literal.result
     (ap (λ one. read_slots end (parts_of one) found spots) c.in-Literal.is ∙ slots-one end (slot.Literal c.in-Literal.number) found spots
-    ∙ ap (λ n. behind_tokens found (read_tokens end (token.number n ∷ []) spots)) same)
+    ∙ ap (λ n. after_tokens found (read_tokens end (token.number n ∷ []) spots)) same)
     (stop-over _ c.args.bytes.now found c.expect_token-in-Literal.result c.stop_at-in-Literal.result c.expect_token-in-Literal.ensures.reads c.stop_at-in-Literal.ensures)
 
 pub returns-in-Again-clause-reads : goal.returns-in-Again-clause-reads
@@ -42,8 +42,8 @@ returns-in-Again-clause-reads c =
     let same : c.in-Again.place ≡ c.from-in-Again.result = cc in
     reads-along _ _ c.args.bytes.now found c.stop_at-in-Again.result
     (ap (λ one. read_slots end (parts_of one) found spots) c.in-Again.is ∙ slots-one end (slot.Again c.in-Again.place) found spots
-    ∙ ap (λ items. behind_tokens found (read_tokens end (tokens_at (values_of (all_found items)) c.in-Again.place) spots)) (sym c.as_slice.ensures.value)
-    ∙ ap (λ place. behind_tokens found (read_tokens end (tokens_at (values_of (all_found c.as_slice.result.now)) place) spots)) same)
+    ∙ ap (λ items. after_tokens found (read_tokens end (tokens_at (values_of (all_found items)) c.in-Again.place) spots)) (sym c.as_slice.ensures.value)
+    ∙ ap (λ place. after_tokens found (read_tokens end (tokens_at (values_of (all_found c.as_slice.result.now)) place) spots)) same)
     (stop-over _ c.args.bytes.now found c.read_again.result c.stop_at-in-Again.result c.read_again.ensures.reads c.stop_at-in-Again.ensures)
 
 pub returns-in-Atom-clause-reads : goal.returns-in-Atom-clause-reads

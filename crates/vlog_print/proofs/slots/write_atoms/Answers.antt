@@ -14,7 +14,7 @@ returns-then-count-eq0-clause-text c = λ more.
 
 pub returns-clause-text : goal.returns-clause-text
 returns-clause-text c =
-    IfOk-weaker c.write_more.result _ _ (λ behind rest more.
+    IfOk-weaker c.write_more.result _ _ (λ after rest more.
     atoms-some c.args.out.now.items c.args.count more c.args.values.now c.args.next (omega arith)
     ∙ ap (λ text. with_rest text (slot.Atom ∷ (more_slots (c.args.count - 1) ++ more)) c.args.values.now c.args.next) (sym c.in_ok-push_text.ensures)
     ∙ c.in_ok-next.ensures.text slot.Atom (more_slots (c.args.count - 1) ++ more) refl

@@ -1,4 +1,4 @@
-use Rattle.vlog_tokens.proofs.Cuts.{spots_at-blanks, unblank_behind}
+use Rattle.vlog_tokens.proofs.Cuts.{spots_at-blanks, unblank_after}
 use Rattle.vlog_tokens.proofs.token.skip_blanks.Goals as goal
 
 pub returns-clause-same : goal.returns-clause-same
@@ -7,4 +7,4 @@ returns-clause-same c =
 
 pub returns-clause-stops : goal.returns-clause-stops
 returns-clause-stops c =
-    rw (c.blank_length.ensures.place, c.rest_from.ensures.rest) (unblank_behind c.args.bytes.now c.args.from)
+    rw (c.blank_length.ensures.place, c.rest_from.ensures.rest) (unblank_after c.args.bytes.now c.args.from)

@@ -7,7 +7,7 @@ use Rattle.asc_text.proofs.reading.eights.in_eights.Goals as goal
 
 pub loop-place-init : goal.loop-place-init
 loop-place-init c = record {
-  behind = c.requires.within;
+  following = c.requires.within;
   within = omega arith;
   whole = c.requires.whole;
   ones = odds-none c.args.line.now;
@@ -30,7 +30,7 @@ overflow_add-ones c =
 
 pub loop-place-preserved : goal.loop-place-preserved
 loop-place-preserved c = record {
-  behind = omega (arith, c.loop-place.invariant.whole);
+  following = omega (arith, c.loop-place.invariant.whole);
   within = omega (arith, c.loop-place.invariant.within);
   whole = omega (arith, c.loop-place.invariant.whole);
   ones = odds-eight c.args.line.now c.loop-place.place c.loop-place.ones c.from.result (omega (arith, c.loop-place.invariant.whole)) c.loop-place.invariant.within c.loop-place.invariant.ones (c.from.ensures ∙ c.eight_at-eight.ensures.ones);
@@ -39,10 +39,10 @@ loop-place-preserved c = record {
 
 pub returns-clause-ones : goal.returns-clause-ones
 returns-clause-ones c =
-    let first : c.loop-place.place ≡ c.args.start = omega (arith, c.loop-place.invariant.behind) in
+    let first : c.loop-place.place ≡ c.args.start = omega (arith, c.loop-place.invariant.following) in
     subst (λ (n : ℕ). c.loop-place.ones ≡ word_of (drop n (map is_odd c.args.line.now))) first c.loop-place.invariant.ones
 
 pub returns-clause-bits : goal.returns-clause-bits
 returns-clause-bits c =
-    let first : c.loop-place.place ≡ c.args.start = omega (arith, c.loop-place.invariant.behind) in
+    let first : c.loop-place.place ≡ c.args.start = omega (arith, c.loop-place.invariant.following) in
     subst (λ (n : ℕ). c.loop-place.are_bits ≡ list_all is_bit (drop n c.args.line.now)) first c.loop-place.invariant.bits

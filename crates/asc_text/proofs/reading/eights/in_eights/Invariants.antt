@@ -6,7 +6,7 @@ use Rattle.asc_text.proofs.reading.eights.in_eights.Given as goal
 
 abbrev pub invariant-loop-place : goal.invariant-loop-place
 invariant-loop-place l = record {
-  behind : l.start ≤ l.place;
+  following : l.start ≤ l.place;
   within : l.place ≤ length l.line;
   whole : (l.place - l.start) % 8 ≡ 0;
   ones : l.ones ≡ word_of (drop l.place (map is_odd l.line));

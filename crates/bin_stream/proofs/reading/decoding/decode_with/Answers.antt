@@ -17,7 +17,7 @@ returns-in_err-taken-in-Some-clause-refused c =
     let comment = c.in_ok-comment-in-Some.comment in
     let place = c.in-Some.offset in
     let m = c.new-machine in
-    let at = c.behind-at in
+    let at = c.following-at in
     let reading = reading-begins layouts bytes place comment m.result.registers (sym c.in-Some.ensures.offset) c.in_ok-comment-in-Some.ensures m.ensures.registers at.result.offset at.result.bytes.now (omega (arith, at.ensures.offset, c.new.ensures.offset)) (at.ensures.bytes ∙ ap (drop (place + 4)) c.new.ensures.bytes) in
     let p = err_from_is_err_and c.from_residual-in_err-taken-in-Some.result c.from_residual-in_err-taken-in-Some.ensures.1 in
     rw (p.1, p.2) (begins (λ layouts. Tells (bin_read_of layouts bytes) c.in_err-taken-in-Some.field-0.0) layouts m.result.layouts bytes comment m.result.registers m.result.image at.result.offset at.result.bytes.now m.ensures.layouts m.ensures.image reading
@@ -30,7 +30,7 @@ returns-then-taken-clause-image c =
     let comment = c.in_ok-comment-in-Some.comment in
     let place = c.in-Some.offset in
     let m = c.new-machine in
-    let at = c.behind-at in
+    let at = c.following-at in
     let reading = reading-begins layouts bytes place comment m.result.registers (sym c.in-Some.ensures.offset) c.in_ok-comment-in-Some.ensures m.ensures.registers at.result.offset at.result.bytes.now (omega (arith, at.ensures.offset, c.new.ensures.offset)) (at.ensures.bytes ∙ ap (drop (place + 4)) c.new.ensures.bytes) in
     let machine = c.in_ok-taken-in-Some.taken.machine in
     IfOk-weaker c.image_at_end.result (λ image. (layouts : Layouts) (all : List ℕ) → IsWoken layouts all comment machine.registers machine.image → bin_read_of layouts all ≡ Ok (configuration_of image)) (λ image. bin_read_of layouts bytes ≡ Ok (configuration_of image))
@@ -45,7 +45,7 @@ returns-then-taken-clause-refused c =
     let comment = c.in_ok-comment-in-Some.comment in
     let place = c.in-Some.offset in
     let m = c.new-machine in
-    let at = c.behind-at in
+    let at = c.following-at in
     let reading = reading-begins layouts bytes place comment m.result.registers (sym c.in-Some.ensures.offset) c.in_ok-comment-in-Some.ensures m.ensures.registers at.result.offset at.result.bytes.now (omega (arith, at.ensures.offset, c.new.ensures.offset)) (at.ensures.bytes ∙ ap (drop (place + 4)) c.new.ensures.bytes) in
     let machine = c.in_ok-taken-in-Some.taken.machine in
     MatchResult-weaker c.image_at_end.result {P = λ _. ⊤} {P' = λ _. ⊤} {Q = λ fault. (layouts : Layouts) (all : List ℕ) → IsWoken layouts all comment machine.registers machine.image → Settles (bin_read_of layouts all) fault} {Q' = Tells (bin_read_of layouts bytes)}
@@ -61,7 +61,7 @@ returns-else-taken-clause-refused c =
     let comment = c.in_ok-comment-in-Some.comment in
     let place = c.in-Some.offset in
     let m = c.new-machine in
-    let at = c.behind-at in
+    let at = c.following-at in
     let reading = reading-begins layouts bytes place comment m.result.registers (sym c.in-Some.ensures.offset) c.in_ok-comment-in-Some.ensures m.ensures.registers at.result.offset at.result.bytes.now (omega (arith, at.ensures.offset, c.new.ensures.offset)) (at.ensures.bytes ∙ ap (drop (place + 4)) c.new.ensures.bytes) in
     let taken = c.in_ok-taken-in-Some.taken in
     begins (λ layouts. Tells (bin_read_of layouts bytes) c.fault_at.result) layouts m.result.layouts bytes comment m.result.registers m.result.image at.result.offset at.result.bytes.now m.ensures.layouts m.ensures.image reading

@@ -11,6 +11,6 @@ returns-in_err-taken-clause-stands c = λ all read.
 pub returns-clause-stands : goal.returns-clause-stands
 returns-clause-stands c = λ all read.
     let w = c.in_ok-taken in
-    c.stage_behind.ensures.stands c.args.machine.layouts all
+    c.stage_after.ensures.stands c.args.machine.layouts all
     (λ last. w.ensures.woken last all c.args.comment read)
     (λ goes. cut-pending c.args.machine.layouts all c.args.comment w.taken.machine.registers w.taken.machine.image (c.args.at.offset + w.taken.end) _ c.in_ok-left.left.items (w.ensures.cut goes all c.args.comment read) (c.in_ok-left.ensures.left goes))

@@ -28,6 +28,6 @@ returns-clause-stands c = λ bytes fed_is read.
     let all = bytes ++ piece in
     let w = c.in_ok-taken in
     let reading = pending-grown m.layouts bytes piece c.args.comment m.registers m.image c.args.fed c.args.pending.items read (c.args.fed - c.len.result) c.deref.result.now (omega (arith, c.len.ensures)) (c.deref.ensures.value ∙ c.in_ok-extend_from_slice.ensures.items) in
-    c.stage_behind.ensures.stands m.layouts all
+    c.stage_after.ensures.stands m.layouts all
     (λ last. w.ensures.woken last all c.args.comment reading)
     (λ goes. cut-pending m.layouts all c.args.comment w.taken.machine.registers w.taken.machine.image (c.args.fed - c.len.result + w.taken.end) _ c.in_ok-left.left.items (w.ensures.cut goes all c.args.comment reading) (c.in_ok-left.ensures.left goes ∙ ap (drop w.taken.end) (sym c.deref.ensures.value)))

@@ -7,7 +7,6 @@ use Rattle.fabric_model.specs.declared.pll.PllSource.{PllSource}
 use Rattle.fabric_model.specs.Nets.{io_net}
 use Rattle.fabric_model.specs.PinTypes.{takes_of}
 use Rattle.fabric_model.specs.Plls.{is_pll_place, pll_sources}
-use Rattle.fabric_model.specs.Pins.{is_global_pad}
 use Rattle.fabric_model.proofs.Nets.{is_some_read-same}
 use Rattle.fabric_parts.proofs.PinRecords.{pin-is}
 use Rattle.fabric_parts.proofs.io.pin.pin.Goals as goal

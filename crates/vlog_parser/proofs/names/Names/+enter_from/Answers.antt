@@ -5,7 +5,7 @@ use Rattle.vlog_forms.specs.Reading.{values_of}
 use Rattle.vlog_form_parser.specs.Found.{all_found}
 use Rattle.vlog_parser.specs.Scopes.{Holds, entered}
 use Rattle.vlog_parser.proofs.Entering.{entered_append}
-use Rattle.vlog_parser.proofs.ValuesBehind.{uses-first}
+use Rattle.vlog_parser.proofs.ValuesAfter.{uses-first}
 use Rattle.vlog_parser.proofs.names.Names.+enter_from.Goals as goal
 
 pub returns-in-Ok : goal.returns-in-Ok

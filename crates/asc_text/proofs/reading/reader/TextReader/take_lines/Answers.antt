@@ -16,21 +16,21 @@ accept_any-requires c =
       some = not-empty text (sym c.is_empty.ensures ∙ c.loop-left-test.true);
     }
 
-pub returns-in_err-behind-clause-refused : goal.returns-in_err-behind-clause-refused
-returns-in_err-behind-clause-refused c =
+pub returns-in_err-following-clause-refused : goal.returns-in_err-following-clause-refused
+returns-in_err-following-clause-refused c =
     let text = c.loop-left.left.now in
-    let fault = c.in_err-behind.field-0.0 in
+    let fault = c.in_err-following.field-0.0 in
     let p = err_from_is_err_and c.from_residual.result c.from_residual.ensures.1 in
     rw (p.1, p.2) (HasTaken-stops (state_of c.args.self.now) c.args.before c.args.text.now c.loop-left.count text (state_of c.loop-left.self) fault
-    (not-empty text (sym c.is_empty.ensures ∙ c.loop-left-test.true)) c.loop-left.invariant c.in_err-behind.ensures.refused)
+    (not-empty text (sym c.is_empty.ensures ∙ c.loop-left-test.true)) c.loop-left.invariant c.in_err-following.ensures.refused)
 
 pub accept_plain-plain-requires : goal.accept_plain-plain-requires
 accept_plain-plain-requires c =
     let s = state_of c.args.self.now in
     let new = state_of c.accept_any.new.self in
-    let behind = c.in_ok-behind.behind.now in
-    let taken = HasTaken-first s c.args.before c.args.text.now c.loop-left.count c.loop-left.left.now behind (state_of c.loop-left.self) new c.loop-left.invariant c.in_ok-behind.ensures.taken in
-    record { ready = HasTaken-ready s c.args.before c.args.text.now (c.loop-left.count + 1) behind new c.requires.reached taken }
+    let following = c.in_ok-following.following.now in
+    let taken = HasTaken-first s c.args.before c.args.text.now c.loop-left.count c.loop-left.left.now following (state_of c.loop-left.self) new c.loop-left.invariant c.in_ok-following.ensures.taken in
+    record { ready = HasTaken-ready s c.args.before c.args.text.now (c.loop-left.count + 1) following new c.requires.reached taken }
 
 pub loop-left-preserved : goal.loop-left-preserved
 loop-left-preserved c =
@@ -40,23 +40,23 @@ loop-left-preserved c =
     let plain = c.accept_plain-plain.result in
     let between = state_of c.accept_any.new.self in
     let new = state_of c.accept_plain-plain.new.self in
-    let behind = c.in_ok-behind.behind.now in
-    let first = HasTaken-first s before text c.loop-left.count c.loop-left.left.now behind (state_of c.loop-left.self) between c.loop-left.invariant c.in_ok-behind.ensures.taken in
-    let all = HasTaken-lines s before text (c.loop-left.count + 1) plain.count behind plain.rest.now between new first c.accept_plain-plain.ensures in
+    let following = c.in_ok-following.following.now in
+    let first = HasTaken-first s before text c.loop-left.count c.loop-left.left.now following (state_of c.loop-left.self) between c.loop-left.invariant c.in_ok-following.ensures.taken in
+    let all = HasTaken-lines s before text (c.loop-left.count + 1) plain.count following plain.rest.now between new first c.accept_plain-plain.ensures in
     rw c.from.ensures (subst (λ (n : ℕ). HasTaken s before text n plain.rest.now new) (omega arith) all)
 
 pub loop-left-smaller : goal.loop-left-smaller
 loop-left-smaller c =
     let plain = c.accept_plain-plain.result in
-    let shorter = TakesLines-shorter c.in_ok-behind.behind.now plain.rest.now plain.count (state_of c.accept_any.new.self) (state_of c.accept_plain-plain.new.self) c.accept_plain-plain.ensures in
-    omega (arith, c.in_ok-behind.ensures.taken.shorter, shorter)
+    let shorter = TakesLines-shorter c.in_ok-following.following.now plain.rest.now plain.count (state_of c.accept_any.new.self) (state_of c.accept_plain-plain.new.self) c.accept_plain-plain.ensures in
+    omega (arith, c.in_ok-following.ensures.taken.shorter, shorter)
 
 pub overflow_add-count-in-loop-left-2 : goal.overflow_add-count-in-loop-left-2
 overflow_add-count-in-loop-left-2 c =
     let i = c.loop-left.invariant in
     let plain = c.accept_plain-plain.result in
-    let shorter = TakesLines-shorter c.in_ok-behind.behind.now plain.rest.now plain.count (state_of c.accept_any.new.self) (state_of c.accept_plain-plain.new.self) c.accept_plain-plain.ensures in
-    omega (arith, c.requires.few, i.counted, i.short, c.in_ok-behind.ensures.taken.shorter, shorter, c.from.ensures)
+    let shorter = TakesLines-shorter c.in_ok-following.following.now plain.rest.now plain.count (state_of c.accept_any.new.self) (state_of c.accept_plain-plain.new.self) c.accept_plain-plain.ensures in
+    omega (arith, c.requires.few, i.counted, i.short, c.in_ok-following.ensures.taken.shorter, shorter, c.from.ensures)
 
 pub returns-clause-taken : goal.returns-clause-taken
 returns-clause-taken c =

@@ -7,7 +7,7 @@ use Rattle.asc_text.proofs.writing.canonical.CanonicalText.of.Goals as goal
 
 pub returns-clause-text : goal.returns-clause-text
 returns-clause-text c =
-    around-written (configuration_of c.args.image) c.new-around.result.items c.append_head.new.text.items c.append_extra_bits.new.text.items c.len-behind.result c.new-around.ensures.items c.in_ok-append_head.ensures.text (c.len-behind.ensures ∙ c.append_head.new.text.ok.0) c.in_ok-append_extra_bits.ensures
+    around-written (configuration_of c.args.image) c.new-around.result.items c.append_head.new.text.items c.append_extra_bits.new.text.items c.len-following.result c.new-around.ensures.items c.in_ok-append_head.ensures.text (c.len-following.ensures ∙ c.append_head.new.text.ok.0) c.in_ok-append_extra_bits.ensures
 
 pub returns-clause-means : goal.returns-clause-means
 returns-clause-means c =

@@ -1,4 +1,4 @@
-use Rattle.std.proofs.Common.{ℕ, ◌-◌, ◌≤◌, length, take}
+use Rattle.std.proofs.Common.{◌-◌, ◌≤◌, length, take}
 use Rattle.layout_file.specs.Layouts.{standard_layouts}
 use Rattle.bin_stream.specs.Decoding.{StandsFor}
 use Rattle.format_tests.proofs.tests.streams.pieces.in_pieces.Given as goal

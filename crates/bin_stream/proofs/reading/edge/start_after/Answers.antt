@@ -1,6 +1,6 @@
 use Rattle.std.proofs.Common.{◌≡◌, Some, length, sym, ap, ◌∙◌, take, rules, arith}
-use Rattle.bin_stream.proofs.FrontGrown.{found-edge, start-behind_edge, none-behind_edge}
-use Rattle.bin_stream.proofs.reading.edge.start_behind.Goals as goal
+use Rattle.bin_stream.proofs.FrontGrown.{found-edge, start-after_edge, none-after_edge}
+use Rattle.bin_stream.proofs.reading.edge.start_after.Goals as goal
 
 pub returns-in-Some-clause-found : goal.returns-in-Some-clause-found
 returns-in-Some-clause-found c =
@@ -12,10 +12,10 @@ pub returns-in-None-clause-found : goal.returns-in-None-clause-found
 returns-in-None-clause-found c =
     let three : length c.args.last ≡ 3 = search rules in
     let edge = take c.edge_of-edge.result.count c.edge_of-edge.result.bytes in
-    start-behind_edge c.args.last c.args.piece.now edge three c.edge_of-edge.ensures.bytes c.start_within.result (sym c.in-None.ensures.offset) c.start_within.ensures.within c.start_within.ensures.found
+    start-after_edge c.args.last c.args.piece.now edge three c.edge_of-edge.ensures.bytes c.start_within.result (sym c.in-None.ensures.offset) c.start_within.ensures.within c.start_within.ensures.found
 
 pub returns-in-None-clause-none : goal.returns-in-None-clause-none
 returns-in-None-clause-none c = λ is.
     let three : length c.args.last ≡ 3 = search rules in
     let edge = take c.edge_of-edge.result.count c.edge_of-edge.result.bytes in
-    none-behind_edge c.args.last c.args.piece.now edge three c.edge_of-edge.ensures.bytes (sym c.in-None.ensures.offset) (c.start_within.ensures.none is)
+    none-after_edge c.args.last c.args.piece.now edge three c.edge_of-edge.ensures.bytes (sym c.in-None.ensures.offset) (c.start_within.ensures.none is)

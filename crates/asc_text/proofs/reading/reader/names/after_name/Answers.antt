@@ -1,5 +1,5 @@
 use Rattle.asc_text.proofs.NameLines.{takes-name}
-use Rattle.asc_text.proofs.reading.reader.names.behind_name.Goals as goal
+use Rattle.asc_text.proofs.reading.reader.names.after_name.Goals as goal
 
 pub returns-in-Some-plain_symbol_in : goal.returns-in-Some-plain_symbol_in
 returns-in-Some-plain_symbol_in c s expected outside =

@@ -1,7 +1,7 @@
 use Rattle.std.proofs.Common.{◌≡◌, sym, ◌∙◌, arith, refl, true≢false}
 use Rattle.chipdb_lines.proofs.Choices.{choice-line}
 use Rattle.chipdb_lines.proofs.Missed.{choice-net, one-number}
-use Rattle.chipdb_lines.proofs.links.behind_values.Goals as goal
+use Rattle.chipdb_lines.proofs.links.after_values.Goals as goal
 
 pub returns-in_err-src : goal.returns-in_err-src
 returns-in_err-src c =

@@ -4,7 +4,7 @@ use Rattle.vlog_forms.specs.Layout.{parts_of}
 use Rattle.vlog_forms.specs.Reading.{read_slots}
 use Rattle.vlog_form_parser.specs.Found.{all_found}
 use Rattle.vlog_form_parser.proofs.Steps.{reads-along}
-use Rattle.vlog_form_parser.proofs.forms.read_behind.Goals as goal
+use Rattle.vlog_form_parser.proofs.forms.read_after.Goals as goal
 
 pub returns-in-Ok-clause-reads : goal.returns-in-Ok-clause-reads
 returns-in-Ok-clause-reads c =

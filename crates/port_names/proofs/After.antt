@@ -32,9 +32,9 @@ module _ (tail : List ℕ) (parted : is_joined tail ≡ false) (bytes : list_all
       no-word reserved_words reserved-joined (name ++ tail)
       (list_all-append (λ byte. not (byte == 95)) name tail ∙ (ap (λ bit. is_joined name && bit) parted ∙ and_right (is_joined name) false refl))
 
-  word-behind : (name : List ℕ) → is_word name ≡ true → is_word (name ++ tail) ≡ true
-  word-behind [] word = absurd cc
-  word-behind (byte ∷ name) word =
+  word-after : (name : List ℕ) → is_word name ≡ true → is_word (name ++ tail) ≡ true
+  word-after [] word = absurd cc
+  word-after (byte ∷ name) word =
       let parts = and_parts _ (list_all is_name_byte name) word in
       and_from _ _ parts.0 (list_all-append is_name_byte name tail ∙ and_from (list_all is_name_byte name) (list_all is_name_byte tail) parts.1 bytes)
 
@@ -42,10 +42,10 @@ module _ (tail : List ℕ) (parted : is_joined tail ≡ false) (bytes : list_all
   unfolding is_name
   tail_named name named =
       let parts = and_parts (is_word name) (not (is_reserved name)) named in
-      and_from (is_word (name ++ tail)) (not (is_reserved (name ++ tail))) (word-behind name parts.0) (ap not (not-reserved name))
+      and_from (is_word (name ++ tail)) (not (is_reserved (name ++ tail))) (word-after name parts.0) (ap not (not-reserved name))
 
-pub behind_named : (name : List ℕ) → IsName name → IsName (enable_name name)
-behind_named = tail_named (codes "_en") refl refl
+pub after_named : (name : List ℕ) → IsName name → IsName (enable_name name)
+after_named = tail_named (codes "_en") refl refl
 
 pub inside_named : (name : List ℕ) → IsName name → IsName (input_name name)
 inside_named = tail_named (codes "_in") refl refl

@@ -1,5 +1,5 @@
 use Rattle.std.proofs.lemmas.Result.{err_from_is_err_and}
-use Rattle.bin_stream.proofs.reading.stage.stage_behind.Goals as goal
+use Rattle.bin_stream.proofs.reading.stage.stage_after.Goals as goal
 
 pub returns-in_err-image-clause-stands : goal.returns-in_err-image-clause-stands
 returns-in_err-image-clause-stands c = λ layouts all woken cut.

@@ -165,6 +165,11 @@ def exchanged_inputs(one, other):
     return change
 
 
+def with_pll(module, places):
+    """Gives a module the output of a PLL, which is an input port."""
+    return module.replace(");\n", ", pll_6_0_a);\n  input pll_6_0_a;\n", 1)
+
+
 def set_for_reset(netlist):
     """Makes a flip-flop that is reset one that is set."""
     cell = cell_of_type(netlist, "globals", "SB_DFFNESR")
@@ -267,6 +272,7 @@ MODULES = [
           ("output switched", "switch that turns it off")),
     Wrong("a bus that reads what comes from outside", "kinds", other_text(r"hcaca(?= >> .* io_%(b1)s_in})", "haaaa"), ("output seen[1]", "value")),
     Wrong("what comes to two buses", "buses", exchanged_inputs("sda", "scl"), ("output line[1]", "value")),
+    Wrong("a PLL", "edges", with_pll, ("PLL", "pll_6_0_a")),
 ]
 
 

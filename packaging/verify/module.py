@@ -103,6 +103,8 @@ class Reader:
         return False
 
     def take_port(self, direction, name):
+        if name.startswith("pll_"):
+            raise Stop(REFUSED, "the file uses a PLL, whose output is the input port %s: PLLs aren't compared" % name)
         if direction == "input":
             self.circuit.inputs[name] = name
         else:

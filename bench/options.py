@@ -1,5 +1,5 @@
 #!/usr/bin/env python3
-"""Measures what the options of icebox_vlog cost: processor time without them, with --used-inputs, with --all-pins and with both.
+"""Measures what the options of icebox_vlog cost: processor time without them, with each of them, and with all.
 
 Usage: bench/options.py [ROUNDS [PROGRAM]]     9 rounds if it is missing; PROGRAM is another one, which is run without options beside this one
 
@@ -22,7 +22,8 @@ from modules.busy_8k import busy_text
 from modules.measure import processor_time
 from modules.programs import CHIPDB, need, program
 
-CHOICES = [], ["--used-inputs"], ["--all-pins"], ["--used-inputs", "--all-pins"]
+OPTIONS = ["--used-inputs", "--all-pins", "--register-clocks"]
+CHOICES = [], *([option] for option in OPTIONS), OPTIONS
 EXAMPLES = "blink_1k", "timer_1k", "player_1k", "bus_1k", "lights_8k"
 
 
@@ -56,7 +57,7 @@ def line(name, times):
     if first is None:
         return "%-20s refused" % name
     shown = ["-" if own is None else "%.3f" % (min(own) / min(first)) for own in times[1:]]
-    return "%-20s %9.1f %10s" % (name, 1e3 * median(first), "(%.1f)" % (1e3 * min(first))) + "".join("%14s" % own for own in shown)
+    return "%-20s %9.1f %10s" % (name, 1e3 * median(first), "(%.1f)" % (1e3 * min(first))) + "".join("%18s" % own for own in shown)
 
 
 def main(words):
@@ -66,7 +67,7 @@ def main(words):
     own = program()
     programs = [(own, choice) for choice in CHOICES] + [(pathlib.Path(word).resolve(), []) for word in words[1:]]
     rounds = int(words[0]) if words else 9
-    print("%-20s %9s %10s" % ("", "ms", "(least)") + "".join("%14s" % word for word in ["--used-inputs", "--all-pins", "both"] + ["PROGRAM"] * len(words[1:])))
+    print("%-20s %9s %10s" % ("", "ms", "(least)") + "".join("%18s" % word for word in OPTIONS + ["all"] + ["PROGRAM"] * len(words[1:])))
     with tempfile.TemporaryDirectory() as folder:
         try:
             for name, text, database in texts(pathlib.Path(folder)):

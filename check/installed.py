@@ -134,7 +134,7 @@ def try_arguments(tries):
     """What the scripts make of their arguments."""
     prefix = tries.install("a prefix", tries.teller("teller"))
     layout = layout_of(prefix)
-    vlog, stat = layout + ["--all-pins", "--used-inputs"], stat_of(prefix)
+    vlog, stat = layout + ["--register-clocks", "--all-pins", "--used-inputs"], stat_of(prefix)
     small, large = str(tries.databases / "chipdb-1k.txt"), str(tries.databases / "chipdb-8k.txt")
 
     def gets(words, wanted, **more):
@@ -174,8 +174,9 @@ def try_arguments(tries):
     gets(["icebox_vlog", "b.asc", "-ppins.pcf"], vlog + ["-d", "ct256", large, "b.asc", "-ppins.pcf"])
     gets(["icebox_vlog", "-d", "qn84", "-p", "pins.pcf", "a.asc"], vlog + [small, "-d", "qn84", "-p", "pins.pcf", "a.asc"])
     gets(["icebox_vlog", "-n", "-p", "a.asc"], vlog + [small, "-n", "-p", "a.asc"])
-    gets(["icebox_vlog", "--used-inputs", "a.asc"], layout + ["--all-pins", small, "--used-inputs", "a.asc"])
-    gets(["icebox_vlog", "--all-pins", "a.asc"], layout + ["--used-inputs", small, "--all-pins", "a.asc"])
+    gets(["icebox_vlog", "--used-inputs", "a.asc"], layout + ["--register-clocks", "--all-pins", small, "--used-inputs", "a.asc"])
+    gets(["icebox_vlog", "--all-pins", "a.asc"], layout + ["--register-clocks", "--used-inputs", small, "--all-pins", "a.asc"])
+    gets(["icebox_vlog", "--register-clocks", "a.asc"], layout + ["--all-pins", "--used-inputs", small, "--register-clocks", "a.asc"])
     gets(["icebox_stat", "--all-pins", "a.asc"], layout + [small, "--all-pins", "a.asc"])
 
     # pipes: none is named, or one that can't be read twice

@@ -15,7 +15,7 @@ import sys
 import tempfile
 
 from modules.programs import TOP, need, program
-from modules.small_chip import DATABASE, TILES, text_of
+from modules.small_chip import DATABASE, DIVIDER, RING, TILES, TWO_CELLS, text_of
 from modules.tries import Tally
 
 FREED = "All heap blocks were freed -- no leaks are possible"
@@ -37,13 +37,18 @@ CALLS = (
     (["icebox_explain", "names", "text"], None, 0),
     (["icebox_explain", "text", "text"], None, 1),
     (["icebox_stat", "--all-pins", "--layout", "layout", "database", "stream"], None, 0),
-    (["icebox_vlog", "--used-inputs", "--all-pins", "names", "text"], None, 0),
+    (["icebox_vlog", "--used-inputs", "--all-pins", "--register-clocks", "names", "text"], None, 0),
     (["icebox_vlog", "-p", "pins", "-d", "tq144", "database", "text"], None, 0),
     (["icebox_vlog", "database", "events"], None, 1),
+    (["icebox_vlog", "--register-clocks", "cells", "divider"], None, 0),
+    (["icebox_vlog", "--register-clocks", "cells", "ring"], None, 1),
+    (["icebox_vlog", "cells", "divider"], None, 1),
     (["vlogrun", "-s", "module", "events"], None, 0),
     (["vlogrun", "--vcd", "module", "events"], None, 0),
     (["vlogrun", "module", "text"], None, 1),
     (["vlogsweep", "module", "events", "events"], None, 0),
+    (["vlogrun", "--vcd", "divided", "events"], None, 0),
+    (["vlogsweep", "divided", "events", "events"], None, 0),
     (["icesplit"], None, 2),
     (["icepack", "missing"], None, 3),
 )
@@ -57,6 +62,9 @@ def make_files(folder):
         "database": DATABASE + ".pins tq144\nIN 0 1 0\nOUT 0 2 0\n",
         "names": DATABASE.replace(" 6\n", " %d\n" % NAMES, 1) + names,
         "text": text_of(TILES),
+        "cells": TWO_CELLS,
+        "divider": text_of(DIVIDER),
+        "ring": text_of(RING),
         "pins": "set_io in_pin IN\n",
         "events": "io_0_1_0 1\nio_0_1_0 0\n",
         "ram_text": (TOP / "examples/player_1k/player.asc").read_text(),
@@ -66,7 +74,8 @@ def make_files(folder):
         files[name] = "".join("%016x\n" % words.getrandbits(64) for _ in range(256))
     for name, content in files.items():
         (folder / name).write_text(content)
-    for name, words in (("stream", ["icepack", "text"]), ("boot", ["icemulti", "stream", "stream"]), ("module", ["icebox_vlog", "database", "text"])):
+    for name, words in (("stream", ["icepack", "text"]), ("boot", ["icemulti", "stream", "stream"]), ("module", ["icebox_vlog", "database", "text"]),
+                        ("divided", ["icebox_vlog", "--register-clocks", "cells", "divider"])):
         made = subprocess.run([program(), *words], cwd=folder, check=True, stdout=subprocess.PIPE)
         (folder / name).write_bytes(made.stdout)
 

@@ -3,10 +3,10 @@
 
 Usage: check/memory.py [TOOL...]     all tools, and icestorm for the program's own help and version, if none is named
 
-Each tool runs over files of the examples with a chip database of a 1k, over a small database and its image, over the databases and images of
-a carry chain and of a RAM in transcripts/files, over a database whose names fill more than one chunk of 65,536 bytes, and writes its help. A
-first run counts the requests for memory. Then each of them is refused in a run of its own; of a job with more than MOST_IN_TURN requests the
-first ones and every 500th after them. Of each such run is asked:
+Each tool runs over files of the examples with a chip database of a 1k, over small databases and their images, one of which has a register as a
+clock, over the databases and images of a carry chain and of a RAM in transcripts/files, over a database whose names fill more than one chunk of
+65,536 bytes, and writes its help. A first run counts the requests for memory. Then each of them is refused in a run of its own; of a job with
+more than MOST_IN_TURN requests the first ones and every 500th after them. Of each such run is asked:
 
 - the request was refused, and the program ended with exit status 5 and the line 'TOOL: out of memory';
 - nothing went to standard output, and the target is as it was.
@@ -30,7 +30,7 @@ import tempfile
 
 from modules.programs import TOP, need
 from modules.refusing import Refusing, need_refusing
-from modules.small_chip import DATABASE, TILES, text_of
+from modules.small_chip import DATABASE, DIVIDER, TILES, TWO_CELLS, text_of
 from modules.tries import BEFORE, make_files, own_words, places, speaker
 
 MOST_IN_TURN, FIRST, STEP = 5000, 200, 500
@@ -106,21 +106,21 @@ def many_names():
 
 
 def samples():
-    """Small databases and the texts of their images, each pair with a name."""
+    """Small databases and the texts of their images, each pair with a name, and with the options of icebox_vlog after it."""
     return (("small", DATABASE, text_of(TILES)), ("names", many_names(), text_of(TILES)), ("carry",) + of_page("carry"),
-            ("ram",) + of_page("memory"))
+            ("ram",) + of_page("memory"), ("divider", TWO_CELLS, text_of(DIVIDER), "--register-clocks"))
 
 
-def of_sample(tries, name, database, image):
+def of_sample(tries, name, database, image, *options):
     """The jobs over a database and an image: the tools that take both, and runs of the module."""
     paths = [tries.path(name + end) for end in (".txt", ".asc", ".v", ".events")]
     for path, text in zip(paths, (database, image)):
         pathlib.Path(path).write_text(text)
     chip, text, module, events = paths
-    tries.run(["icebox_vlog", chip, text])
+    tries.run(["icebox_vlog", *options, chip, text])
     pathlib.Path(module).write_bytes(tries.output())
     pathlib.Path(events).write_bytes(b"io_0_1_0 1\nio_0_1_0 0\n")
-    over_both = [[tool, chip, text] for tool in ("icebox_explain", "icebox_stat", "icebox_vlog")]
+    over_both = [[tool, chip, text] for tool in ("icebox_explain", "icebox_stat")] + [["icebox_vlog", *options, chip, text]]
     return [(words, os.devnull) for words in over_both + [["vlogrun", module, events], ["vlogsweep", module, events, events]]]
 
 
@@ -128,8 +128,8 @@ def jobs(tries):
     """The words and the standard input of each job, each once."""
     files = make_files(tries)
     found = [tries.words_of(use, source, name) for use, source, name in places(files)]
-    for name, database, image in samples():
-        found += of_sample(tries, name, database, image)
+    for sample in samples():
+        found += of_sample(tries, *sample)
     found += [(["icepack", tries.path("small.asc"), str(tries.target)], os.devnull), (SELFRUN, os.devnull)]
     found += [(words, os.devnull) for words in own_words()]
     return [job for place, job in enumerate(found) if job not in found[:place]]

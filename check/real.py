@@ -10,7 +10,8 @@ DESIGNS is a folder with these files for each design, the device's digits and a 
     NAME.v.gz               what icebox_vlog writes of it, or NAME.refused, the line with which it refuses it
     NAME.events, NAME.run   events for that module, and what vlogrun -s writes of them
 
-vlogsweep runs each module over all the events and over the first half of them. What it has to write are the outputs in NAME.run.
+vlogsweep runs each module over all the events and over the first half of them. What it has to write are the outputs in NAME.run. With
+--register-clocks icebox_vlog writes the same, and refuses a design in the same way, unless for a clock.
 
 The chip databases are those of Debian's package fpga-icestorm-chipdb. The last line is 'N passed, M failed'. Status 0: all passed; 1:
 something failed; 2: the arguments aren't taken; 127: there is no program or no database.
@@ -60,11 +61,16 @@ def compare(designs, name, database, work, tally):
     count(tally, name, "icebox_explain", ended, ended.writes(expected))
     ended = Ended(["icebox_vlog", database, text])
     refused = designs / (name + ".refused")
+    with_option = Ended(["icebox_vlog", "--register-clocks", database, text])
     if refused.exists():
-        count(tally, name, "icebox_vlog", ended, ended.refuses(refused.read_bytes()))
+        line = refused.read_bytes()
+        count(tally, name, "icebox_vlog", ended, ended.refuses(line))
+        if b": Clock net " not in line:
+            count(tally, name, "icebox_vlog --register-clocks", with_option, with_option.refuses(line))
         return
     expected = gzip.decompress((designs / (name + ".v.gz")).read_bytes())
     count(tally, name, "icebox_vlog", ended, ended.writes(expected))
+    count(tally, name, "icebox_vlog --register-clocks", with_option, with_option.writes(expected))
     module = work / (name + ".v")
     module.write_bytes(ended.output)
     events, lines = designs / (name + ".events"), (designs / (name + ".run")).read_bytes()

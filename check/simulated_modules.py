@@ -3,9 +3,10 @@
 
 Usage: check/simulated_modules.py [--short] [COUNT]
 
-COUNT small modules (40 if it is missing) of modules/random_modules.py, each of its own seed, over 300 events each. Where yosys is there, each
-of them is also read by yosys and written again, and Icarus Verilog runs what yosys wrote. Then one large module (8,000 LUTs, 4,000 registers
-and 32 memories) over 10,000 events. With --short COUNT is 4 if it is missing, and there is no large module.
+COUNT small modules (40 if it is missing) of modules/random_modules.py, each of its own seed, over 300 events each. In three of four of them
+registers are clocks of others, in up to three levels. Where yosys is there, each of them is also read by yosys and written again, and Icarus
+Verilog runs what yosys wrote. Then two large modules (8,000 LUTs, 4,000 registers and 32 memories), without such clocks and with them, over
+10,000 events. With --short COUNT is 4 if it is missing, and there is no large module.
 
 The last line is 'N passed, M failed'. Status 0: all passed; 1: something failed; 2: the arguments aren't taken; 127: a program is missing.
 """
@@ -18,6 +19,8 @@ import tempfile
 from modules.programs import is_there, need, program
 from modules.random_modules import LARGE, SMALL, Module
 from modules.tries import Tally
+
+LEVELS = 4
 
 
 def output_of(words, work):
@@ -57,9 +60,9 @@ def fault_of(module, events, work, is_small):
     return ""
 
 
-def compare(tally, what, seed, size):
+def compare(tally, what, seed, size, levels):
     """Compares the runs of a module."""
-    module = Module(seed, size)
+    module = Module(seed, size, levels)
     with tempfile.TemporaryDirectory() as work:
         try:
             fault = fault_of(module, module.events(size.events), pathlib.Path(work), size is SMALL)
@@ -77,9 +80,10 @@ def main(words):
     need("iverilog", "vvp")
     tally = Tally()
     for seed in range(int(words[0]) if words else 4 if is_short else 40):
-        compare(tally, "the small module of seed %d" % seed, seed, SMALL)
+        compare(tally, "the small module of seed %d" % seed, seed, SMALL, seed % LEVELS)
     if not is_short:
-        compare(tally, "the large module", 0, LARGE)
+        for levels in 0, LEVELS - 1:
+            compare(tally, "the large module of %d levels" % levels, levels, LARGE, levels)
     return tally.end()
 
 

@@ -3,8 +3,9 @@
 
 Usage: check/simulated_waves.py [--short] [COUNT]
 
-COUNT small modules (12 if it is missing) of modules/random_modules.py, each of its own seed, over 300 events each. Then one large module (8,000
-LUTs, 4,000 registers and 32 memories) over 10,000 events. With --short COUNT is 4 if it is missing, and there is no large module.
+COUNT small modules (12 if it is missing) of modules/random_modules.py, each of its own seed, over 300 events each. In three of four of them
+registers are clocks of others, in up to three levels. Then two large modules (8,000 LUTs, 4,000 registers and 32 memories), without such clocks
+and with them, over 10,000 events. With --short COUNT is 4 if it is missing, and there is no large module.
 
 Both dumps have to declare the same variables, with the same kinds and widths, and to give the same variables the same values at the same
 times. Icarus Verilog may write a value again that didn't change, where it changed there and back at one time; such a line doesn't count.
@@ -20,6 +21,8 @@ import tempfile
 from modules.programs import missing, need, program
 from modules.random_modules import DUMP_START, LARGE, SMALL, Module
 from modules.tries import Tally
+
+LEVELS = 4
 
 
 def declared(words):
@@ -86,9 +89,9 @@ def fault_of(module, events, work):
     return ""
 
 
-def compare(tally, what, seed, size):
+def compare(tally, what, seed, size, levels):
     """Compares the waves of a module."""
-    module = Module(seed, size)
+    module = Module(seed, size, levels)
     with tempfile.TemporaryDirectory() as work:
         try:
             fault = fault_of(module, module.events(size.events), pathlib.Path(work))
@@ -106,9 +109,10 @@ def main(words):
     need("iverilog", "vvp")
     tally = Tally()
     for seed in range(int(words[0]) if words else 4 if is_short else 12):
-        compare(tally, "the waves of the small module of seed %d" % seed, seed, SMALL)
+        compare(tally, "the waves of the small module of seed %d" % seed, seed, SMALL, seed % LEVELS)
     if not is_short:
-        compare(tally, "the waves of the large module", 0, LARGE)
+        for levels in 0, LEVELS - 1:
+            compare(tally, "the waves of the large module of %d levels" % levels, levels, LARGE, levels)
     return tally.end()
 
 

@@ -37,10 +37,11 @@ from wrong import MODULES, NETLISTS, TEXTS  # noqa: E402
 NEEDED = "yosys", "yosys-abc", "nextpnr-ice40", "chipdb"
 DEVICES, SEEDS = ("1k", "8k"), (1, 2, 3)
 SHORT_DESIGNS = ("crc", "1k", 1), ("servo", "1k", 1), ("rams", "1k", 1), ("pins", "1k", 1), ("kinds", "1k", 1), ("buses", "1k", 1), \
-    ("globals", "1k", 1), ("passes", "1k", 1), ("clocks", "1k", 1), ("machine", "8k", 1)
+    ("globals", "1k", 1), ("passes", "1k", 1), ("clocks", "1k", 1), ("dividers", "1k", 1), ("machine", "8k", 1)
 SHORT_WRONG = ("a bit of a LUT", "a table of zeros", "a link to a LUT", "an edge", "a carry's set bit", "an enable", "a RAM's contents",
                "a RAM's write mode", "a pin that can't be switched off", "a clock", "a start at 1", "a port more", "data that aren't inverted",
-               "an enable of the other edge", "what comes to two buses")
+               "an enable of the other edge", "what comes to two buses", "the edge of a divided clock",
+               "the other edge of a register")
 WORKERS = min(4, os.cpu_count() or 1)
 
 

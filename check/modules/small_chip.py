@@ -1,4 +1,5 @@
-"""A small chip: a chip database of a 1k that has two pins and a cell, and the image of an inverter between the pins."""
+"""A small chip: a chip database of a 1k that has two pins and a cell, and the image of an inverter between the pins. With one more cell there are
+the image of a divider, whose first cell clocks the second, and that of a ring, whose cells clock each other."""
 
 DATABASE = """.device 1k 14 18 6
 .logic_tile_bits 54 16
@@ -22,6 +23,31 @@ LC_0 %s
 # an input pin, a LUT that inverts it, and an output pin: the bits that are set in each tile
 TILES = ((".io_tile 0 1", 18, ((0, 0),)), (".io_tile 0 2", 18, ((0, 0), (3, 0), (4, 0), (6, 0))),
          (".logic_tile 1 1", 54, ((0, 37), (0, 39), (0, 40), (0, 42), (1, 36), (1, 38), (1, 41), (1, 43), (2, 0))))
+
+TWO_CELLS = DATABASE.replace(" 6\n", " 8\n", 1) + """.net 4
+1 1 lutff_global/clk
+.net 5
+2 1 lutff_0/in_0
+2 1 lutff_0/out
+.net 6
+2 1 lutff_global/clk
+.buffer 1 1 1 B3[0]
+1 2
+.buffer 1 1 4 B4[0] B5[0]
+01 0
+10 5
+.buffer 2 1 6 B4[0]
+1 2
+.buffer 0 2 3 B7[0]
+1 5
+"""
+
+# a flip-flop that takes its own inverse
+TURNED = ((0, 37), (0, 39), (0, 40), (0, 42), (0, 45), (1, 36), (1, 38), (1, 41), (1, 43))
+PINS = (".io_tile 0 1", 18, ((0, 0),)), (".io_tile 0 2", 18, ((0, 0), (3, 0), (4, 0), (7, 0)))
+SECOND = (".logic_tile 2 1", 54, TURNED + ((4, 0),))
+DIVIDER = PINS + ((".logic_tile 1 1", 54, TURNED + ((3, 0), (5, 0))), SECOND)
+RING = PINS + ((".logic_tile 1 1", 54, TURNED + ((3, 0), (4, 0))), SECOND)
 
 
 def text_of(tiles):

@@ -195,7 +195,7 @@ def places(files):
         (["icebox_stat", "--layout", "FILE", database, text], None, layout),
         (["icebox_vlog", "FILE", text], None, database),
         (["icebox_vlog", "-n", "name", database, "FILE"], None, text),
-        (["icebox_vlog", "--all-pins", database, "FILE"], None, stream),
+        (["icebox_vlog", "--all-pins", "--register-clocks", database, "FILE"], None, stream),
         (["icebox_vlog", "--layout", "FILE", database, text], None, layout),
         (["icebox_vlog", "-p", "FILE", "-d", "tq144", database, text], None, pins),
         (["icebox_vlog", "-p", pins, "-d", "tq144", "FILE", text], None, database),

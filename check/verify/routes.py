@@ -8,7 +8,7 @@ from modules.programs import CHIPDB
 from modules.routing import PACKAGES, Refused, chosen_pins, output_of, package_pins, placed, write_pins
 
 HERE = pathlib.Path(__file__).resolve().parent
-EQUAL = "crc", "servo", "memories", "rams", "pins", "kinds", "buses", "globals", "passes", "clocks", "machine"
+EQUAL = "crc", "servo", "memories", "rams", "pins", "kinds", "buses", "globals", "passes", "clocks", "dividers", "machine"
 APART = "pins", "kinds"  # the designs of whose pins no two are in one tile
 # a port that needs a pin which drives a global net, one that needs the first pin of a pair, and one that no pin file names
 GLOBAL_PORT, PAIR_PORT, FREE_PORT = "pad", "pair", "unused"

@@ -235,6 +235,8 @@ TEXTS = [
     Wrong("a switch by a net", "kinds", pin_type("switched", 4), ("register outena_q of the pin cell by_register", "no partner")),
     Wrong("a bus that is always driven", "kinds", pin_type("b3", 5, 4), ("output b3", "switch that turns it off")),
     Wrong("a bus without its register", "kinds", pin_type("b2", 0), ("register din_q_0 of the pin cell bus_2", "no partner")),
+    Wrong("the edge of a divided clock", "dividers", tile_function("late[0]", "NegClk"), ("register late[0]", "edge of the clock")),
+    Wrong("a divided clock that is off", "dividers", link_off("late[2]", "clk"), ("register late[2]", "clock")),
 ]
 NETLISTS = [
     Wrong("another table", "crc", netlist_cell("crc", ["SB_LUT4"], LUT_INIT="0" * 16), ("differs: ",), True),
@@ -256,6 +258,8 @@ NETLISTS = [
     Wrong("the two inputs of a pin", "kinds", exchanged("kinds", ("both", "D_IN_0"), ("both", "D_IN_1")), ("output seen[6]", "value"), True),
     Wrong("the inputs of two buses", "buses", exchanged("buses", ("data", "D_IN_0"), ("clock", "D_IN_0")), ("output line[0]", "value"), True),
     Wrong("an inverse", "kinds", pin_cell("kinds", "turned", PIN_TYPE="010101"), ("output inverted", "value"), True),
+    Wrong("an edge in a ripple counter", "dividers", netlist_cell("dividers", ["SB_DFFNR"], type="SB_DFFR"),
+          ("register ripple[2]", "edge of the clock"), True),
 ]
 MODULES = [
     Wrong("the two data of a pin", "kinds", other_text(r"(po_%(doubled)s), (pq_%(doubled)s)(?=})", r"\2, \1"), ("output doubled", "value")),
@@ -272,6 +276,10 @@ MODULES = [
           ("output switched", "switch that turns it off")),
     Wrong("a bus that reads what comes from outside", "kinds", other_text(r"hcaca(?= >> .* io_%(b1)s_in})", "haaaa"), ("output seen[1]", "value")),
     Wrong("what comes to two buses", "buses", exchanged_inputs("sda", "scl"), ("output line[1]", "value")),
+    Wrong("the other edge of a register", "dividers", other_text(r"posedge(?= ff_\w+\) if .* pi_%(button)s <=)", "negedge"),
+          ("register din_q_0 of the pin cell pin_button", "edge of the clock")),
+    Wrong("a pin as the clock in place of a register", "dividers", other_text(r"ff_\w+(?=\) if .* pi_%(button)s <=)", "io_%(clk)s"),
+          ("register din_q_0 of the pin cell pin_button", "clock")),
     Wrong("a PLL", "edges", with_pll, ("PLL", "pll_6_0_a")),
 ]
 

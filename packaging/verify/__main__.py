@@ -84,7 +84,8 @@ def database_of(device: str, share: Path) -> str:
 def module_text(request: Request, database: str, share: Path, tools: Tools) -> str:
     """The module that icebox_vlog writes of the configuration. Raises Stop with what it says if it refuses it."""
     image = str(Path(request.bitstream or request.text).absolute())
-    words = [str(tools.here / "icestorm"), "icebox_vlog", "--used-inputs", "--all-pins", "--layout", str((share / "silicon.layout").absolute())]
+    words = [str(tools.here / "icestorm"), "icebox_vlog", "--used-inputs", "--all-pins", "--register-clocks"]
+    words += ["--layout", str((share / "silicon.layout").absolute())]
     ended = tools.run("icebox_vlog", words + ["--", str(Path(database).absolute()), image], "module.v")
     if ended.returncode != 0:
         said = ended.stderr.decode(errors="replace").strip().splitlines()

@@ -1,6 +1,6 @@
 -- The write order as a function. It is a topological order of the combinational logic, over the classes of joined nets (nets that
--- switched routings join) that have a driver: each comes after all of these classes that its driver reads. If several classes could come
--- next, the least comes first, so there is at most one order. If there is one, it is what the function gives.
+-- switched routings join) that have a driver: each comes after all of these classes that its driver reads, and, where registers are clocks,
+-- after those of the clocks of what its value is computed from. If several classes could come next, the least comes first, so there is at most one order. If there is one, it is what the function gives.
 use Rattle.std.specs.Prelude.{ℕ, zero, suc, Bool, not, ◌&&◌, ◌||◌, List, [], ◌++◌}
 use Rattle.std.specs.List.{list_all}
 use Rattle.std.specs.Option.{option_to_list}

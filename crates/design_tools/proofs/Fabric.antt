@@ -27,11 +27,12 @@ use Rattle.vlog_forms.proofs.Spelled.{one-module}
 use Rattle.fabric_model.specs.declared.options.FabricOptions.{FabricOptions}
 use Rattle.fabric_model.specs.Fabric.{Fabric, fabric_with}
 use Rattle.graph_order.specs.Wiring.{IsWriteOrder}
-use Rattle.fabric_model.specs.Wiring.{wiring_of}
+use Rattle.fabric_model.specs.Wiring.{clocked_wiring}
 use Rattle.fabric_model.specs.Faults.{Fault, design_fault}
 use Rattle.fabric_model.proofs.Within.{fabric-within}
-use Rattle.fabric_model.proofs.Taken.{design-taken, taken-order}
+use Rattle.fabric_model.proofs.Taken.{design-taken, clocked-order}
 use Rattle.fabric_model.proofs.Alike.{design-run}
+use Rattle.fabric_model.proofs.Uncut.{design-uncut}
 use Rattle.fabric_module.specs.Written.{module_of}
 use Rattle.fabric_module.proofs.Design.{design-is-module, design-well_formed}
 use Rattle.tool_inputs.proofs.CommandLines.{helped-no}
@@ -58,22 +59,22 @@ use Rattle.design_answers.proofs.Order.{order-is}
 
 -- if there is no fault, the order that the function gives is the write order
 ordered : (options : FabricOptions) (db : Database) (image : Configuration) → IsFit db → design_fault options db image ≡ None
-    → IsWriteOrder (wiring_of (fabric_with options db image)) (write_order (wiring_of (fabric_with options db image)))
+    → IsWriteOrder (clocked_wiring (fabric_with options db image)) (write_order (clocked_wiring (fabric_with options db image)))
 ordered options db image fit none =
     let fabric = fabric_with options db image in
-    let wiring = wiring_of fabric in
-    let order = taken-order image.layout.device fabric (design-taken options db image none).fabric (fabric-within db image fit options) in
+    let wiring = clocked_wiring fabric in
+    let order = clocked-order image.layout.device fabric (design-taken options db image none).fabric (fabric-within db image fit options) in
     subst (IsWriteOrder wiring) (order-is wiring order.it order.is) order.is
 
 module _ (options : FabricOptions) (name : List ℕ) (is_name : IsName name) (db : Database) (image : Configuration) (fit : IsFit db) (few : (fabric_with options db image).nets ≤ 2 ^ 64)
     (none : design_fault options db image ≡ None) where
   abbrev order : List ℕ
-  order = write_order (wiring_of (fabric_with options db image))
+  order = write_order (clocked_wiring (fabric_with options db image))
 
   abbrev meant : Fabric
   meant = fabric_meant options db image
 
-  order-right : IsWriteOrder (wiring_of (fabric_with options db image)) order
+  order-right : IsWriteOrder (clocked_wiring (fabric_with options db image)) order
   order-right = ordered options db image fit none
 
   -- a module that runs as the fabric
@@ -84,6 +85,7 @@ module _ (options : FabricOptions) (name : List ℕ) (is_name : IsName name) (db
         one_module = record { it = m; is = spells; only = λ other also. one-module (printed m) other m also spells };
         ports = runs.ports;
         one_run = runs.one_run;
+        uncut = runs.uncut;
         alike = runs.alike;
         lines = λ registers events entries run.
             run-shown (named_input named) (named_output named) meant m registers events entries
@@ -96,6 +98,7 @@ module _ (options : FabricOptions) (name : List ℕ) (is_name : IsName name) (db
   own-runs = record {
     ports = refl;
     one_run = λ events. design-run options db image fit none events;
+    uncut = design-uncut options db image fit none;
     alike = λ events entries run. design-is-module options db image fit few none order order-right name events entries run;
   }
 

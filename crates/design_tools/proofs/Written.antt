@@ -9,7 +9,7 @@ use Rattle.vlog_forms.specs.Printed.{printed}
 use Rattle.fabric_model.specs.declared.pin.Pin.{Pin}
 use Rattle.fabric_model.specs.declared.options.FabricOptions.{FabricOptions}
 use Rattle.fabric_model.specs.Fabric.{Fabric, fabric_with}
-use Rattle.fabric_model.specs.Wiring.{wiring_of}
+use Rattle.fabric_model.specs.Wiring.{clocked_wiring}
 use Rattle.fabric_model.specs.Faults.{Fault}
 use Rattle.fabric.specs.declared.fault.FabricFault.{FabricFault}
 use Rattle.fabric.specs.Kept.{Kept}
@@ -39,7 +39,7 @@ unfolding written_module
 written_done name db image design m text is made shown =
     let fabric = fabric_with design.parts.options db image in
     ap (written_with design.parts.options name db image) is.taken
-    ∙ sym (ap Done (shown ∙ ap printed (made ∙ ap (λ order. module_of fabric order name) (order-is (wiring_of fabric) design.order is.kept.order))))
+    ∙ sym (ap Done (shown ∙ ap printed (made ∙ ap (λ order. module_of fabric order name) (order-is (clocked_wiring fabric) design.order is.kept.order))))
 
 -- the text of the module whose ports have the names of a pin file
 pub named_done : (named : List PinName) (name : List ℕ) (db : Database) (image : Configuration) (design : Kept) (own : List ℕ) (m : Parts) (text : List ℕ) → IsDesignOf db image design
@@ -48,7 +48,7 @@ pub named_done : (named : List PinName) (name : List ℕ) (db : Database) (image
 unfolding module_with_names
 named_done named name db image design own m text is same made shown =
     let fabric = fabric_with design.parts.options db image in
-    shown ∙ ap printed (made ∙ ap₂ (named_module named fabric) (order-is (wiring_of fabric) design.order is.kept.order) same)
+    shown ∙ ap printed (made ∙ ap₂ (named_module named fabric) (order-is (clocked_wiring fabric) design.order is.kept.order) same)
 
 -- ---- a pin file
 

@@ -14,6 +14,7 @@ use Rattle.fabric_model.specs.declared.options.FabricOptions.{FabricOptions}
 use Rattle.fabric_model.specs.Fabric.{Fabric, fabric_with, reading_all}
 use Rattle.fabric_model.specs.Steps.{Event, Entry, IsRun}
 use Rattle.fabric_model.specs.Unique.{ExactlyOne}
+use Rattle.fabric_module.specs.Law.{CutsNoWave}
 use Rattle.fabric_module.specs.Matching.{module_event}
 use Rattle.pin_file.specs.declared.pin_name.PinName.{PinName}
 use Rattle.fabric_model.specs.declared.pin.Pin.{Pin}
@@ -38,6 +39,8 @@ pub record SpellsFabric (named : List PinName) (fabric : Fabric) (text : List �
   pub ports : one_module.it.ports ≡ named_ports named fabric
   -- the fabric has exactly one run for each list of events
   pub one_run : (events : List Event) → ExactlyOne (IsRun fabric events)
+  -- the bound on the waves of an event cuts none
+  pub uncut : CutsNoWave fabric
   -- the module runs as the fabric does: at the start and after each event the two have the same values
   pub alike : (events : List Event) (entries : List Entry) → IsRun fabric events entries
       → AllZip (MatchesNamed named fabric) entries (module_run one_module.it (map module_event events))

@@ -11,7 +11,7 @@ use Rattle.fabric_model.specs.declared.options.FabricOptions.{FabricOptions}
 use Rattle.fabric_model.specs.declared.lut_inputs.LutInputs.{LutInputs}
 use Rattle.fabric_model.specs.declared.lut_inputs.LutInputs.TheVariants as read
 use Rattle.fabric_model.specs.Fabric.{fabric_with}
-use Rattle.fabric_model.specs.Wiring.{wiring_of}
+use Rattle.fabric_model.specs.Wiring.{clocked_wiring}
 use Rattle.fabric_model.specs.Faults.{Fault, design_fault}
 use Rattle.fabric_module.specs.Written.{module_of}
 use Rattle.tool_run.specs.Needs.{text_of}
@@ -38,14 +38,14 @@ use Rattle.design_answers.specs.Faults.{design_fault_text}
 -- ---- the answer
 
 -- the module that is written for a database and an image under this name: the module of their fabric with these options, in the write
--- order, a topological order of the combinational logic
+-- order: a topological order of the combinational logic, in which registers that are clocks count
 unfoldable pub written_module : FabricOptions → List ℕ → Database → Configuration → Parts
-written_module options name db image = module_of (fabric_with options db image) (write_order (wiring_of (fabric_with options db image))) name
+written_module options name db image = module_of (fabric_with options db image) (write_order (clocked_wiring (fabric_with options db image))) name
 
 -- the module that is written if the ports have the names of a pin file
 unfoldable pub module_with_names : List PinName → FabricOptions → List ℕ → Database → Configuration → Parts
 module_with_names named options name db image =
-    named_module named (fabric_with options db image) (write_order (wiring_of (fabric_with options db image))) name
+    named_module named (fabric_with options db image) (write_order (clocked_wiring (fabric_with options db image))) name
 
 -- the text of the module, or the message for the fault of the design
 abbrev pub written_with : FabricOptions → List ℕ → Database → Configuration → Option Fault → Answer
@@ -85,19 +85,19 @@ abbrev pub vlog_name : List ℕ
 vlog_name = codes "icebox_vlog"
 
 abbrev pub vlog_usage : List ℕ
-vlog_usage = codes "icebox_vlog [-n NAME] [-p PCF -d PACKAGE] [--used-inputs] [--all-pins] [--layout FILE] DB [IMAGE]"
+vlog_usage = codes "icebox_vlog [-n NAME] [-p PCF -d PACKAGE] [--used-inputs] [--all-pins] [--register-clocks] [--layout FILE] DB [IMAGE]"
 
 abbrev pub vlog_command : App
-vlog_command = command vlog_name (short_option (codes "name") 110 ∷ short_option (codes "pins") 112 ∷ short_option (codes "package") 100 ∷ long_flag (codes "used-inputs") ∷ long_flag (codes "all-pins") ∷ long_option (codes "layout") ∷ positional (codes "db") ∷ positional (codes "image") ∷ [])
+vlog_command = command vlog_name (short_option (codes "name") 110 ∷ short_option (codes "pins") 112 ∷ short_option (codes "package") 100 ∷ long_flag (codes "used-inputs") ∷ long_flag (codes "all-pins") ∷ long_flag (codes "register-clocks") ∷ long_option (codes "layout") ∷ positional (codes "db") ∷ positional (codes "image") ∷ [])
 
 -- with `--used-inputs` LUTs read only the inputs that they use, else all
 abbrev pub inputs_wanted : Bool → LutInputs
 inputs_wanted false = read.All
 inputs_wanted true = read.Used
 
--- with `--all-pins` pins of every kind are taken
-abbrev pub options_wanted : Bool → Bool → FabricOptions
-options_wanted used all = record { lut_inputs = inputs_wanted used; all_pins = all }
+-- with `--all-pins` pins of every kind are taken, and with `--register-clocks` registers may be clocks
+abbrev pub options_wanted : Bool → Bool → Bool → FabricOptions
+options_wanted used all registers = record { lut_inputs = inputs_wanted used; all_pins = all; register_clocks = registers }
 
 -- ---- the task
 
@@ -148,7 +148,7 @@ vlog_task_of options None pins layout db image = usage_error vlog_name vlog_usag
 
 -- the options that the arguments give
 abbrev pub options_in : List Row → FabricOptions
-options_in rows = options_wanted (has_flag (codes "used-inputs") rows) (has_flag (codes "all-pins") rows)
+options_in rows = options_wanted (has_flag (codes "used-inputs") rows) (has_flag (codes "all-pins") rows) (has_flag (codes "register-clocks") rows)
 
 -- the pin file and the package that the arguments name
 abbrev pub pins_in : List Row → Option (Option Named)

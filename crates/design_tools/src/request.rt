@@ -13,14 +13,14 @@ use tool_inputs::{has_flag, long_flag, long_option, positional, short_option, va
 
 /// The command line of `icebox_vlog`.
 pub const ICEBOX_VLOG_USAGE: &str =
-    "icebox_vlog [-n NAME] [-p PCF -d PACKAGE] [--used-inputs] [--all-pins] [--layout FILE] DB [IMAGE]";
+    "icebox_vlog [-n NAME] [-p PCF -d PACKAGE] [--used-inputs] [--all-pins] [--register-clocks] [--layout FILE] DB [IMAGE]";
 
 /// The help of `icebox_vlog`, at most 80 columns wide.
 pub const ICEBOX_VLOG_HELP: &str = "\
 icebox_vlog: writes the design of an image as a module in a subset of Verilog.
 
 Usage: icebox_vlog [-n NAME] [-p PCF -d PACKAGE] [--used-inputs] [--all-pins]
-                   [--layout FILE] DB [IMAGE]
+                   [--register-clocks] [--layout FILE] DB [IMAGE]
 
   DB        the chip database of the image's device
   IMAGE     a bitstream (.bin) or a text (.asc); standard input if it is missing
@@ -33,6 +33,8 @@ Usage: icebox_vlog [-n NAME] [-p PCF -d PACKAGE] [--used-inputs] [--all-pins]
   --all-pins
             takes pins of every kind, apart from the few that PinMode names,
             and PLLs
+  --register-clocks
+            takes clocks that come from a register, as from a bit of a counter
   --layout FILE
             the layout file; the standard layout if it is missing
 
@@ -114,10 +116,14 @@ fault. A design is refused for these causes, looked for in this order:
   Loop          a net depends on itself, and no clock edge lies between: through
                 LUTs, or through the reset of a flip-flop that resets itself at
                 once. A router may make such a loop at an input that a logic
-                cell doesn't use: then --used-inputs takes the design
+                cell doesn't use: then --used-inputs takes the design. With
+                --register-clocks also: registers that clock each other in a
+                ring, one that is its own clock, or one that is reset at once
+                by what it clocks
   Clock         a flip-flop, a register of a pin or a RAM whose clock is made by
                 logic, by more than a LUT that passes one net on or inverts it,
-                or comes from a pad that the design drives: clock it by a pin,
+                or comes from a pad that the design drives, or from a register:
+                then --register-clocks takes the design. Else clock it by a pin
                 and use an enable
 
 Exit status: 0 done; 1 a file or the design is refused; 2 the command line isn't
@@ -153,6 +159,7 @@ pub(crate) fn command<'a>(alloc: Global) -> Result<Command<'a>, AllocError>
     let command = with(command, short_option(alloc, "package", 'd'))?;
     let command = with(command, long_flag(alloc, "used-inputs"))?;
     let command = with(command, long_flag(alloc, "all-pins"))?;
+    let command = with(command, long_flag(alloc, "register-clocks"))?;
     let command = with(command, long_option(alloc, "layout"))?;
     let command = with(command, positional(alloc, "db"))?;
     with(command, positional(alloc, "image"))
@@ -168,13 +175,14 @@ fn inputs_wanted(used: bool) -> LutInputs
     }
 }
 
-// The options: which inputs LUTs read, and whether pins of every kind are taken.
-fn options_wanted(used: bool, all: bool) -> FabricOptions
-    ensures { result ≡ options_wanted used all }
+// The options: which inputs LUTs read, and whether pins of every kind are taken and registers may be clocks.
+fn options_wanted(used: bool, all: bool, registers: bool) -> FabricOptions
+    ensures { result ≡ options_wanted used all registers }
 {
     FabricOptions {
         lut_inputs: inputs_wanted(used),
         all_pins: all,
+        register_clocks: registers,
     }
 }
 
@@ -222,7 +230,8 @@ pub(crate) fn request_in<'a>(matches: &ArgMatches<'a>) -> Option<Request<'a>>
 {
     let used = has_flag(matches, "used-inputs");
     let all = has_flag(matches, "all-pins");
-    let options = options_wanted(used, all);
+    let registers = has_flag(matches, "register-clocks");
+    let options = options_wanted(used, all, registers);
     let given = value(matches, "name");
     let name = name_given(given);
     let file = value(matches, "pins");

@@ -28,7 +28,7 @@ use Rattle.fabric_model.proofs.Within.{fabric-in}
 use Rattle.fabric_wiring.specs.declared.parts.Parts.{Parts}
 use Rattle.fabric_wiring.specs.Parts.{ArePartsOf, buffer_of}
 use Rattle.graph_order.specs.Wiring.{IsWriteOrder}
-use Rattle.fabric_model.specs.Wiring.{wiring_of}
+use Rattle.fabric_model.specs.Wiring.{clocked_wiring}
 use Rattle.fabric_wiring.specs.DriverLists.{DriverSet, AreDriversOf}
 use Rattle.fabric_wiring.specs.declared.ends.ClockEnd.{ClockEnd}
 use Rattle.fabric_wiring.specs.Ends.{AreEndsOf}
@@ -65,6 +65,7 @@ module _ (options : FabricOptions) (db : Database) (image : Configuration) where
     plls = plls;
     globals = globals;
     lut_inputs = ap (λ (it : FabricOptions). it.lut_inputs) told;
+    register_clocks = ap (λ (it : FabricOptions). it.register_clocks) told;
     lcs = lcs;
     registers =
         registers ∙ (ap (λ cells. registers_of options.lut_inputs cells ++ pin_registers_of (flips_among cells) parts.pins.items) lcs
@@ -100,7 +101,7 @@ module _ (options : FabricOptions) (db : Database) (image : Configuration) where
       → (device : DeviceName) → image.layout.device ≡ device → (parts : Parts) → parts.options ≡ options → ArePartsOf (fabric_with options db image) parts
       → (inputs : List InputPort) → inputs ≡ inputs_with parts.pins.items parts.plls.items
       → (outputs : List Output) → map output_of outputs ≡ outputs_of (fabric_with options db image)
-      → (drivers : DriverSet) → AreDriversOf (fabric_with options db image) drivers → (order : List ℕ) → IsWriteOrder (wiring_of (fabric_with options db image)) order
+      → (drivers : DriverSet) → AreDriversOf (fabric_with options db image) drivers → (order : List ℕ) → IsWriteOrder (clocked_wiring (fabric_with options db image)) order
       → (ends : List ClockEnd) → AreEndsOf (fabric_with options db image) ends
       → (words : List ℕ) → words ≡ flat_map (λ ram. each_below 256 (ram_word_of image ram.x ram.y)) parts.rams.items
       → IsDesignOf db image (record { parts = parts; inputs = inputs; outputs = outputs; drivers = drivers; order = order; ends = ends; words = words })

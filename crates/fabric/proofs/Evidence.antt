@@ -11,15 +11,15 @@ use Rattle.fabric_model.specs.Fabric.{Fabric}
 use Rattle.fabric_model.specs.Drivers.{Drive, drivers_of}
 use Rattle.std.specs.declared.vec.Vec.{Vec}
 use Rattle.graph_order.proofs.Whole.{marked-within}
-use Rattle.index_search.proofs.Places.{gathered_below-none}
+use Rattle.index_search.proofs.Places.{gathered_below-none, gathered_below-same}
 use Rattle.fabric_model.proofs.Firsts.{first_of-alone}
 use Rattle.graph_order.specs.Wiring.{Wiring, is_on_cycle, IsCycle}
-use Rattle.fabric_model.specs.Wiring.{wiring_of}
+use Rattle.fabric_model.specs.Wiring.{wiring_of, clocked_wiring}
 use Rattle.graph_order.proofs.Cycles.{IsBounded, is_on_cycle-whole}
 use Rattle.graph_order.specs.Rows.{ReadsByDriven, wiring_of as rows_wiring}
 use Rattle.fabric_model.specs.Joins.{class_of}
 use Rattle.fabric_model.specs.Clocks.{ClockEnd, LeadsTo, User, users_of, clock_end}
-use Rattle.fabric_model.specs.Clocks.ClockEnd.{at_pin, still, logic}
+use Rattle.fabric_model.specs.Clocks.ClockEnd.{at_pin, at_register, still, logic}
 use Rattle.fabric_model.specs.Faults.{Fault, drivers_fault, driver_faults, loop_faults, end_fault, user_fault, clock_faults, fabric_fault}
 use Rattle.fabric_wiring.specs.declared.fault.DriverFault.{DriverFault}
 use Rattle.fabric_wiring.specs.declared.fault.DriverFault.TheVariants as drivers
@@ -30,7 +30,8 @@ use Rattle.graph_order.specs.Alike.{AreAlike}
 use Rattle.graph_order.proofs.Alike.{is_on_cycle-alike, cycle-alike}
 use Rattle.fabric_model.proofs.OneValue.{count-is}
 use Rattle.fabric.specs.Causes.{of_drivers}
-use Rattle.fabric.specs.Faults.{HasDriversApart, IsCause, AreTwoDrivers, IsCycleFrom, IsUnclocked}
+use Rattle.fabric.specs.Faults.{HasDriversApart, IsCause, AreTwoDrivers, IsLoopOf, IsUnclocked}
+use Rattle.fabric.specs.Faults.IsLoopFrom.{of_logic, of_clocks}
 
 -- ---- the first item of lists
 
@@ -96,6 +97,7 @@ user-ends device fabric leads one (Some source) has there x y user net is = by-e
   where
     by-end : (end : ClockEnd) → clock_end fabric source ≡ end → first_of (end_fault one source end) ≡ Some (Fault.clock x y user net) → IsUnclocked device fabric x y user net
     by-end (at_pin place turned) ends told = absurd cc
+    by-end (at_register class place turned) ends told = absurd cc
     by-end (still bit) ends told = absurd cc
     by-end logic ends told =
         let same : user_of one source ≡ user_of (record { x = x; y = y; user = user; net = Some net }) net = cc in
@@ -130,9 +132,17 @@ unfolding loop_faults
 loop-none wiring none =
     ap first_of (gathered_below-none wiring.count (λ k. item_if (is_on_cycle wiring k) (Fault.loop k)) (λ k below. off-cycle wiring k (none k below)))
 
-module _ {Z : Type 0} (fabric : Fabric) (driven : List Bool) (reads : List (Vec ℕ Z)) (alike : AreAlike (rows_wiring driven reads) (wiring_of fabric)) where
+-- wirings that say the same have the same loops
+pub loops-alike : (one two : Wiring) → AreAlike one two → loop_faults one ≡ loop_faults two
+unfolding loop_faults
+loops-alike one two alike =
+    gathered_below-same one.count (λ k. item_if (is_on_cycle one k) (Fault.loop k)) (λ k. item_if (is_on_cycle two k) (Fault.loop k))
+    (λ k below. ap (λ on. item_if on (Fault.loop k)) (is_on_cycle-alike alike k))
+    ∙ ap (λ n. gathered_below n (λ k. item_if (is_on_cycle two k) (Fault.loop k))) alike.count
+
+module _ {Z : Type 0} (wiring : Wiring) (driven : List Bool) (reads : List (Vec ℕ Z)) (alike : AreAlike (rows_wiring driven reads) wiring) where
   -- only classes of the wiring are driven and read others
-  bounded : ReadsByDriven (rows_wiring driven reads) → IsBounded (wiring_of fabric)
+  bounded : ReadsByDriven (rows_wiring driven reads) → IsBounded wiring
   bounded by_driven = record {
     driven = λ class drives. subst (λ n. class < n) alike.count (marked-within driven class (alike.driven class ∙ drives));
     depending = λ class other on. subst (λ n. class < n) alike.count (marked-within driven class (by_driven class other (alike.reads class other ∙ on)));
@@ -142,17 +152,17 @@ module _ {Z : Type 0} (fabric : Fabric) (driven : List Bool) (reads : List (Vec 
   pub loop-told : ReadsByDriven (rows_wiring driven reads) → (cycle : List ℕ) (net : ℕ) → IsCycle (rows_wiring driven reads) cycle → net ≡ get_or cycle 0 net
       → slice_index cycle 0 < length driven → is_on_cycle (rows_wiring driven reads) (slice_index cycle 0) ≡ true
       → ((k : ℕ) → k < slice_index cycle 0 → is_on_cycle (rows_wiring driven reads) k ≡ false)
-      → (first_of (loop_faults (wiring_of fabric)) ≡ Some (Fault.loop net)) × IsCycleFrom fabric net cycle
+      → IsLoopOf wiring (Loop net cycle)
   loop-told by_driven [] net is_cycle first below on least = absurd is_cycle
   loop-told by_driven (head ∷ rest) net is_cycle first below on least =
       let off = λ (k : ℕ) (lower : k < head). sym (is_on_cycle-alike alike k) ∙ least k lower in
-      let told = loop-first (wiring_of fabric) head (subst (λ n. head < n) alike.count below) (sym (is_on_cycle-alike alike head) ∙ on) off in (
+      let told = loop-first wiring head (subst (λ n. head < n) alike.count below) (sym (is_on_cycle-alike alike head) ∙ on) off in (
         told ∙ ap (λ n. Some (Fault.loop n)) (sym first),
         record {
           is_cycle = cycle-alike alike (head ∷ rest) is_cycle;
           begins = ap (λ n. Some n) (sym first);
           least = λ lesser more lower cycles.
-              false≢true (sym (off lesser (subst (λ n. lesser < n) first lower)) ∙ is_on_cycle-whole (wiring_of fabric) (bounded by_driven) lesser more cycles);
+              false≢true (sym (off lesser (subst (λ n. lesser < n) first lower)) ∙ is_on_cycle-whole wiring (bounded by_driven) lesser more cycles);
         },
       )
 
@@ -168,20 +178,46 @@ module _ (device : DeviceName) (fabric : Fabric) where
   drivers-cause cause is = rw is refl
 
   module _ (single : first_of (driver_faults fabric) ≡ None) where
-    pub loops-cause : (cause : Fault) → first_of (loop_faults (wiring_of fabric)) ≡ Some cause → fabric_fault device fabric ≡ Some cause
+    loops-cause : (cause : Fault) → first_of (loop_faults (wiring_of fabric)) ≡ Some cause → fabric_fault device fabric ≡ Some cause
     unfolding fabric_fault
     loops-cause cause is = rw (single, is) refl
 
+    -- a loop of the logic is the cause, and so is one by registers that are clocks if there is none of the logic
+    pub logic-told : (fault : FabricFault) → IsLoopOf (wiring_of fabric) fault → IsCause device fabric (fabric_fault device fabric) fault
+    logic-told Device is = absurd is
+    logic-told (Pll x y) is = absurd is
+    logic-told (PinMode x y pio pintype) is = absurd is
+    logic-told (Cascade x y) is = absurd is
+    logic-told (TwoDrivers net first second) is = absurd is
+    logic-told (Loop net cycle) is = (loops-cause _ is.0, of_logic is.1)
+    logic-told (Clock x y user net) is = absurd is
+    logic-told (Memory failed) is = tt
+
     module _ (open_ : first_of (loop_faults (wiring_of fabric)) ≡ None) where
-      pub clocks-cause : (cause : Fault) → first_of (clock_faults device fabric) ≡ Some cause → fabric_fault device fabric ≡ Some cause
+      clock_loops-cause : (cause : Fault) → first_of (loop_faults (clocked_wiring fabric)) ≡ Some cause → fabric_fault device fabric ≡ Some cause
       unfolding fabric_fault
-      clocks-cause cause is = rw (single, open_, is) refl
+      clock_loops-cause cause is = rw (single, open_, is) refl
 
-      pub no-cause : first_of (clock_faults device fabric) ≡ None → fabric_fault device fabric ≡ None
-      unfolding fabric_fault
-      no-cause is = rw (single, open_, is) refl
+      pub clock_loops-told : (fault : FabricFault) → IsLoopOf (clocked_wiring fabric) fault → IsCause device fabric (fabric_fault device fabric) fault
+      clock_loops-told Device is = absurd is
+      clock_loops-told (Pll x y) is = absurd is
+      clock_loops-told (PinMode x y pio pintype) is = absurd is
+      clock_loops-told (Cascade x y) is = absurd is
+      clock_loops-told (TwoDrivers net first second) is = absurd is
+      clock_loops-told (Loop net cycle) is = (clock_loops-cause _ is.0, of_clocks open_ is.1)
+      clock_loops-told (Clock x y user net) is = absurd is
+      clock_loops-told (Memory failed) is = tt
 
-  -- a refusal of the fabric's drivers, cycles or clocks is one of the fabric
+      module _ (still_open : first_of (loop_faults (clocked_wiring fabric)) ≡ None) where
+        pub clocks-cause : (cause : Fault) → first_of (clock_faults device fabric) ≡ Some cause → fabric_fault device fabric ≡ Some cause
+        unfolding fabric_fault
+        clocks-cause cause is = rw (single, open_, still_open, is) refl
+
+        pub no-cause : first_of (clock_faults device fabric) ≡ None → fabric_fault device fabric ≡ None
+        unfolding fabric_fault
+        no-cause is = rw (single, open_, still_open, is) refl
+
+  -- a refusal of the fabric's drivers is one of the fabric
   pub drivers-told : HasDriversApart fabric → (fault : DriverFault) → IsDriverCause (first_of (driver_faults fabric)) fault → IsCause device fabric (fabric_fault device fabric) (of_drivers fault)
   drivers-told apart (drivers.TwoDrivers net first second) is = (drivers-cause _ is, drivers-evidence fabric apart net first second is)
   drivers-told apart (drivers.Memory failed) is = tt

@@ -10,5 +10,5 @@ pub mod StartWords
 pub mod Composed
 -- the first of some faults has what it tells
 pub mod Evidence
--- in each entry of a run the clocks follow their pins
+-- in each entry of a run the clocks follow their pins and registers
 pub mod Clocked

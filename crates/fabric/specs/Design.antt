@@ -8,7 +8,7 @@ use Rattle.fabric_model.specs.declared.input_port.InputPort.{InputPort}
 use Rattle.fabric_model.specs.declared.input_port.InputPort.TheVariants.{Pad, Outside, Pll}
 use Rattle.fabric_model.specs.Fabric.{fabric_with}
 use Rattle.fabric_model.specs.Clocks.{ClockEnd}
-use Rattle.fabric_model.specs.Clocks.ClockEnd.{at_pin, still, logic}
+use Rattle.fabric_model.specs.Clocks.ClockEnd.{at_pin, at_register, still, logic}
 use Rattle.fabric_model.specs.Faults.{design_fault}
 use Rattle.fabric_wiring.specs.declared.parts.Buffer.{Buffer}
 use Rattle.fabric.specs.declared.design_type.LinkEnds.{LinkEnds}
@@ -35,12 +35,14 @@ pin_of (Pll x y output) = None
 -- the input port at which a clock chain ends, if it ends at one
 abbrev pub end_input : ClockEnd → Option ℕ
 end_input (at_pin place turned) = Some place
+end_input (at_register class place turned) = None
 end_input (still bit) = None
 end_input logic = None
 
 -- the pin at whose input port a clock chain ends, if it ends at one
 abbrev pub end_pin : List InputPort → ClockEnd → Option PinXy
 end_pin inputs (at_pin place turned) = option_and_then pin_of (slice_get inputs place)
+end_pin inputs (at_register class place turned) = None
 end_pin inputs (still bit) = None
 end_pin inputs logic = None
 

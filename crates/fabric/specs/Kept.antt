@@ -4,7 +4,7 @@ use Rattle.bit_plane.specs.BitList.{word_of}
 use Rattle.fabric_model.specs.declared.input_port.InputPort.{InputPort}
 use Rattle.fabric_model.specs.Fabric.{Fabric, inputs_of}
 use Rattle.graph_order.specs.Wiring.{IsWriteOrder}
-use Rattle.fabric_model.specs.Wiring.{wiring_of}
+use Rattle.fabric_model.specs.Wiring.{clocked_wiring}
 use Rattle.fabric_model.specs.Outputs.{outputs_of}
 use Rattle.fabric_wiring.specs.declared.parts.Parts.{Parts}
 use Rattle.fabric_wiring.specs.Parts.{ArePartsOf}
@@ -15,7 +15,8 @@ use Rattle.fabric_wiring.specs.declared.output_pins.Output.{Output}
 use Rattle.fabric_wiring.specs.Outputs.{output_of}
 
 -- the parts of a fabric, its input ports, its outputs and its drivers, the write order of its classes of joined nets (a topological order of
--- the combinational logic), where the clock chain from each class ends, and the start words of the used RAMs, 256 for each
+-- the combinational logic; if registers may be clocks, each class also comes after the registers that are clocks of what its value is
+-- computed from), where the clock chain from each class ends, and the start words of the used RAMs, 256 for each
 pub record Kept : Type 0 where
   pub parts : Parts
   pub inputs : List InputPort
@@ -40,6 +41,6 @@ pub record IsKeptOf (fabric : Fabric) (design : Kept) : Type 0 where
   pub inputs : design.inputs ≡ inputs_of fabric
   pub outputs : map output_of design.outputs ≡ outputs_of fabric
   pub drivers : AreDriversOf fabric design.drivers
-  pub order : IsWriteOrder (wiring_of fabric) design.order
+  pub order : IsWriteOrder (clocked_wiring fabric) design.order
   pub ends : AreEndsOf fabric design.ends
   pub words : AreWordsOf fabric design.words

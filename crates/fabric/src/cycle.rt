@@ -3,8 +3,8 @@ ghost use Rattle.std.specs.Prelude.{◌≡◌};
 
 use std::marker::Model;
 
-/// A combinational cycle of classes of joined nets, each named by its least net. Each class depends on the next, and the last one on the
-/// first.
+/// A cycle of classes of joined nets, each named by its least net: of logic alone, or also of registers that are clocks. Each class depends on
+/// the next, and the last one on the first.
 #[derive(Drop)]
 pub struct Cycle {
     pub(crate) nets: Vec<u32>,

@@ -4,7 +4,7 @@ ghost use Rattle.std.specs.Option.{option_map};
 ghost use Rattle.std.specs.List.{list_any};
 ghost use Rattle.ice_image.specs.Configuration.{Configuration};
 ghost use Rattle.chipdb_reader.specs.Database.{Database};
-ghost use Rattle.fabric_model.specs.Clocks.{is_turned};
+ghost use Rattle.fabric_model.specs.Clocks.{is_turned, register_class};
 ghost use Rattle.fabric_model.specs.Links.{class_in};
 ghost use Rattle.fabric_wiring.specs.DriverLists.{driver_in};
 ghost use Rattle.fabric_wiring.specs.Ends.{end_in, end_of};
@@ -213,8 +213,9 @@ impl Design {
         self.drive(class).map(|drive| drive.driver)
     }
 
-    /// The order in which the classes of joined nets with a driver are written: a topological order of the combinational logic. The next
-    /// class is always the least one whose fan-in is written, apart from classes without a driver.
+    /// The order in which the classes of joined nets with a driver are written: a topological order of the combinational logic, in which each
+    /// class also comes after the registers that are clocks of what its value is computed from. The next class is always the least one of which
+    /// all of that is written, apart from classes without a driver.
     pub fn order(&self) -> &[u32]
         ensures order { result.now ≡ self.now.order }
         ensures design { IsDesign self.now }
@@ -234,8 +235,8 @@ impl Design {
             .unwrap_or(ClockEnd::Still(false))
     }
 
-    /// The pin at whose input port the clock chain from a net of the database ends, or `None` if it ends elsewhere, as at an output of a PLL. No
-    /// tool of this project needs it: it is for users of the library.
+    /// The pin at whose input port the clock chain from a net of the database ends, or `None` if it ends elsewhere, as at an output of a PLL or at
+    /// a register. No tool of this project needs it: it is for users of the library.
     pub fn clock(&self, net: u32) -> Option<PinXy>
         requires { net < length self.now.drivers.places }
         ensures { result ≡ end_pin self.now.inputs (end_in self.now.ends (class_in self.now.parts.links net)) }
@@ -245,7 +246,7 @@ impl Design {
                 None => None,
                 Some(port) => pin_of(*port),
             },
-            ClockEnd::Still(_) | ClockEnd::Logic => None,
+            ClockEnd::Register { .. } | ClockEnd::Still(_) | ClockEnd::Logic => None,
         }
     }
 
@@ -257,18 +258,27 @@ impl Design {
     {
         match self.clock_end(net) {
             ClockEnd::Pin { place, .. } => Some(place),
-            ClockEnd::Still(_) | ClockEnd::Logic => None,
+            ClockEnd::Register { .. } | ClockEnd::Still(_) | ClockEnd::Logic => None,
         }
     }
 
-    /// Whether the clock chain from a net of the database ends at an input port and inverts its clock on the way, so that the net has the inverse
-    /// of the port's value.
+    /// The class of joined nets of the register at which the clock chain from a net of the database ends, or `None` if it ends elsewhere. Only
+    /// with [`FabricOptions::register_clocks`] does one end at a register. No tool of this project needs it: it is for users of the library.
+    pub fn clock_class(&self, net: u32) -> Option<u32>
+        requires { net < length self.now.drivers.places }
+        ensures { result ≡ register_class (end_in self.now.ends (class_in self.now.parts.links net)) }
+    {
+        self.clock_end(net).register_class()
+    }
+
+    /// Whether the clock chain from a net of the database ends at an input port or a register and inverts its clock on the way, so that the net
+    /// has the inverse of its value.
     pub fn turned(&self, net: u32) -> bool
         requires { net < length self.now.drivers.places }
         ensures { result ≡ is_turned (end_in self.now.ends (class_in self.now.parts.links net)) }
     {
         match self.clock_end(net) {
-            ClockEnd::Pin { turned, .. } => turned,
+            ClockEnd::Pin { turned, .. } | ClockEnd::Register { turned, .. } => turned,
             ClockEnd::Still(_) | ClockEnd::Logic => false,
         }
     }

@@ -38,7 +38,8 @@ pub enum FabricFault {
         first: Driver,
         second: Driver,
     },
-    /// The class of joined nets `net` lies on this combinational cycle, which begins with it.
+    /// The class of joined nets `net` lies on this cycle, which begins with it. The cycle is a combinational one, or goes by registers that are
+    /// clocks.
     Loop {
         net: u32,
         cycle: Cycle,

@@ -49,12 +49,13 @@ pub fn design(alloc: Global, db: &ChipDb, image: &AnyImage) -> Result<Design, Fa
     ensures refused { IfErr result (IsCause (configuration_of image.now).layout.device (fabric_of (database_in db.now) (configuration_of image.now)) (design_fault no_options (database_in db.now) (configuration_of image.now))) }
     ensures one_value { OnOk result ((state : State) (pins : List Bool) → ExactlyOne (IsConsistent (fabric_of (database_in db.now) (configuration_of image.now)) state pins)) }
     ensures chains { OnOk result ((net : ℕ) → LeadsTo (fabric_of (database_in db.now) (configuration_of image.now)) (class_of (fabric_of (database_in db.now) (configuration_of image.now)).joins net) (clock_end (fabric_of (database_in db.now) (configuration_of image.now)) net)) }
-    ensures clocks { OnOk result ((state : State) (pins v : List Bool) → IsConsistent (fabric_of (database_in db.now) (configuration_of image.now)) state pins v → HasClocks (fabric_of (database_in db.now) (configuration_of image.now)) pins v) }
+    ensures clocks { OnOk result ((state : State) (pins v : List Bool) → IsConsistent (fabric_of (database_in db.now) (configuration_of image.now)) state pins v → HasClocks (fabric_of (database_in db.now) (configuration_of image.now)) state pins v) }
     ensures one_run { OnOk result ((events : List Event) → ExactlyOne (IsRun (fabric_of (database_in db.now) (configuration_of image.now)) events)) }
 {
     let options = FabricOptions {
         lut_inputs: LutInputs::All,
         all_pins: false,
+        register_clocks: false,
     };
     design_with(alloc, db, image, options)
 }
@@ -67,13 +68,19 @@ pub fn design(alloc: Global, db: &ChipDb, image: &AnyImage) -> Result<Design, Fa
 /// If LUTs read only the inputs that they use, a LUT doesn't depend on its other inputs. So more designs are taken, since an input that
 /// isn't used closes no cycle. The values of nets, the runs and the clocks are still those of the fabric whose LUTs read all inputs.
 ///
+/// If registers may be clocks, the clock of a register or RAM port may also come from a register, as that of a divider does: straight, along
+/// links and global networks, or through LUTs that follow one net. It has the value of that register, or the inverse of it. A value that is
+/// computed from a register then also depends on the register that is the clock of that one, if there is one, and comes after it in the write
+/// order. Without such a clock the write order is the same with this option and without it.
+///
 /// # Errors
-/// As for [`design`]. A cycle is one of the fabric with these options.
+/// As for [`design`]. A cycle is one of the fabric with these options: of the logic alone if there is one, else one that also goes by
+/// registers that are clocks.
 ///
 /// # Example
 /// ```ignore
 /// // A cycle through an input that its LUT doesn't use is no cycle here.
-/// let options = FabricOptions { lut_inputs: LutInputs::Used, all_pins: false };
+/// let options = FabricOptions { lut_inputs: LutInputs::Used, all_pins: false, register_clocks: false };
 /// let design = fabric::design_with(alloc, &db, &image, options)?;
 /// for class in design.order() {
 ///     write_wire(*class, design.drive(*class));
@@ -92,7 +99,7 @@ pub fn design_with(
     ensures one_value { OnOk result ((state : State) (pins : List Bool) → ExactlyOne (IsConsistent (fabric_with (reading_all options) (database_in db.now) (configuration_of image.now)) state pins)) }
     ensures chains { OnOk result ((net : ℕ) → LeadsTo (fabric_with (reading_all options) (database_in db.now) (configuration_of image.now)) (class_of (fabric_with (reading_all options) (database_in db.now) (configuration_of image.now)).joins net) (clock_end (fabric_with (reading_all options) (database_in db.now) (configuration_of image.now)) net)) }
     ensures origins { OnOk result ((net : ℕ) → clock_end (fabric_with options (database_in db.now) (configuration_of image.now)) net ≡ clock_end (fabric_with (reading_all options) (database_in db.now) (configuration_of image.now)) net) }
-    ensures clocks { OnOk result ((state : State) (pins v : List Bool) → IsConsistent (fabric_with (reading_all options) (database_in db.now) (configuration_of image.now)) state pins v → HasClocks (fabric_with (reading_all options) (database_in db.now) (configuration_of image.now)) pins v) }
+    ensures clocks { OnOk result ((state : State) (pins v : List Bool) → IsConsistent (fabric_with (reading_all options) (database_in db.now) (configuration_of image.now)) state pins v → HasClocks (fabric_with (reading_all options) (database_in db.now) (configuration_of image.now)) state pins v) }
     ensures one_run { OnOk result ((events : List Event) → ExactlyOne (IsRun (fabric_with (reading_all options) (database_in db.now) (configuration_of image.now)) events)) }
 {
     let parts = parts(alloc, db, image, options)?;

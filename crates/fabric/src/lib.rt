@@ -1,8 +1,9 @@
 //! The design of a database and an image: the configured fabric, with the driver of each class of joined nets, the order in which the
-//! classes are written (a topological order of the combinational logic), and the pins of clocks.
+//! classes are written, and where the clocks come from. The order is a topological one of the combinational logic. If registers may be clocks,
+//! each class also comes after the registers that are clocks of what its value is computed from.
 //!
-//! [`design`] finds it, or the first cause why the two aren't taken. [`design_with`] does the same for LUTs that read all of their inputs,
-//! or only those that they use. The calls of [`Design`] allocate no memory.
+//! [`design`] finds it, or the first cause why the two aren't taken. [`design_with`] does the same with options: which inputs LUTs read,
+//! whether pins of every kind are taken, and whether registers may be clocks. The calls of [`Design`] allocate no memory.
 #![tactic(auto)]
 
 mod cycle;

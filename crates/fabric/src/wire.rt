@@ -8,7 +8,7 @@ ghost use Rattle.ice_image.specs.Bits.{ram_word_of};
 ghost use Rattle.fabric_model.specs.Fabric.{Fabric};
 ghost use Rattle.fabric_model.specs.Tiles.{first_of, each_below};
 ghost use Rattle.graph_order.specs.Wiring.{IsWriteOrder};
-ghost use Rattle.fabric_model.specs.Wiring.{wiring_of};
+ghost use Rattle.fabric_model.specs.Wiring.{clocked_wiring};
 ghost use Rattle.fabric_model.specs.Clocks.{LeadsTo, clock_end};
 ghost use Rattle.fabric_model.specs.Faults.{clock_faults, fabric_fault};
 ghost use Rattle.fabric_model.specs.Joins.{class_of};
@@ -20,7 +20,7 @@ ghost use Rattle.fabric_wiring.specs.Outputs.{output_of};
 ghost use Rattle.fabric.specs.Faults.{HasDriversApart, IsCause};
 
 use crate::fault::FabricFault;
-use crate::order::order;
+use crate::order::{clocked_order, order};
 use crate::words::start_words;
 use chipdb_reader::ChipDb;
 use fabric_wiring::{
@@ -41,7 +41,7 @@ pub(crate) struct Wired {
     pub(crate) words: Vec<u16>,
 }
 
-/// Checks that each clock comes from a pin or is always the same bit. If one doesn't, the error tells the first user of such a clock.
+/// Checks that no clock comes from logic. If one does, the error tells the first user of such a clock.
 fn clocked(device: DeviceName, parts: &Parts, ends: &[ClockEnd]) -> Result<(), FabricFault>
     ghost fabric: { Fabric }
     requires parts { ArePartsOf fabric parts.now }
@@ -74,7 +74,7 @@ pub(crate) fn wire(
     requires apart { HasDriversApart fabric }
     ensures few { OnOk result (fabric.nets ≤ u32.MAX) }
     ensures drivers { IfOk result (λ wired. AreDriversOf fabric wired.drivers) }
-    ensures order { IfOk result (λ wired. IsWriteOrder (wiring_of fabric) wired.order.items) }
+    ensures order { IfOk result (λ wired. IsWriteOrder (clocked_wiring fabric) wired.order.items) }
     ensures ends { IfOk result (λ wired. AreEndsOf fabric wired.ends.items) }
     ensures outputs { IfOk result (λ wired. map output_of wired.outputs.items ≡ outputs_of fabric) }
     ensures words { IfOk result (λ wired. wired.words.items ≡ flat_map (λ ram. each_below 256 (ram_word_of (configuration_of image.now) ram.x ram.y)) parts.now.rams.items) }
@@ -82,8 +82,9 @@ pub(crate) fn wire(
     ensures refused { IfErr result (IsCause db.now.chip.device fabric (fabric_fault db.now.chip.device fabric)) }
 {
     let drivers = drivers(alloc, parts)?;
-    let order = order(alloc, parts, &drivers)?;
-    let ends = clock_ends(alloc, parts, &drivers, &order)?;
+    let unclocked = order(alloc, parts, &drivers)?;
+    let ends = clock_ends(alloc, parts, &drivers, &unclocked)?;
+    let order = clocked_order(alloc, parts, &drivers, &ends, unclocked)?;
     clocked(db.device(), parts, &ends)?;
     Ok(Wired {
         drivers,

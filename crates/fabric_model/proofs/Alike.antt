@@ -1,7 +1,7 @@
 -- Fabrics that are alike: whichever inputs LUTs read, the values of nets, the runs and the clocks are the same.
-use Rattle.std.proofs.Common.{◌≡◌, ℕ, zero, suc, Bool, false, List, [], ◌∷◌, length, map, get_or, replicate, refl, sym, ap, ap₂, ◌∙◌, subst}
-use Rattle.std.specs.Prelude.{filter, flat_map, not, ◌==◌, Option, Some, None, if◌then◌else◌}
-use Rattle.std.specs.List.{AllZip}
+use Rattle.std.proofs.Common.{◌≡◌, ℕ, zero, suc, Bool, false, List, [], ◌∷◌, ◌++◌, length, map, get_or, replicate, refl, sym, ap, ap₂, ◌∙◌, subst}
+use Rattle.std.specs.Prelude.{filter, flat_map, not, ◌&&◌, ◌==◌, is_some, Option, Some, None, if◌then◌else◌}
+use Rattle.std.specs.List.{list_any, AllZip}
 use Rattle.ice_image.specs.Configuration.{Configuration}
 use Rattle.chipdb_reader.specs.Database.{Database}
 use Rattle.chipdb_reader.specs.Fit.{IsFit}
@@ -14,6 +14,7 @@ use Rattle.fabric_model.specs.declared.register.RegisterKind.{RegisterKind}
 use Rattle.fabric_model.specs.declared.register.RegisterKind.TheVariants.{FlipFlop, OfPin}
 use Rattle.fabric_model.specs.declared.register.Register.{Register}
 use Rattle.fabric_model.specs.declared.register.LutTable.{LutTable}
+use Rattle.fabric_model.specs.declared.ram.RamCell.{RamCell}
 use Rattle.fabric_model.specs.Unique.{ExactlyOne}
 use Rattle.fabric_model.specs.Joins.{class_of}
 use Rattle.fabric_model.specs.Cells.{cells_of}
@@ -25,8 +26,11 @@ use Rattle.fabric_model.specs.Outputs.{outputs_of}
 use Rattle.fabric_model.specs.Drivers.{Rule, Drive, drives_if, drives_by, pin_drives, back_drives, lut_drives, flip_driver, lout_drives, carry_drives, set_drives, ram_drives, global_drives, buffer_drives, input_driver, second_driver, data_drives, pad_drives, pll_drives, drives_of, is_driver_of, drivers_of, is_driven}
 use Rattle.fabric_model.specs.Drivers.Rule.{table_entry, register_bit}
 use Rattle.fabric_model.specs.Values.{State, signal_value, lut_value, settled_bit, value_of, bit_in, is_connected, IsConsistent}
-use Rattle.fabric_model.specs.Steps.{next_bit, bit_after, words_after, read_after, has_edge, state_after, settled_state, start_state, output_values, Event, Entry, IsEntry, Follows, FollowEach, IsFirst, IsRun}
-use Rattle.fabric_model.specs.Clocks.{ClockEnd, Turn, turn_through, turn_by, turn_of, turn_at, LeadsTo, end_by, end_within, clock_end}
+use Rattle.fabric_model.specs.Steps.{has_edge, Edges, is_on_register, event_edges, wave_edges, next_bit, bit_after, words_after, read_after, state_after, settled_state, start_state, output_values, Event, Entry, IsEntry, IsFirstStep, IsWave, clocked_users, has_wave, wave_bound, EndsAt, Follows, FollowEach, IsFirst, IsRun}
+use Rattle.fabric_model.specs.Steps.EndsAt.{bound, rests, goes_on as more_waves}
+use Rattle.fabric_model.specs.Clocks.{ClockEnd, Turn, turn_through, turn_by, turn_of, turn_at, LeadsTo, end_by, end_within, clock_end, register_class, clock_class}
+use Rattle.fabric_model.specs.Clocks.ClockEnd.{at_register, logic}
+use Rattle.fabric_model.specs.Clocks.Turn.{ends}
 use Rattle.fabric_model.specs.Clocks.LeadsTo.{ends_here, goes_on}
 use Rattle.fabric_model.specs.Faults.{design_fault}
 use Rattle.fabric_model.proofs.Paired.{pairs-same, pairs-append, pairs-made, pairs-flat_map, pairs-each, pairs-numbered, pairs-give, pairs-length, pairs-any, pairs-filter, pairs-first, pairs-flip}
@@ -47,14 +51,14 @@ pub record RegistersAlike (one two : Register) : Type 0 where
 -- two rules have the same value, and a clock chain does the same at them
 pub record RulesAlike (one two : Rule) : Type 0 where
   pub value : (connected : ℕ → Bool) (state : State) (pins : List Bool) (bit : ℕ → Bool) → value_of connected state pins bit one ≡ value_of connected state pins bit two
-  pub turn : (connected : ℕ → Bool) → turn_by connected one ≡ turn_by connected two
+  pub turn : (connected : ℕ → Bool) (taken : Bool) (class : ℕ) → turn_by connected taken class one ≡ turn_by connected taken class two
 
 pub record DrivesAlike (one two : Drive) : Type 0 where
   pub net : one.net ≡ two.net
   pub rule : RulesAlike one.rule two.rule
 
 rule-itself : (rule : Rule) → RulesAlike rule rule
-rule-itself rule = record { value = λ connected state pins bit. refl; turn = λ connected. refl }
+rule-itself rule = record { value = λ connected state pins bit. refl; turn = λ connected taken class. refl }
 
 drive-itself : (drive : Drive) → DrivesAlike drive drive
 drive-itself drive = record { net = refl; rule = rule-itself drive.rule }
@@ -85,7 +89,7 @@ register_bit-alike one two alike = record {
   value = λ connected state pins bit.
       settled_bit-alike one.1 two.1 alike.1 connected bit (get_or state.bits one.0 false)
       ∙ ap (λ place. settled_bit connected bit two.1 (get_or state.bits place false)) alike.0;
-  turn = λ connected. refl;
+  turn = λ connected taken class. ap (λ place. ends (if taken then at_register class place false else logic)) alike.0;
 }
 
 -- ---- drivers
@@ -135,7 +139,7 @@ table-alike : (one two : LutInputs) (lc : LogicCell) → RulesAlike (table_entry
 unfolding value_of
 table-alike one two lc = record {
   value = λ connected state pins bit. read-value connected state pins bit one lc ∙ sym (read-value connected state pins bit two lc);
-  turn = λ connected. ap turn_through (read-pass connected lc one ∙ sym (read-pass connected lc two));
+  turn = λ connected taken class. ap turn_through (read-pass connected lc one ∙ sym (read-pass connected lc two));
 }
 
 -- ---- a fabric whose LUTs read other inputs
@@ -232,32 +236,32 @@ module _ (fabric : Fabric) (inputs : LutInputs) (registers : List Register) (ali
       ∙ ap (λ connected. settled_bit connected bit two.1 (get_or state.bits two.0 false)) connected-alike)
       (numbered fabric.registers) (numbered registers) (pairs-numbered RegistersAlike 0 fabric.registers registers alike))
 
-  bit_after-alike : (pins : List Bool) (before after : ℕ → Bool) (state : State) (one two : ℕ × Register) → PlacesAlike one two
-      → bit_after (is_connected fabric) pins before after state one ≡ bit_after (is_connected other) pins before after state two
-  bit_after-alike pins before after state one two same =
+  bit_after-alike : (pins : List Bool) (bit : ℕ → Bool) (edges : Edges) (state : State) (one two : ℕ × Register) → PlacesAlike one two
+      → bit_after (is_connected fabric) pins bit edges state one ≡ bit_after (is_connected other) pins bit edges state two
+  bit_after-alike pins bit edges state one two same =
       let bits = state.bits in
-      let edge : has_edge one.1.neg one.1.clk before after ≡ has_edge two.1.neg two.1.clk before after =
-      register-field one.1 two.1 same.1 (λ r. has_edge r.neg r.clk before after) refl in
-      let next = next_bit-alike one.1 two.1 same.1 (is_connected fabric) state pins before (get_or bits one.0 false) in
-      ap (λ edge. if edge then next_bit (is_connected fabric) state pins before one.1 (get_or bits one.0 false) else get_or bits one.0 false) edge
-      ∙ ap (λ next. if has_edge two.1.neg two.1.clk before after then next else get_or bits one.0 false) next
-      ∙ ap (λ place. if has_edge two.1.neg two.1.clk before after then next_bit (is_connected fabric) state pins before two.1 (get_or bits place false) else get_or bits place false) same.0
-      ∙ ap (λ connected. if has_edge two.1.neg two.1.clk before after then next_bit connected state pins before two.1 (get_or bits two.0 false) else get_or bits two.0 false) connected-alike
+      let edge : edges one.1.neg one.1.clk ≡ edges two.1.neg two.1.clk =
+      register-field one.1 two.1 same.1 (λ r. edges r.neg r.clk) refl in
+      let next = next_bit-alike one.1 two.1 same.1 (is_connected fabric) state pins bit (get_or bits one.0 false) in
+      ap (λ edge. if edge then next_bit (is_connected fabric) state pins bit one.1 (get_or bits one.0 false) else get_or bits one.0 false) edge
+      ∙ ap (λ next. if edges two.1.neg two.1.clk then next else get_or bits one.0 false) next
+      ∙ ap (λ place. if edges two.1.neg two.1.clk then next_bit (is_connected fabric) state pins bit two.1 (get_or bits place false) else get_or bits place false) same.0
+      ∙ ap (λ connected. if edges two.1.neg two.1.clk then next_bit connected state pins bit two.1 (get_or bits two.0 false) else get_or bits two.0 false) connected-alike
 
-  abbrev rams_after : State → (ℕ → Bool) → (ℕ → Bool) → List Bool → (ℕ → Bool) → State
-  rams_after state before after bits connected = record {
+  abbrev rams_after : State → (ℕ → Bool) → Edges → List Bool → (ℕ → Bool) → State
+  rams_after state bit edges bits connected = record {
     bits = bits;
-    reads = map (read_after connected before after state) (numbered fabric.rams);
-    words = map (words_after connected before after state) (numbered fabric.rams);
+    reads = map (read_after connected bit edges state) (numbered fabric.rams);
+    words = map (words_after connected bit edges state) (numbered fabric.rams);
   }
 
-  state_after-alike : (pins : List Bool) (state : State) (before after : ℕ → Bool) → state_after fabric pins state before after ≡ state_after other pins state before after
+  state_after-alike : (pins : List Bool) (state : State) (bit : ℕ → Bool) (edges : Edges) → state_after fabric pins state bit edges ≡ state_after other pins state bit edges
   unfolding state_after
-  state_after-alike pins state before after =
-      let bits = pairs-give PlacesAlike (bit_after (is_connected fabric) pins before after state) (bit_after (is_connected other) pins before after state)
-      (bit_after-alike pins before after state)
+  state_after-alike pins state bit edges =
+      let bits = pairs-give PlacesAlike (bit_after (is_connected fabric) pins bit edges state) (bit_after (is_connected other) pins bit edges state)
+      (bit_after-alike pins bit edges state)
       (numbered fabric.registers) (numbered registers) (pairs-numbered RegistersAlike 0 fabric.registers registers alike) in
-      ap₂ (rams_after state before after) bits connected-alike
+      ap₂ (rams_after state bit edges) bits connected-alike
 
   abbrev start_with : ℕ → State
   start_with count = record { bits = replicate count false; reads = replicate (length fabric.rams) (replicate 16 false); words = fabric.start }
@@ -269,18 +273,19 @@ module _ (fabric : Fabric) (inputs : LutInputs) (registers : List Register) (ali
 
   -- ---- clocks
 
-  turn-first : (connected : ℕ → Bool) (one two : List Drive) → AllZip DrivesAlike one two → turn_of connected one ≡ turn_of connected two
-  turn-first connected [] [] same = refl
-  turn-first connected [] (b ∷ two) same = absurd same
-  turn-first connected (a ∷ one) [] same = absurd same
-  turn-first connected (a ∷ one) (b ∷ two) same = same.0.rule.turn connected
+  turn-first : (connected : ℕ → Bool) (taken : Bool) (class : ℕ) (one two : List Drive) → AllZip DrivesAlike one two
+      → turn_of connected taken class one ≡ turn_of connected taken class two
+  turn-first connected taken class [] [] same = refl
+  turn-first connected taken class [] (b ∷ two) same = absurd same
+  turn-first connected taken class (a ∷ one) [] same = absurd same
+  turn-first connected taken class (a ∷ one) (b ∷ two) same = same.0.rule.turn connected taken class
 
   turn-alike : (class : ℕ) → turn_at fabric class ≡ turn_at other class
   unfolding turn_at drivers_of
   turn-alike class =
-      turn-first (is_connected fabric) (drivers_of fabric class) (drivers_of other class)
+      turn-first (is_connected fabric) fabric.register_clocks class (drivers_of fabric class) (drivers_of other class)
       (pairs-filter DrivesAlike (is_driver_of fabric class) (is_driver_of other class) (is_driver-alike class) (drives_of fabric) (drives_of other) drives-alike)
-      ∙ ap (λ connected. turn_of connected (drivers_of other class)) connected-alike
+      ∙ ap (λ connected. turn_of connected fabric.register_clocks class (drivers_of other class)) connected-alike
 
   end_within-alike : (count class : ℕ) → end_within fabric count class ≡ end_within other count class
   unfolding end_within
@@ -291,6 +296,19 @@ module _ (fabric : Fabric) (inputs : LutInputs) (registers : List Register) (ali
   pub clock_end-alike : (net : ℕ) → clock_end fabric net ≡ clock_end other net
   unfolding clock_end
   clock_end-alike net = end_within-alike (suc fabric.nets) (class_of fabric.joins net)
+
+  -- the registers that are clocks are the same
+  pub clock_class-alike : (net : Option ℕ) → clock_class fabric net ≡ clock_class other net
+  unfolding clock_class
+  clock_class-alike None = refl
+  clock_class-alike (Some net) = ap register_class (clock_end-alike net)
+
+  -- and so are the users of clocks
+  users-alike : clocked_users fabric ≡ clocked_users other
+  users-alike =
+      ap (λ registers. registers ++ flat_map (λ (ram : RamCell). (ram.rneg, ram.rclk) ∷ (ram.wneg, ram.wclk) ∷ []) fabric.rams)
+      (pairs-give RegistersAlike (λ (register : Register). (register.neg, register.clk)) (λ (register : Register). (register.neg, register.clk))
+      (λ one two same. register-field one two same (λ (register : Register). (register.neg, register.clk)) refl) fabric.registers registers alike)
 
   leads-alike : {class : ℕ} {end : ClockEnd} → LeadsTo fabric class end → LeadsTo other class end
   leads-alike {class} {end} (ends_here turns) = ends_here (sym (turn-alike class) ∙ turns)
@@ -303,24 +321,72 @@ pub record Agree (one two : Fabric) : Type 0 where
   pub consistent : (state : State) (pins v : List Bool) → IsConsistent one state pins v → IsConsistent two state pins v
   pub outputs : (state : State) (pins v : List Bool) → output_values one state pins v ≡ output_values two state pins v
   pub settled : (bit : ℕ → Bool) (state : State) → settled_state one bit state ≡ settled_state two bit state
-  pub after : (pins : List Bool) (state : State) (before after : ℕ → Bool) → state_after one pins state before after ≡ state_after two pins state before after
+  pub after : (pins : List Bool) (state : State) (bit : ℕ → Bool) (edges : Edges) → state_after one pins state bit edges ≡ state_after two pins state bit edges
   pub start : start_state one ≡ start_state two
   pub inputs : inputs_of one ≡ inputs_of two
+  pub clocks : (net : Option ℕ) → clock_class one net ≡ clock_class two net
+  pub users : clocked_users one ≡ clocked_users two
 
 module _ (one two : Fabric) (agree : Agree one two) where
-  entry-moved : (entry : Entry) → IsEntry one entry → IsEntry two entry
+  pub entry-moved : (entry : Entry) → IsEntry one entry → IsEntry two entry
   entry-moved entry is = record {
     consistent = agree.consistent entry.state entry.pins entry.v is.consistent;
     outputs = is.outputs ∙ agree.outputs entry.state entry.pins entry.v;
   }
 
-  follows-moved : (before : Entry) (event : Event) (after : Entry) → Follows one before event after → Follows two before event after
-  follows-moved before event after is = record {
+  event_edges-moved : (before after : ℕ → Bool) → event_edges one before after ≡ event_edges two before after
+  event_edges-moved before after = λ i inverted net. not (is_some (agree.clocks net i)) && has_edge inverted net before after
+
+  wave_edges-moved : (before after : ℕ → Bool) → wave_edges one before after ≡ wave_edges two before after
+  wave_edges-moved before after = λ i inverted net. is_some (agree.clocks net i) && has_edge inverted net before after
+
+  -- the same waves come, and as many at most
+  pub has_wave-moved : (earlier before : Entry) → has_wave one earlier before ≡ has_wave two earlier before
+  has_wave-moved earlier before =
+      ap (λ (edges : Edges). list_any (λ user. edges user.0 user.1) (clocked_users one)) (wave_edges-moved (bit_in earlier.v) (bit_in before.v))
+      ∙ ap (list_any (λ user. wave_edges two (bit_in earlier.v) (bit_in before.v) user.0 user.1)) agree.users
+
+  pub wave_bound-moved : wave_bound one ≡ wave_bound two
+  wave_bound-moved =
+      ap (λ (clocks : Option ℕ → Option ℕ). length (filter (λ user. is_some (clocks user.1)) (clocked_users one))) (λ i net. agree.clocks net i)
+      ∙ ap (λ users. length (filter (λ user. is_on_register two user.1) users)) agree.users
+
+  -- what a state settles to after users with an edge changed
+  after-moved : (pins : List Bool) (state : State) (bit settles : ℕ → Bool) (first second : Edges) → first ≡ second
+      → settled_state one settles (state_after one pins state bit first) ≡ settled_state two settles (state_after two pins state bit second)
+  after-moved pins state bit settles first second same =
+      agree.settled settles (state_after one pins state bit first)
+      ∙ ap (settled_state two settles) (agree.after pins state bit first ∙ ap (state_after two pins state bit) same)
+
+  step-moved : (before : Entry) (event : Event) (after : Entry) → IsFirstStep one before event after → IsFirstStep two before event after
+  step-moved before event after is = record {
     entry = entry-moved after is.entry;
     pins = is.pins;
-    state = is.state
-        ∙ agree.settled (bit_in after.v) (state_after one before.pins before.state (bit_in before.v) (bit_in after.v))
-        ∙ ap (settled_state two (bit_in after.v)) (agree.after before.pins before.state (bit_in before.v) (bit_in after.v));
+    state = is.state ∙ after-moved before.pins before.state (bit_in before.v) (bit_in after.v) _ _ (event_edges-moved (bit_in before.v) (bit_in after.v));
+  }
+
+  wave-moved : (earlier before after : Entry) → IsWave one earlier before after → IsWave two earlier before after
+  wave-moved earlier before after is = record {
+    entry = entry-moved after is.entry;
+    pins = is.pins;
+    state = is.state ∙ after-moved before.pins before.state (bit_in before.v) (bit_in after.v) _ _ (wave_edges-moved (bit_in earlier.v) (bit_in before.v));
+  }
+
+  pub ends-moved : {more : ℕ} {earlier before prior last : Entry} → EndsAt one more earlier before prior last → EndsAt two more earlier before prior last
+  ends-moved bound = bound
+  ends-moved {earlier} {before} (rests still) = rests (sym (has_wave-moved earlier before) ∙ still)
+  ends-moved {earlier} {before} (more_waves next comes wave more) =
+      more_waves next (sym (has_wave-moved earlier before) ∙ comes) (wave-moved earlier before next wave) (ends-moved more)
+
+  pub waves-moved : {earlier before prior last : Entry} → EndsAt one (wave_bound one) earlier before prior last → EndsAt two (wave_bound two) earlier before prior last
+  waves-moved {earlier} {before} {prior} {last} waves = subst (λ n. EndsAt two n earlier before prior last) wave_bound-moved (ends-moved waves)
+
+  follows-moved : (before : Entry) (event : Event) (after : Entry) → Follows one before event after → Follows two before event after
+  follows-moved before event after is = record {
+    first = is.first;
+    prior = is.prior;
+    first_step = step-moved before event is.first is.first_step;
+    waves = waves-moved is.waves;
   }
 
   first-moved : (entry : Entry) → IsFirst one entry → IsFirst two entry
@@ -350,6 +416,8 @@ module _ (fabric : Fabric) (inputs : LutInputs) (registers : List Register) (ali
     after = state_after-alike fabric inputs registers alike;
     start = start-alike fabric inputs registers alike;
     inputs = refl;
+    clocks = clock_class-alike fabric inputs registers alike;
+    users = users-alike fabric inputs registers alike;
   }
 
   agree-back : Agree (record fabric { lut_inputs = inputs; registers = registers }) fabric
@@ -357,9 +425,11 @@ module _ (fabric : Fabric) (inputs : LutInputs) (registers : List Register) (ali
     consistent = consistent-back fabric inputs registers alike;
     outputs = λ state pins v. sym (output_values-alike fabric inputs registers alike state pins v);
     settled = λ bit state. sym (settled_state-alike fabric inputs registers alike bit state);
-    after = λ pins state before after. sym (state_after-alike fabric inputs registers alike pins state before after);
+    after = λ pins state bit edges. sym (state_after-alike fabric inputs registers alike pins state bit edges);
     start = sym (start-alike fabric inputs registers alike);
     inputs = refl;
+    clocks = λ net. sym (clock_class-alike fabric inputs registers alike net);
+    users = sym (users-alike fabric inputs registers alike);
   }
 
 -- ---- the fabrics of a database and an image
@@ -388,7 +458,7 @@ module _ (options : FabricOptions) (db : Database) (image : Configuration) where
   unfolding fabric_with
   in-all P holds = holds
 
-  to-all : Agree (fabric_with options db image) whole
+  pub to-all : Agree (fabric_with options db image) whole
   to-all = in-all (λ all. Agree (fabric_with options db image) all) (agree-other (fabric_with options db image) read.All whole.registers registers-alike)
 
   pub from-all : Agree whole (fabric_with options db image)
@@ -410,6 +480,11 @@ module _ (options : FabricOptions) (db : Database) (image : Configuration) where
   clock_end-with net =
       in-all (λ all. clock_end (fabric_with options db image) net ≡ clock_end all net)
       (clock_end-alike (fabric_with options db image) read.All whole.registers registers-alike net)
+
+  pub clock_class-with : (net : Option ℕ) → clock_class (fabric_with options db image) net ≡ clock_class whole net
+  clock_class-with net =
+      in-all (λ all. clock_class (fabric_with options db image) net ≡ clock_class all net)
+      (clock_class-alike (fabric_with options db image) read.All whole.registers registers-alike net)
 
   pub leads-with : (class : ℕ) (end : ClockEnd) → LeadsTo (fabric_with options db image) class end → LeadsTo whole class end
   leads-with class end =

@@ -1,5 +1,5 @@
 -- The value of each driver looks at no other nets than those that it reads.
-use Rattle.std.proofs.Common.{◌≡◌, ℕ, zero, suc, Bool, true, false, List, [], ◌∷◌, ◌++◌, map, get_or, refl, subst, inl, inr}
+use Rattle.std.proofs.Common.{◌≡◌, ℕ, zero, suc, Bool, true, false, List, [], ◌∷◌, ◌++◌, map, get_or, refl, subst, ◌⊎◌, inl, inr}
 use Rattle.std.specs.Prelude.{flat_map, option_to_list, Option, Some, None}
 use Rattle.std.proofs.lemmas.Bool.{cases_Bool}
 use Rattle.fabric_model.specs.declared.signal.Signal.{Signal}
@@ -26,6 +26,15 @@ has-left (head ∷ first) second n found =
 pub has-right : (first second : List ℕ) (n : ℕ) → has second n ≡ true → has (first ++ second) n ≡ true
 has-right [] second n found = found
 has-right (head ∷ first) second n found = has-after head (first ++ second) n (has-right first second n found)
+
+-- what is in a joined list is in one of the two
+pub has-either : (first second : List ℕ) (n : ℕ) → has (first ++ second) n ≡ true → (has first n ≡ true) ⊎ (has second n ≡ true)
+has-either [] second n found = inr found
+has-either (head ∷ first) second n found =
+    elim (has-cases head (first ++ second) n found) [
+      | inl here ↦ inl (subst (λ k. has (head ∷ first) k ≡ true) here (has-first head first))
+      | inr after ↦ elim (has-either first second n after) [ inl of_first ↦ inl (has-after head first n of_first) | inr of_second ↦ inr of_second ]
+    ]
 
 pub has-map : (change : ℕ → ℕ) (list : List ℕ) (n : ℕ) → has list n ≡ true → has (map change list) (change n) ≡ true
 has-map change [] n found = absurd (has-none n found)

@@ -15,6 +15,8 @@ pub mod Taken
 pub mod ClockLuts
 -- the flags of inputs that can be 1 say which entries can occur
 pub mod ClockPasses
+-- wirings in which each class reads at least what it reads without a clock
+pub mod Clocking
 -- clock chains: the search finds the end of a chain, and a net has the value of the end of its chain
 pub mod Chains
 -- the fabric of a database whose lines name nets of the device has no net past their number
@@ -25,6 +27,12 @@ pub mod Contained
 pub mod Signals
 -- how a state settles: to settle twice is to settle once, and the values of nets don't see it
 pub mod Settling
+-- how many items of a list pass a test
+pub mod Counted
+-- edges: a net that keeps its bit has none, and the next state looks at those of users alone
+pub mod Edges
+-- what holds after an event: through its first step and its waves
+pub mod Events
 -- a fabric without a fault has exactly one run for each list of events
 pub mod Runs
 -- a used RAM in a narrow mode works as a memory of narrow words
@@ -45,8 +53,12 @@ pub mod Laws
 pub mod InOrder
 -- two lists whose items are alike, place by place
 pub mod Paired
+-- values of drivers are kept where no clock of what they are computed from has an edge
+pub mod Kept
 -- whichever inputs LUTs read, values, runs and clocks are the same
 pub mod Alike
+-- no wave is cut
+pub mod Uncut
 -- entries of LUTs by the bits of their words
 pub mod Entries
 -- the value of a LUT doesn't depend on an input that the LUT doesn't use

@@ -27,11 +27,12 @@ use Rattle.fabric_model.specs.Tiles.{over_grid}
 use Rattle.fabric_model.specs.Rams.{data_bit, is_ram_used, ram_at, rams_of, over_rams, start_word, start_words}
 use Rattle.fabric_model.specs.Fabric.{Fabric, fabric_of, fabric_with, numbered_from, numbered}
 use Rattle.fabric_model.specs.Values.{State, input_or_0, input_or_1, bit_in, is_connected}
-use Rattle.fabric_model.specs.Steps.{has_edge, word_address, high_part, word_at, bit_of_word, masked_bit, written_data, written, shown, next_words, next_register, words_after, read_after, state_after, settled_state, Event, Entry, Follows, IsFirst, FollowEach}
+use Rattle.fabric_model.specs.Steps.{has_edge, Edges, event_edges, word_address, high_part, word_at, bit_of_word, masked_bit, written_data, written, shown, next_words, next_register, words_after, read_after, state_after, settled_state, Event, Entry, IsFirstStep, Follows, IsFirst, FollowEach}
 use Rattle.fabric_model.specs.NarrowMemories.{narrow_in, narrow_address, port_place, given_bit, AreWords, words_in, read_in, WritesNarrow, ReadsNarrow, KeepsRead, IsNarrowMemory, EachStep, RamsAreMemories}
 use Rattle.fabric_model.proofs.OneValue.{each_below-length}
 use Rattle.fabric_model.proofs.Within.{All-if, All-single, All-over_tiles, All-numbered}
 use Rattle.fabric_model.proofs.Settling.{numbered-read}
+use Rattle.fabric_model.proofs.Events.{none-on_register, follows-alone}
 
 -- ---- bits of narrow words in a word
 
@@ -329,9 +330,14 @@ module _ (db : Database) (image : Configuration) where
     count = over_rams-length (start_words image) (ram_at db image);
   }
 
+  -- without options no register is a clock
+  registers-alone : (fabric_of db image).register_clocks ≡ false
+  unfolding fabric_with
+  registers-alone = refl
+
 -- ---- events
 
-module _ (fabric : Fabric) (rams : All IsRam fabric.rams) where
+module _ (fabric : Fabric) (rams : All IsRam fabric.rams) (alone : fabric.register_clocks ≡ false) where
   abbrev connected : ℕ → Bool
   connected = is_connected fabric
 
@@ -349,38 +355,46 @@ module _ (fabric : Fabric) (rams : All IsRam fabric.rams) where
     abbrev bits_before : ℕ → Bool
     bits_before = bit_in before.v
 
-    abbrev bits_after : ℕ → Bool
-    bits_after = bit_in after.v
+    -- who has an edge
+    abbrev edges : Edges
+    edges = event_edges fabric bits_before (bit_in after.v)
 
-    words-are : after.state.words ≡ map (words_after connected bits_before bits_after before.state) (numbered fabric.rams)
-    unfolding settled_state state_after
-    words-are = ap (λ (state : State). state.words) follows.state
+    -- it is whoever's clock has one, since no register is a clock
+    edges-are : (inverted : Bool) (net : Option ℕ) → edges inverted net ≡ has_edge inverted net bits_before (bit_in after.v)
+    edges-are inverted net = rw (none-on_register fabric alone net) refl
 
-    reads-are : after.state.reads ≡ map (read_after connected bits_before bits_after before.state) (numbered fabric.rams)
+    step : IsFirstStep fabric before event after
+    step = follows-alone fabric alone before event after follows
+
+    words-are : after.state.words ≡ map (words_after connected bits_before edges before.state) (numbered fabric.rams)
     unfolding settled_state state_after
-    reads-are = ap (λ (state : State). state.reads) follows.state
+    words-are = ap (λ (state : State). state.words) step.state
+
+    reads-are : after.state.reads ≡ map (read_after connected bits_before edges before.state) (numbered fabric.rams)
+    unfolding settled_state state_after
+    reads-are = ap (λ (state : State). state.reads) step.state
 
     words-at : (place : ℕ × RamCell) → Contains (numbered fabric.rams) place
-        → words_in after.state place.0 ≡ words_after connected bits_before bits_after before.state place
+        → words_in after.state place.0 ≡ words_after connected bits_before edges before.state place
     words-at place there =
-        ap (λ words. get_or words place.0 []) words-are ∙ numbered-read (words_after connected bits_before bits_after before.state) [] fabric.rams place there
+        ap (λ words. get_or words place.0 []) words-are ∙ numbered-read (words_after connected bits_before edges before.state) [] fabric.rams place there
 
     read-at : (place : ℕ × RamCell) → Contains (numbered fabric.rams) place
-        → read_in after.state place.0 ≡ read_after connected bits_before bits_after before.state place
+        → read_in after.state place.0 ≡ read_after connected bits_before edges before.state place
     read-at place there =
-        ap (λ reads. get_or reads place.0 []) reads-are ∙ numbered-read (read_after connected bits_before bits_after before.state) [] fabric.rams place there
+        ap (λ reads. get_or reads place.0 []) reads-are ∙ numbered-read (read_after connected bits_before edges before.state) [] fabric.rams place there
 
-    words-stay : (place : ℕ × RamCell) → Contains (numbered fabric.rams) place → AreWords (words_after connected bits_before bits_after before.state place)
+    words-stay : (place : ℕ × RamCell) → Contains (numbered fabric.rams) place → AreWords (words_after connected bits_before edges before.state place)
     words-stay place there =
         let are = place-words before.state has place there in
-        elim (cases_Bool (has_edge place.1.wneg place.1.wclk bits_before bits_after)) [
+        elim (cases_Bool (edges place.1.wneg place.1.wclk)) [
           | inl edge ↦ rw edge (next-words connected bits_before place.1 (words_in before.state place.0) are)
           | inr still ↦ rw still are
         ]
 
     has-after : HasWords fabric after.state.words
     has-after =
-        let next = words_after connected bits_before bits_after before.state in
+        let next = words_after connected bits_before edges before.state in
         let all : All AreWords (map next (numbered fabric.rams)) =
         All-map AreWords next (numbered fabric.rams) (each-of (λ place. AreWords (next place)) (numbered fabric.rams) words-stay) in
         record {
@@ -393,7 +407,7 @@ module _ (fabric : Fabric) (rams : All IsRam fabric.rams) where
         let ram = place.1 in
         let words = words_in before.state place.0 in
         let is = place-is place there in
-        let at : words_after connected bits_before bits_after before.state place ≡ next_words connected bits_before ram words = rw edge refl in
+        let at : words_after connected bits_before edges before.state place ≡ next_words connected bits_before ram words = rw (edges-are ram.wneg ram.wclk, edge) refl in
         ap (λ now. narrow_in ram.write now address d) (words-at place there ∙ at ∙ words-written connected bits_before ram words clocked enabled)
         ∙ written-bit connected bits_before ram words (place-words before.state has place there) narrow is.write is.waddr address d inside short
 
@@ -403,7 +417,7 @@ module _ (fabric : Fabric) (rams : All IsRam fabric.rams) where
         let words = words_in before.state place.0 in
         let register = read_in before.state place.0 in
         let is = place-is place there in
-        let at : read_after connected bits_before bits_after before.state place ≡ next_register connected bits_before ram words register = rw edge refl in
+        let at : read_after connected bits_before edges before.state place ≡ next_register connected bits_before ram words register = rw (edges-are ram.rneg ram.rclk, edge) refl in
         ap (λ now. get_or now (share ram.read * d) false) (read-at place there ∙ at ∙ register-read connected bits_before ram words register clocked enabled)
         ∙ shown-bit connected bits_before ram words d narrow is.read is.raddr short
 
@@ -412,7 +426,7 @@ module _ (fabric : Fabric) (rams : All IsRam fabric.rams) where
         let ram = place.1 in
         let words = words_in before.state place.0 in
         let register = read_in before.state place.0 in
-        let at : read_after connected bits_before bits_after before.state place ≡ next_register connected bits_before ram words register = rw edge refl in
+        let at : read_after connected bits_before edges before.state place ≡ next_register connected bits_before ram words register = rw (edges-are ram.rneg ram.rclk, edge) refl in
         read-at place there ∙ at ∙ register-kept connected bits_before ram words register off
 
     memories : All (IsNarrowMemory fabric before after) (numbered fabric.rams)
@@ -446,4 +460,5 @@ pub narrow-memories : (db : Database) (image : Configuration) → RamsAreMemorie
 narrow-memories db image events first entries run =
     let fabric = fabric_of db image in
     let rams = rams-are db image in
-    each-step fabric rams events first entries (first-has fabric rams (start-has db image) first run.0) run.1
+    let alone = registers-alone db image in
+    each-step fabric rams alone events first entries (first-has fabric rams alone (start-has db image) first run.0) run.1

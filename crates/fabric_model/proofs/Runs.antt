@@ -1,12 +1,13 @@
--- A fabric without a fault has exactly one run for each list of events. Whether a clock has an edge depends on the pins alone;
--- so the next state is known before the values of the nets after the event are.
-use Rattle.std.proofs.Common.{◌≡◌, ℕ, zero, suc, ◌<◌, Bool, true, false, List, [], ◌∷◌, length, map, get_or, set, replicate, refl, sym, ap, ◌∙◌, subst, arith}
-use Rattle.std.specs.Prelude.{All, Contains, Option, Some, None, filter, flat_map, ◌&&◌, ◌==◌}
+-- A fabric without a fault has exactly one run for each list of events. Whether a clock that no register is has an edge depends on the pins
+-- alone, and the edges of a wave are those between two entries before it; so the next state is known before the values of the nets after
+-- it are.
+use Rattle.std.proofs.Common.{◌≡◌, ℕ, zero, suc, ◌<◌, Bool, true, false, List, [], ◌∷◌, length, map, get_or, set, replicate, refl, sym, ap, ◌∙◌, subst, arith, inl, inr}
+use Rattle.std.specs.Prelude.{All, Contains, Option, Some, None, is_some, filter, flat_map, ◌&&◌, ◌==◌}
 use Rattle.std.specs.List.{AllByRecursion}
-use Rattle.std.proofs.lemmas.Bool.{and_from}
+use Rattle.std.proofs.lemmas.Bool.{cases_Bool, and_from}
 use Rattle.std.proofs.Common.{eq-eqb}
 use Rattle.std.proofs.lemmas.List.Elements.{All-append, All-filter, All-contains, All-contains_itself, All-map, All-weaker, Contains-append_left, Contains-append_right}
-use Rattle.shared_lemmas.proofs.Lists.{append_empty, map-same}
+use Rattle.shared_lemmas.proofs.Lists.{append_empty}
 use Rattle.index_search.proofs.Gathered.{All-gathered_below, Contains-gathered_below}
 use Rattle.plane_map.specs.declared.device.DeviceName.{DeviceName}
 use Rattle.plane_map.specs.declared.tile.TileKind.TheVariants.{Io, Logic, RamB}
@@ -29,11 +30,12 @@ use Rattle.fabric_model.specs.Rams.{is_ram_used, ram_at, rams_of}
 use Rattle.fabric_model.specs.Pins.{PinPlace, pin_places, pin_with, port_at, pins_of}
 use Rattle.fabric_model.specs.Fabric.{Fabric, numbered, inputs_of, fabric_with}
 use Rattle.fabric_model.specs.Registers.{register_of, flips_among, registers_of, registers_in, pin_register, pin_registers_of}
-use Rattle.fabric_model.specs.Values.{State, bit_in, is_connected, IsConsistent}
-use Rattle.fabric_model.specs.Steps.{has_edge, bit_after, words_after, read_after, state_after, settled_state, Event, Entry, output_values, IsEntry, Follows, start_state, IsFirst, FollowEach, IsRun}
+use Rattle.fabric_model.specs.Values.{State, bit_in, IsConsistent}
+use Rattle.fabric_model.specs.Steps.{Edges, is_on_register, event_edges, wave_edges, state_after, settled_state, Event, Entry, output_values, IsEntry, IsFirstStep, IsWave, has_wave, wave_bound, EndsAt, Follows, start_state, IsFirst, FollowEach, IsRun}
+use Rattle.fabric_model.specs.Steps.EndsAt.{bound, rests, goes_on}
 use Rattle.fabric_model.specs.ClockLuts.{turned_bit}
-use Rattle.fabric_model.specs.Clocks.{ClockEnd, User, register_user, ram_users, users_at, users_of, clock_end}
-use Rattle.fabric_model.specs.Clocks.ClockEnd.{at_pin, still, logic}
+use Rattle.fabric_model.specs.Clocks.{ClockEnd, User, register_user, ram_users, users_at, users_of, clock_end, register_class, clock_class}
+use Rattle.fabric_model.specs.Clocks.ClockEnd.{at_pin, at_register, still, logic}
 use Rattle.fabric_model.specs.Faults.{end_fault, user_fault, clock_faults, fabric_fault}
 use Rattle.fabric_model.proofs.Apart.{All-every}
 use Rattle.fabric_model.proofs.Contained.{contains-map, contains-flat_map}
@@ -41,7 +43,9 @@ use Rattle.fabric_model.proofs.OneValue.{IsWithin, filter-has}
 use Rattle.fabric_model.proofs.Taken.{taken-order, taken-value, taken-clocks}
 use Rattle.fabric_model.proofs.Chains.{clock_end-leads, HasEndValue, clock-value}
 use Rattle.fabric_model.proofs.Within.{All-flat_map, All-item_if, All-if, All-single, All-over_tiles, All-numbered}
-use Rattle.fabric_model.proofs.Settling.{settled-twice, consistent-settled, consistent-unsettled}
+use Rattle.fabric_model.proofs.Settling.{consistent-settled, consistent-unsettled}
+use Rattle.fabric_model.proofs.Edges.{EdgesAgree, state-same}
+use Rattle.fabric_model.proofs.Events.{first-settled, follows-entry, follows-settled}
 
 -- ---- lists
 
@@ -158,6 +162,59 @@ module _ (db : Database) (image : Configuration) where
         rams = rams-placed;
       }
 
+-- ---- the bits of clocks
+
+-- the bit of the end of a chain
+abbrev pub end_bit : State → List Bool → ClockEnd → Bool
+end_bit state pins (at_pin place turned) = turned_bit turned (get_or pins place false)
+end_bit state pins (at_register class place turned) = turned_bit turned (get_or state.bits place false)
+end_bit state pins (still bit) = bit
+end_bit state pins logic = false
+
+-- the bit that the state and the pins give a clock net
+pub clock_bit : Fabric → State → List Bool → ℕ → Bool
+clock_bit fabric state pins net = end_bit state pins (clock_end fabric net)
+
+pub clock_bit-is : (fabric : Fabric) (state : State) (pins : List Bool) (net : ℕ) → clock_bit fabric state pins net ≡ end_bit state pins (clock_end fabric net)
+unfolding clock_bit
+clock_bit-is fabric state pins net = refl
+
+-- an end that a clock of a user may have
+abbrev pub IsClockEnd : ClockEnd → Type 0
+IsClockEnd (at_pin place turned) = Unit {0}
+IsClockEnd (at_register class place turned) = Unit {0}
+IsClockEnd (still bit) = Unit {0}
+IsClockEnd logic = ⊥
+
+module _ (fabric : Fabric) (state : State) (pins v : List Bool) where
+  end-value : (end : ClockEnd) (bit : Bool) → settled_state fabric (bit_in v) state ≡ state → IsClockEnd end → HasEndValue fabric state pins v end bit → bit ≡ end_bit state pins end
+  end-value (at_pin place turned) bit settles good has = has
+  end-value (at_register class place turned) bit settles good has = has settles
+  end-value (still it) bit settles good has = has
+  end-value logic bit settles good has = absurd good
+
+  -- an end that is no register has a bit that no state gives
+  pin-value : (other : State) (end : ClockEnd) (bit : Bool) → is_some (register_class end) ≡ false → IsClockEnd end → HasEndValue fabric state pins v end bit → bit ≡ end_bit other pins end
+  pin-value other (at_pin place turned) bit away good has = has
+  pin-value other (at_register class place turned) bit away good has = absurd cc
+  pin-value other (still it) bit away good has = has
+  pin-value other logic bit away good has = absurd good
+
+end-good : (user : User) (net : ℕ) (end : ClockEnd) → end_fault user net end ≡ [] → IsClockEnd end
+end-good user net (at_pin place turned) none = tt
+end-good user net (at_register class place turned) none = tt
+end-good user net (still bit) none = tt
+end-good user net logic none = absurd cc
+
+-- a clock net that may be missing has such an end
+abbrev pub IsClocked : Fabric → Option ℕ → Type 0
+IsClocked fabric None = Unit {0}
+IsClocked fabric (Some net) = IsClockEnd (clock_end fabric net)
+
+user-good : (fabric : Fabric) (user : User) (net : Option ℕ) → user_fault fabric user net ≡ [] → IsClocked fabric net
+user-good fabric user None none = tt
+user-good fabric user (Some net) none = end-good user net (clock_end fabric net) none
+
 -- ---- clocks that agree
 
 -- two lists of bits agree at a net that may be missing
@@ -170,87 +227,6 @@ pub record ClocksAgree (fabric : Fabric) (one two : ℕ → Bool) : Type 0 where
   pub registers : All (λ register. AgreeAt one two register.clk) fabric.registers
   pub reads : All (λ ram. AgreeAt one two ram.rclk) fabric.rams
   pub writes : All (λ ram. AgreeAt one two ram.wclk) fabric.rams
-
-module _ (before one two : ℕ → Bool) where
-  edge-same : (inverted : Bool) (clock : Option ℕ) → AgreeAt one two clock → has_edge inverted clock before one ≡ has_edge inverted clock before two
-  edge-same inverted None agree = refl
-  edge-same inverted (Some net) agree = rw agree refl
-
-  module _ (connected : ℕ → Bool) where
-    bit-same : (pins : List Bool) (state : State) (place : ℕ × Register) → AgreeAt one two place.1.clk
-        → bit_after connected pins before one state place ≡ bit_after connected pins before two state place
-    bit-same pins state place agree = rw (edge-same place.1.neg place.1.clk agree) refl
-
-    words-same : (state : State) (place : ℕ × RamCell) → AgreeAt one two place.1.wclk
-        → words_after connected before one state place ≡ words_after connected before two state place
-    words-same state place agree = rw (edge-same place.1.wneg place.1.wclk agree) refl
-
-    read-same : (state : State) (place : ℕ × RamCell) → AgreeAt one two place.1.rclk
-        → read_after connected before one state place ≡ read_after connected before two state place
-    read-same state place agree = rw (edge-same place.1.rneg place.1.rclk agree) refl
-
-  -- what is made of parts with their places is the same where it is so for parts whose clocks agree
-  each-same : {A B : Type 0} (clock : A → Option ℕ) (first second : ℕ × A → B) → ((place : ℕ × A) → AgreeAt one two (clock place.1) → first place ≡ second place)
-      → (parts : List A) → All (λ part. AgreeAt one two (clock part)) parts → map first (numbered parts) ≡ map second (numbered parts)
-  each-same {A} clock first second same parts agree =
-      map-same first second (numbered parts)
-      (All-weaker (λ (place : ℕ × A). AgreeAt one two (clock place.1)) (λ (place : ℕ × A). first place ≡ second place)
-      same (numbered parts) (All-numbered (λ part. AgreeAt one two (clock part)) 0 parts agree))
-
-  -- the next state looks at the bits after the event at clock nets alone
-  pub state-same : (fabric : Fabric) (pins : List Bool) (state : State) → ClocksAgree fabric one two
-      → state_after fabric pins state before one ≡ state_after fabric pins state before two
-  unfolding state_after
-  state-same fabric pins state agree =
-      let connected = is_connected fabric in
-      let bits = each-same (λ register. register.clk) (bit_after connected pins before one state) (bit_after connected pins before two state)
-      (bit-same connected pins state) fabric.registers agree.registers in
-      let reads = each-same (λ ram. ram.rclk) (read_after connected before one state) (read_after connected before two state)
-      (read-same connected state) fabric.rams agree.reads in
-      let words = each-same (λ ram. ram.wclk) (words_after connected before one state) (words_after connected before two state)
-      (words-same connected state) fabric.rams agree.writes in
-      rw (bits, reads, words) refl
-
--- ---- the bits of clocks
-
--- the bit of the end of a chain
-abbrev pub end_bit : List Bool → ClockEnd → Bool
-end_bit pins (at_pin place turned) = turned_bit turned (get_or pins place false)
-end_bit pins (still bit) = bit
-end_bit pins logic = false
-
--- the bit that the pins give a clock net
-pub clock_bit : Fabric → List Bool → ℕ → Bool
-clock_bit fabric pins net = end_bit pins (clock_end fabric net)
-
-pub clock_bit-is : (fabric : Fabric) (pins : List Bool) (net : ℕ) → clock_bit fabric pins net ≡ end_bit pins (clock_end fabric net)
-unfolding clock_bit
-clock_bit-is fabric pins net = refl
-
--- an end that a clock of a user may have
-abbrev pub IsClockEnd : ClockEnd → Type 0
-IsClockEnd (at_pin place turned) = Unit {0}
-IsClockEnd (still bit) = Unit {0}
-IsClockEnd logic = ⊥
-
-end-value : (pins : List Bool) (end : ClockEnd) (bit : Bool) → IsClockEnd end → HasEndValue pins end bit → bit ≡ end_bit pins end
-end-value pins (at_pin place turned) bit good has = has
-end-value pins (still it) bit good has = has
-end-value pins logic bit good has = absurd good
-
-end-good : (user : User) (net : ℕ) (end : ClockEnd) → end_fault user net end ≡ [] → IsClockEnd end
-end-good user net (at_pin place turned) none = tt
-end-good user net (still bit) none = tt
-end-good user net logic none = absurd cc
-
--- a clock net that may be missing has such an end
-abbrev pub IsClocked : Fabric → Option ℕ → Type 0
-IsClocked fabric None = Unit {0}
-IsClocked fabric (Some net) = IsClockEnd (clock_end fabric net)
-
-user-good : (fabric : Fabric) (user : User) (net : Option ℕ) → user_fault fabric user net ≡ [] → IsClocked fabric net
-user-good fabric user None none = tt
-user-good fabric user (Some net) none = end-good user net (clock_end fabric net) none
 
 module _ (device : DeviceName) (fabric : Fabric) (taken : fabric_fault device fabric ≡ None) (placed : IsPlaced device fabric) where
   listed-good : (user : User) → Contains (users_of device fabric) user → IsClocked fabric user.net
@@ -288,29 +264,57 @@ module _ (device : DeviceName) (fabric : Fabric) (taken : fabric_fault device fa
   pub write-good : (ram : RamCell) → Contains fabric.rams ram → IsClocked fabric ram.wclk
   write-good ram there = ram-user-good ram (record { x = ram.x; y = ram.y; user = Write; net = ram.wclk }) there (1, omega arith, refl)
 
+  -- edges that agree at all clocks that users may have agree at each user
+  edges-agree : (one two : Edges) → ((inverted : Bool) (clock : Option ℕ) → IsClocked fabric clock → one inverted clock ≡ two inverted clock) → EdgesAgree fabric one two
+  edges-agree one two same = record {
+    registers = All-weaker (Contains fabric.registers) (λ register. one register.neg register.clk ≡ two register.neg register.clk)
+        (λ register there. same register.neg register.clk (register-good register there)) fabric.registers (All-contains_itself fabric.registers);
+    reads = All-weaker (Contains fabric.rams) (λ ram. one ram.rneg ram.rclk ≡ two ram.rneg ram.rclk)
+        (λ ram there. same ram.rneg ram.rclk (read-good ram there)) fabric.rams (All-contains_itself fabric.rams);
+    writes = All-weaker (Contains fabric.rams) (λ ram. one ram.wneg ram.wclk ≡ two ram.wneg ram.wclk)
+        (λ ram there. same ram.wneg ram.wclk (write-good ram there)) fabric.rams (All-contains_itself fabric.rams);
+  }
+
   module _ (within : IsWithin fabric) where
     module _ (state : State) (pins v : List Bool) (is : IsConsistent fabric state pins v) where
-      -- a clock net has the bit that the pins give it
-      pub clock-bit : (net : ℕ) → IsClockEnd (clock_end fabric net) → bit_in v net ≡ clock_bit fabric pins net
-      unfolding clock_bit
-      clock-bit net good =
+      net-end : (net : ℕ) → HasEndValue fabric state pins v (clock_end fabric net) (bit_in v net)
+      net-end net =
           let order = taken-order device fabric taken within in
-          end-value pins (clock_end fabric net) (bit_in v net) good
-          (clock-value fabric within state pins v is net (clock_end fabric net) (clock_end-leads fabric within order.it order.is net))
+          clock-value fabric within state pins v is net (clock_end fabric net) (clock_end-leads fabric within order.it order.is net)
 
-      clock-agrees : (clock : Option ℕ) → IsClocked fabric clock → AgreeAt (bit_in v) (clock_bit fabric pins) clock
-      clock-agrees None good = tt
-      clock-agrees (Some net) good = clock-bit net good
+      -- a clock net has the bit that the pins and the state give it, if each register whose asynchronous set or reset is 1 has its set bit
+      pub clock-bit : settled_state fabric (bit_in v) state ≡ state → (net : ℕ) → IsClockEnd (clock_end fabric net) → bit_in v net ≡ clock_bit fabric state pins net
+      unfolding clock_bit
+      clock-bit settles net good = end-value fabric state pins v (clock_end fabric net) (bit_in v net) settles good (net-end net)
 
-      -- so all clocks have
-      pub clocks-agree : ClocksAgree fabric (bit_in v) (clock_bit fabric pins)
-      clocks-agree = record {
-        registers = All-weaker (Contains fabric.registers) (λ register. AgreeAt (bit_in v) (clock_bit fabric pins) register.clk)
-            (λ register there. clock-agrees register.clk (register-good register there)) fabric.registers (All-contains_itself fabric.registers);
-        reads = All-weaker (Contains fabric.rams) (λ ram. AgreeAt (bit_in v) (clock_bit fabric pins) ram.rclk)
-            (λ ram there. clock-agrees ram.rclk (read-good ram there)) fabric.rams (All-contains_itself fabric.rams);
-        writes = All-weaker (Contains fabric.rams) (λ ram. AgreeAt (bit_in v) (clock_bit fabric pins) ram.wclk)
-            (λ ram there. clock-agrees ram.wclk (write-good ram there)) fabric.rams (All-contains_itself fabric.rams);
+      -- a clock net that no register is the clock of has the bit that the pins give it, whatever the state
+      pub pin-bit : (other : State) (net : ℕ) → is_on_register fabric (Some net) ≡ false → IsClockEnd (clock_end fabric net) → bit_in v net ≡ clock_bit fabric other pins net
+      unfolding clock_bit clock_class
+      pin-bit other net away good = pin-value fabric state pins v other (clock_end fabric net) (bit_in v net) away good (net-end net)
+
+      -- so the edges of an event are known from the pins
+      event-edges : (other : State) (before : ℕ → Bool) (inverted : Bool) (clock : Option ℕ) → IsClocked fabric clock
+          → event_edges fabric before (bit_in v) inverted clock ≡ event_edges fabric before (clock_bit fabric other pins) inverted clock
+      event-edges other before inverted None good = refl
+      event-edges other before inverted (Some net) good =
+          elim (cases_Bool (is_on_register fabric (Some net))) [
+            | inl on ↦ rw on refl
+            | inr away ↦ rw (pin-bit other net away good) refl
+          ]
+
+      clock-agrees : settled_state fabric (bit_in v) state ≡ state → (clock : Option ℕ) → IsClocked fabric clock → AgreeAt (bit_in v) (clock_bit fabric state pins) clock
+      clock-agrees settles None good = tt
+      clock-agrees settles (Some net) good = clock-bit settles net good
+
+      -- all clocks have the bits that the pins and the state give them
+      pub clocks-agree : settled_state fabric (bit_in v) state ≡ state → ClocksAgree fabric (bit_in v) (clock_bit fabric state pins)
+      clocks-agree settles = record {
+        registers = All-weaker (Contains fabric.registers) (λ register. AgreeAt (bit_in v) (clock_bit fabric state pins) register.clk)
+            (λ register there. clock-agrees settles register.clk (register-good register there)) fabric.registers (All-contains_itself fabric.registers);
+        reads = All-weaker (Contains fabric.rams) (λ ram. AgreeAt (bit_in v) (clock_bit fabric state pins) ram.rclk)
+            (λ ram there. clock-agrees settles ram.rclk (read-good ram there)) fabric.rams (All-contains_itself fabric.rams);
+        writes = All-weaker (Contains fabric.rams) (λ ram. AgreeAt (bit_in v) (clock_bit fabric state pins) ram.wclk)
+            (λ ram there. clock-agrees settles ram.wclk (write-good ram there)) fabric.rams (All-contains_itself fabric.rams);
       }
 
     -- ---- entries
@@ -356,46 +360,44 @@ module _ (device : DeviceName) (fabric : Fabric) (taken : fabric_fault device fa
     unfolding entry_of
     entry_of-state pins state = refl
 
-    -- ---- one event
+    -- ---- the first step of an event
 
-    -- the next state is that of the clocks' bits
-    pub state-clocked : (entry : Entry) → IsEntry fabric entry → (pins : List Bool) (state : State) (before : ℕ → Bool)
-        → state_after fabric pins state before (bit_in entry.v) ≡ state_after fabric pins state before (clock_bit fabric entry.pins)
-    state-clocked entry is pins state before =
-        state-same before (bit_in entry.v) (clock_bit fabric entry.pins) fabric pins state (clocks-agree entry.state entry.pins entry.v is.consistent)
+    -- the next state is that of the edges that the pins give
+    pub state-clocked : (entry : Entry) → IsEntry fabric entry → (other : State) (pins : List Bool) (state : State) (before : ℕ → Bool)
+        → state_after fabric pins state before (event_edges fabric before (bit_in entry.v))
+        ≡ state_after fabric pins state before (event_edges fabric before (clock_bit fabric other entry.pins))
+    state-clocked entry is other pins state before =
+        let one = event_edges fabric before (bit_in entry.v) in
+        let two = event_edges fabric before (clock_bit fabric other entry.pins) in
+        state-same one two fabric pins state before (edges-agree one two (event-edges entry.state entry.pins entry.v is.consistent other before))
 
-    -- what an event makes of a state before it settles, from the pins after it
-    pub raw_state : Entry → List Bool → State
-    raw_state before pins = state_after fabric before.pins before.state (bit_in before.v) (clock_bit fabric pins)
+    -- what the first step makes of a state before it settles, from the pins after it
+    raw_state : Entry → List Bool → State
+    raw_state before pins = state_after fabric before.pins before.state (bit_in before.v) (event_edges fabric (bit_in before.v) (clock_bit fabric before.state pins))
 
-    pub raw_state-is : (before : Entry) (pins : List Bool)
-        → raw_state before pins ≡ state_after fabric before.pins before.state (bit_in before.v) (clock_bit fabric pins)
-    unfolding raw_state
-    raw_state-is before pins = refl
-
-    -- the state of an entry that follows is what that settles to
-    pub follows-raw : (before : Entry) (event : Event) (after : Entry) → Follows fabric before event after
+    -- the state after the first step is what that settles to
+    step-raw : (before : Entry) (event : Event) (after : Entry) → IsFirstStep fabric before event after
         → after.state ≡ settled_state fabric (bit_in after.v) (raw_state before after.pins)
     unfolding raw_state
-    follows-raw before event after follows =
-        follows.state
-        ∙ ap (settled_state fabric (bit_in after.v)) (state-clocked after follows.entry before.pins before.state (bit_in before.v))
+    step-raw before event after step =
+        step.state
+        ∙ ap (settled_state fabric (bit_in after.v)) (state-clocked after step.entry before.state before.pins before.state (bit_in before.v))
 
-    follows-one : (before : Entry) (event : Event) (one two : Entry) → Follows fabric before event one → Follows fabric before event two → one ≡ two
-    follows-one before event one two of_one of_two =
+    step-one : (before : Entry) (event : Event) (one two : Entry) → IsFirstStep fabric before event one → IsFirstStep fabric before event two → one ≡ two
+    step-one before event one two of_one of_two =
         let pins : one.pins ≡ two.pins = of_one.pins ∙ sym of_two.pins in
         let first : one.state ≡ settled_state fabric (bit_in one.v) (raw_state before two.pins) =
-        follows-raw before event one of_one ∙ ap (λ p. settled_state fabric (bit_in one.v) (raw_state before p)) pins in
-        entry-one (raw_state before two.pins) one two of_one.entry of_two.entry pins first (follows-raw before event two of_two)
+        step-raw before event one of_one ∙ ap (λ p. settled_state fabric (bit_in one.v) (raw_state before p)) pins in
+        entry-one (raw_state before two.pins) one two of_one.entry of_two.entry pins first (step-raw before event two of_two)
 
-    next_entry : Entry → Event → Entry
-    next_entry before event =
+    step_after : Entry → Event → Entry
+    step_after before event =
         let pins = set before.pins event.pin event.bit in
         entry_of pins (raw_state before pins)
 
-    next-follows : (before : Entry) (event : Event) → Follows fabric before event (next_entry before event)
-    unfolding next_entry raw_state
-    next-follows before event =
+    step-follows : (before : Entry) (event : Event) → IsFirstStep fabric before event (step_after before event)
+    unfolding step_after raw_state
+    step-follows before event =
         let pins = set before.pins event.pin event.bit in
         let state = raw_state before pins in
         let after = entry_of pins state in
@@ -406,32 +408,75 @@ module _ (device : DeviceName) (fabric : Fabric) (taken : fabric_fault device fa
           state = entry_of-state pins state
               ∙ ap (settled_state fabric (bit_in after.v))
               (ap (λ p. raw_state before p) (sym (entry_of-pins pins state))
-              ∙ sym (state-clocked after is before.pins before.state (bit_in before.v)));
+              ∙ sym (state-clocked after is before.state before.pins before.state (bit_in before.v)));
         }
 
-    -- ---- entries settle
+    -- ---- waves
 
-    -- a state that another settles to settles to itself
-    settled-itself : (bit : ℕ → Bool) (state raw : State) → state ≡ settled_state fabric bit raw → state ≡ settled_state fabric bit state
-    settled-itself bit state raw settled = settled ∙ (sym (settled-twice fabric bit raw) ∙ ap (settled_state fabric bit) (sym settled))
+    -- what a wave makes of a state before it settles
+    abbrev wave_state : Entry → Entry → State
+    wave_state earlier before = state_after fabric before.pins before.state (bit_in before.v) (wave_edges fabric (bit_in earlier.v) (bit_in before.v))
 
-    -- the state of an entry settles to itself: of the first entry
-    pub first-settled : (entry : Entry) → IsFirst fabric entry → entry.state ≡ settled_state fabric (bit_in entry.v) entry.state
-    first-settled entry first = settled-itself (bit_in entry.v) entry.state (start_state fabric) first.state
+    wave-one : (earlier before one two : Entry) → IsWave fabric earlier before one → IsWave fabric earlier before two → one ≡ two
+    wave-one earlier before one two of_one of_two =
+        entry-one (wave_state earlier before) one two of_one.entry of_two.entry (of_one.pins ∙ sym of_two.pins) of_one.state of_two.state
 
-    -- and of each that follows
-    pub follows-settled : (before : Entry) (event : Event) (after : Entry) → Follows fabric before event after
-        → after.state ≡ settled_state fabric (bit_in after.v) after.state
-    follows-settled before event after follows =
-        settled-itself (bit_in after.v) after.state (state_after fabric before.pins before.state (bit_in before.v) (bit_in after.v)) follows.state
+    wave_after : Entry → Entry → Entry
+    wave_after earlier before = entry_of before.pins (wave_state earlier before)
+
+    wave-follows : (earlier before : Entry) → IsWave fabric earlier before (wave_after earlier before)
+    unfolding wave_after
+    wave-follows earlier before = record {
+      entry = entry_of-is before.pins (wave_state earlier before);
+      pins = entry_of-pins before.pins (wave_state earlier before);
+      state = entry_of-state before.pins (wave_state earlier before);
+    }
+
+    -- waves end
+    ends-there : (more : ℕ) (earlier before : Entry) → (prior : Entry) × (last : Entry) × EndsAt fabric more earlier before prior last
+    ends-there zero earlier before = (earlier, before, bound)
+    ends-there (suc more) earlier before =
+        elim (cases_Bool (has_wave fabric earlier before)) [
+          | inl comes ↦
+              let next = wave_after earlier before in
+              let rest = ends-there more before next in
+              (rest.0, rest.1, goes_on next comes (wave-follows earlier before) rest.2)
+          | inr quiet ↦ (earlier, before, rests quiet)
+        ]
+
+    -- at one entry
+    ends-one : {more : ℕ} {earlier before first one second two : Entry} → EndsAt fabric more earlier before first one → EndsAt fabric more earlier before second two → one ≡ two
+    ends-one bound bound = refl
+    ends-one (rests quiet) (rests other) = refl
+    ends-one (rests quiet) (goes_on next comes wave more) = absurd cc
+    ends-one (goes_on next comes wave more) (rests quiet) = absurd cc
+    ends-one {earlier} {before} {second} {two} (goes_on {more = fewer} next comes wave more) (goes_on later another other rest) =
+        let same : later ≡ next = wave-one earlier before later next other wave in
+        ends-one more (subst (λ e. EndsAt fabric fewer before e second two) same rest)
+
+    -- ---- one event
+
+    event_after : Entry → Event → Entry
+    event_after before event = (ends-there (wave_bound fabric) before (step_after before event)).1
+
+    event-follows : (before : Entry) (event : Event) → Follows fabric before event (event_after before event)
+    unfolding event_after
+    event-follows before event =
+        let ended = ends-there (wave_bound fabric) before (step_after before event) in
+        record { first = step_after before event; prior = ended.0; first_step = step-follows before event; waves = ended.2 }
+
+    follows-one : (before : Entry) (event : Event) (one two : Entry) → Follows fabric before event one → Follows fabric before event two → one ≡ two
+    follows-one before event one two of_one of_two =
+        let same : of_one.first ≡ of_two.first = step-one before event of_one.first of_two.first of_one.first_step of_two.first_step in
+        ends-one (subst (λ e. EndsAt fabric (wave_bound fabric) before e of_one.prior one) same of_one.waves) of_two.waves
 
     -- ---- runs
 
     follow-there : (entry : Entry) (events : List Event) → (entries : List Entry) × FollowEach fabric entry events entries
     follow-there entry [] = ([], tt)
     follow-there entry (event ∷ events) =
-        let rest = follow-there (next_entry entry event) events in
-        (next_entry entry event ∷ rest.0, (next-follows entry event, rest.1))
+        let rest = follow-there (event_after entry event) events in
+        (event_after entry event ∷ rest.0, (event-follows entry event, rest.1))
 
     follow-one : (entry : Entry) (events : List Event) (one two : List Entry) → FollowEach fabric entry events one → FollowEach fabric entry events two → one ≡ two
     follow-one entry [] [] [] of_one of_two = refl
@@ -479,17 +524,21 @@ module _ (device : DeviceName) (fabric : Fabric) (taken : fabric_fault device fa
 
     -- ---- clocks in a run
 
-    entry-clocks : (entry : Entry) → IsEntry fabric entry → ClocksAgree fabric (bit_in entry.v) (clock_bit fabric entry.pins)
-    entry-clocks entry is = clocks-agree entry.state entry.pins entry.v is.consistent
+    -- the clock nets of all users have the bits that the pins and the state give them
+    abbrev HasClockBits : Entry → Type 0
+    HasClockBits entry = ClocksAgree fabric (bit_in entry.v) (clock_bit fabric entry.state entry.pins)
 
-    follow-clocks : (entry : Entry) (events : List Event) (entries : List Entry) → FollowEach fabric entry events entries
-        → AllByRecursion (λ (e : Entry). ClocksAgree fabric (bit_in e.v) (clock_bit fabric e.pins)) entries
+    entry-clocks : (entry : Entry) → IsEntry fabric entry → entry.state ≡ settled_state fabric (bit_in entry.v) entry.state → HasClockBits entry
+    entry-clocks entry is settled = clocks-agree entry.state entry.pins entry.v is.consistent (sym settled)
+
+    follow-clocks : (entry : Entry) (events : List Event) (entries : List Entry) → FollowEach fabric entry events entries → AllByRecursion HasClockBits entries
     follow-clocks entry events [] follow = tt
     follow-clocks entry [] (next ∷ entries) follow = absurd follow
-    follow-clocks entry (event ∷ events) (next ∷ entries) follow = (entry-clocks next follow.0.entry, follow-clocks next events entries follow.1)
+    follow-clocks entry (event ∷ events) (next ∷ entries) follow =
+        (entry-clocks next (follows-entry fabric entry event next follow.0) (follows-settled fabric entry event next follow.0), follow-clocks next events entries follow.1)
 
-    -- in each entry of a run the clock nets of all users have the bits that the pins give them
-    pub run-clocks : (events : List Event) (entries : List Entry) → IsRun fabric events entries
-        → AllByRecursion (λ (e : Entry). ClocksAgree fabric (bit_in e.v) (clock_bit fabric e.pins)) entries
+    -- in each entry of a run they do
+    pub run-clocks : (events : List Event) (entries : List Entry) → IsRun fabric events entries → AllByRecursion HasClockBits entries
     run-clocks events [] run = tt
-    run-clocks events (first ∷ entries) run = (entry-clocks first run.0.entry_is, follow-clocks first events entries run.1)
+    run-clocks events (first ∷ entries) run =
+        (entry-clocks first run.0.entry_is (first-settled fabric first run.0), follow-clocks first events entries run.1)

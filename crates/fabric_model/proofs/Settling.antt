@@ -1,6 +1,6 @@
 -- How a state settles: to settle twice is to settle once, and the values of nets don't see it.
 use Rattle.std.proofs.Common.{◌≡◌, ℕ, zero, suc, ◌+◌, ◌&&◌, Bool, true, false, List, [], ◌∷◌, map, get_or, refl, sym, ap, ◌∙◌, arith, inl, inr}
-use Rattle.std.specs.Prelude.{All, Contains, Option, Some, None, filter, flat_map, not, if◌then◌else◌}
+use Rattle.std.specs.Prelude.{All, Contains, slice_get, Option, Some, None, filter, flat_map, not, if◌then◌else◌}
 use Rattle.std.proofs.lemmas.Bool.{cases_Bool}
 use Rattle.std.proofs.lemmas.List.Elements.{All-nil, All-cons, All-append, All-contains, All-contains_itself, All-weaker}
 use Rattle.shared_lemmas.proofs.Lists.{map-same}
@@ -51,6 +51,29 @@ numbered-read give d items pair there =
     let at : pair.0 ≡ there.0 = numbered-place 0 items pair there ∙ (let same : 0 + there.0 ≡ there.0 = omega arith in same) in
     ap (λ k. get_or (map give (numbered items)) k d) at ∙ map-read give d (numbered items) pair there
 
+slice-there : {A : Type 0} (n : ℕ) (items : List A) (pair : ℕ × A) (there : Contains (numbered_from n items) pair) → slice_get items there.0 ≡ Some pair.1
+unfolding numbered_from
+slice-there n [] pair (k, within, here) = absurd (omega (arith, within))
+slice-there {A} n (item ∷ items) pair (zero, within, here) = ap (λ (p : ℕ × A). Some p.1) here
+slice-there n (item ∷ items) pair (suc k, within, here) = slice-there (suc n) items pair (k, omega (arith, within), here)
+
+-- an item with its place stands at that place
+pub numbered-slice : {A : Type 0} (items : List A) (pair : ℕ × A) → Contains (numbered items) pair → slice_get items pair.0 ≡ Some pair.1
+numbered-slice items pair there =
+    let at : pair.0 ≡ there.0 = numbered-place 0 items pair there ∙ (let same : 0 + there.0 ≡ there.0 = omega arith in same) in
+    ap (slice_get items) at ∙ slice-there 0 items pair there
+
+item-there : {A : Type 0} (n : ℕ) (items : List A) (pair : ℕ × A) → Contains (numbered_from n items) pair → Contains items pair.1
+unfolding numbered_from
+item-there n [] pair (k, within, here) = absurd (omega (arith, within))
+item-there {A} n (item ∷ items) pair (zero, within, here) = (0, omega arith, ap (λ (p : ℕ × A). p.1) here)
+item-there n (item ∷ items) pair (suc k, within, here) =
+    let rest = item-there (suc n) items pair (k, omega (arith, within), here) in (suc rest.0, omega (arith, rest.1), rest.2)
+
+-- and is one of the items
+pub numbered-item : {A : Type 0} (items : List A) (pair : ℕ × A) → Contains (numbered items) pair → Contains items pair.1
+numbered-item items pair there = item-there 0 items pair there
+
 -- ---- one register
 
 pub settled-again : (connected bit : ℕ → Bool) (register : Register) (old : Bool)
@@ -87,9 +110,10 @@ module _ (fabric : Fabric) (bit : ℕ → Bool) where
 
 -- ---- the registers that drive nets are those of the fabric
 
--- a driver that is a register is that at its place, and what inputs read is there
+-- a driver that is a register is that at its place, one that reads a RAM reads one that is there, and what inputs read is there
 abbrev pub HasRegister : Fabric → Rule → Type 0
 HasRegister fabric (register_bit place register) = Contains (numbered fabric.registers) (place, register)
+HasRegister fabric (read_bit place bit) = (ram : RamCell) × Contains (numbered fabric.rams) (place, ram)
 HasRegister fabric (input source) = IsSignalThere fabric source
 HasRegister fabric (table_entry table) = All (IsSignalThere fabric) table.ins
 HasRegister fabric rule = Unit {0}
@@ -136,10 +160,16 @@ module _ (fabric : Fabric) (closed : IsClosed fabric) where
   pad_drives-has pin there =
       if-when DriveHas (has_outside pin) _ (λ seen. drives_if-has _ (table_entry (pad_table fabric pin)) pin.pad_net (pad_table-there fabric closed pin there seen))
 
-  ram_drives-has : (place : ℕ × RamCell) → All DriveHas (ram_drives place)
-  ram_drives-has place =
+  ram_drives-has : (place : ℕ × RamCell) → Contains (numbered fabric.rams) place → All DriveHas (ram_drives place)
+  ram_drives-has place there =
       each-has (ram_drive place)
-      (λ port. drives_if-has _ (read_data_rule place.0 place.1.read port.0) port.1 (has_if _ (read_bit place.0 _) (constant false) tt tt)) (numbered place.1.rdata)
+      (λ port. drives_if-has _ (read_data_rule place.0 place.1.read port.0) port.1 (has_if _ (read_bit place.0 _) (constant false) (place.1, there) tt)) (numbered place.1.rdata)
+
+  rams-have : All DriveHas (flat_map ram_drives (numbered fabric.rams))
+  rams-have =
+      All-flat_map DriveHas ram_drives (numbered fabric.rams)
+      (All-weaker (Contains (numbered fabric.rams)) (λ (place : ℕ × RamCell). All DriveHas (ram_drives place))
+      ram_drives-has (numbered fabric.rams) (All-contains_itself (numbered fabric.rams)))
 
   drives_by-has : (place : ℕ × Register) (by : Option Driver) → Contains (numbered fabric.registers) place → All DriveHas (drives_by place by)
   drives_by-has place None there = All-nil DriveHas
@@ -165,7 +195,7 @@ module _ (fabric : Fabric) (closed : IsClosed fabric) where
       (joins _ _ (each-has (lout_drives fabric.lut_inputs) (λ lc. drives_if-has _ (table_entry (table_of fabric.lut_inputs lc)) lc.lout (cell-signals fabric fabric.lut_inputs lc)) fabric.lcs)
       (joins _ _ (each-has carry_drives (λ lc. drives_if-has _ (majority_of (get_or lc.ins 1 None) (get_or lc.ins 2 None) lc.cin) lc.cout tt) (filter (λ lc. lc.carry) fabric.lcs))
       (joins _ _ (each-has set_drives (λ set. drives_if-has _ (constant true) (Some set.net) tt) fabric.sets)
-      (joins _ _ (each-has ram_drives ram_drives-has (numbered fabric.rams))
+      (joins _ _ rams-have
       (joins _ _ (each-has (global_drives fabric.pins fabric.plls) (λ global. drives_if-has _ (global_rule fabric.pins fabric.plls global.from) (Some global.net) (global-has fabric.pins fabric.plls global.from)) fabric.globals)
       (joins _ _ (each-has buffer_drives (λ buffer. drives_if-has _ (copied buffer.src) (Some buffer.dst) tt) fabric.buffers)
       (joins _ _ (registers-have input_driver)

@@ -7,7 +7,7 @@ use Rattle.shared_lemmas.proofs.Lists.{append_empty}
 use Rattle.plane_map.specs.declared.device.DeviceName.{DeviceName}
 use Rattle.ice_image.specs.Configuration.{Configuration}
 use Rattle.chipdb_reader.specs.Database.{Database}
-use Rattle.index_search.specs.Places.{gathered_below}
+use Rattle.index_search.specs.Places.{gathered_below, or_else}
 use Rattle.index_search.proofs.Found.{or_else-first, or_else-other}
 use Rattle.fabric_model.specs.declared.options.FabricOptions.{FabricOptions}
 use Rattle.fabric_model.specs.Unique.{ExactlyOne}
@@ -15,12 +15,14 @@ use Rattle.fabric_model.specs.Tiles.{item_if, first_of}
 use Rattle.fabric_model.specs.Fabric.{Fabric, fabric_with}
 use Rattle.fabric_model.specs.Drivers.{Drive, drivers_of}
 use Rattle.fabric_model.specs.Values.{State, IsConsistent}
-use Rattle.graph_order.specs.Wiring.{is_on_cycle, IsWriteOrder}
-use Rattle.fabric_model.specs.Wiring.{wiring_of}
+use Rattle.graph_order.specs.Wiring.{Wiring, is_on_cycle, IsWriteOrder}
+use Rattle.fabric_model.specs.Wiring.{wiring_of, clocked_wiring}
 use Rattle.fabric_model.specs.Faults.{Fault, drivers_fault, device_faults, pll_fault, pin_faults, pins_fault, rams_fault, driver_faults, loop_faults, clock_faults, fabric_fault, design_fault}
+use Rattle.graph_order.proofs.Cycles.{IsBounded}
 use Rattle.graph_order.proofs.OneOrder.{order-one}
 use Rattle.graph_order.proofs.Ordered.{write_order-there}
 use Rattle.fabric_model.proofs.OneValue.{IsWithin, HasSingleDrivers, wiring-bounded, consistent-one, consistent-there}
+use Rattle.fabric_model.proofs.Clocking.{clocked-bounded}
 
 -- ---- empty lists
 
@@ -50,18 +52,23 @@ module _ (device : DeviceName) (fabric : Fabric) (taken : fabric_fault device fa
   unfolding fabric_fault
   no-drivers = first_of-none (driver_faults fabric) (or_else-first (first_of (driver_faults fabric)) _ taken)
 
-  no-loops : loop_faults (wiring_of fabric) ≡ []
+  -- no fault but those of drivers
+  few-faults : or_else (first_of (loop_faults (wiring_of fabric))) (or_else (first_of (loop_faults (clocked_wiring fabric))) (first_of (clock_faults device fabric))) ≡ None
   unfolding fabric_fault
-  no-loops =
-      first_of-none (loop_faults (wiring_of fabric))
-      (or_else-first (first_of (loop_faults (wiring_of fabric))) _ (or_else-other (first_of (driver_faults fabric)) _ taken))
+  few-faults = or_else-other (first_of (driver_faults fabric)) _ taken
 
-  -- no user has another clock than a pin
+  no-loops : loop_faults (wiring_of fabric) ≡ []
+  no-loops = first_of-none (loop_faults (wiring_of fabric)) (or_else-first (first_of (loop_faults (wiring_of fabric))) _ few-faults)
+
+  few-clocked : or_else (first_of (loop_faults (clocked_wiring fabric))) (first_of (clock_faults device fabric)) ≡ None
+  few-clocked = or_else-other (first_of (loop_faults (wiring_of fabric))) _ few-faults
+
+  no-clocked_loops : loop_faults (clocked_wiring fabric) ≡ []
+  no-clocked_loops = first_of-none (loop_faults (clocked_wiring fabric)) (or_else-first (first_of (loop_faults (clocked_wiring fabric))) _ few-clocked)
+
+  -- no user has another clock than a pin or a register
   pub taken-clocks : clock_faults device fabric ≡ []
-  unfolding fabric_fault
-  taken-clocks =
-      first_of-none (clock_faults device fabric)
-      (or_else-other (first_of (loop_faults (wiring_of fabric))) _ (or_else-other (first_of (driver_faults fabric)) _ taken))
+  taken-clocks = first_of-none (clock_faults device fabric) (or_else-other (first_of (loop_faults (clocked_wiring fabric))) _ few-clocked)
 
   -- each class has one driver at most
   pub taken-single : HasSingleDrivers fabric
@@ -71,18 +78,32 @@ module _ (device : DeviceName) (fabric : Fabric) (taken : fabric_fault device fa
       (gathered_below-empty fabric.nets class (λ k. drivers_fault k (drivers_of fabric k)) no-drivers below)
 
   -- no class lies on a cycle
-  pub taken-open : (class : ℕ) → class < (wiring_of fabric).count → is_on_cycle (wiring_of fabric) class ≡ false
+  open-by : (wiring : Wiring) → loop_faults wiring ≡ [] → (class : ℕ) → class < wiring.count → is_on_cycle wiring class ≡ false
   unfolding loop_faults
-  taken-open class below =
-      item_if-none (is_on_cycle (wiring_of fabric) class) (Fault.loop class)
-      (gathered_below-empty (wiring_of fabric).count class (λ k. item_if (is_on_cycle (wiring_of fabric) k) (Fault.loop k)) no-loops below)
+  open-by wiring none class below =
+      item_if-none (is_on_cycle wiring class) (Fault.loop class)
+      (gathered_below-empty wiring.count class (λ k. item_if (is_on_cycle wiring k) (Fault.loop k)) none below)
+
+  pub taken-open : (class : ℕ) → class < (wiring_of fabric).count → is_on_cycle (wiring_of fabric) class ≡ false
+  taken-open = open-by (wiring_of fabric) no-loops
+
+  -- nor on one by registers that are clocks
+  pub clocked-open : (class : ℕ) → class < (clocked_wiring fabric).count → is_on_cycle (clocked_wiring fabric) class ≡ false
+  clocked-open = open-by (clocked_wiring fabric) no-clocked_loops
 
   module _ (within : IsWithin fabric) where
-    -- there is one write order
+    order-by : (wiring : Wiring) → IsBounded wiring → ((class : ℕ) → class < wiring.count → is_on_cycle wiring class ≡ false) → ExactlyOne (IsWriteOrder wiring)
+    order-by wiring bounded clear =
+        let found = write_order-there wiring bounded clear in
+        record { it = found.0; is = found.1; only = λ order is. order-one wiring order found.0 is found.1 }
+
+    -- there is one write order that leaves clocks out
     pub taken-order : ExactlyOne (IsWriteOrder (wiring_of fabric))
-    taken-order =
-        let found = write_order-there (wiring_of fabric) (wiring-bounded fabric within) taken-open in
-        record { it = found.0; is = found.1; only = λ order is. order-one (wiring_of fabric) order found.0 is found.1 }
+    taken-order = order-by (wiring_of fabric) (wiring-bounded fabric within) taken-open
+
+    -- and one that counts registers that are clocks
+    pub clocked-order : ExactlyOne (IsWriteOrder (clocked_wiring fabric))
+    clocked-order = order-by (clocked_wiring fabric) (clocked-bounded fabric within) clocked-open
 
     -- for each state and all values of pins there is one consistent list of net values
     pub taken-value : (state : State) (pins : List Bool) → ExactlyOne (IsConsistent fabric state pins)

@@ -56,13 +56,13 @@ use Rattle.fabric_model.specs.Drivers.{drives_of, drivers_of, is_driven, nets_re
 use Rattle.fabric_model.specs.Outputs.{outputs_of}
 use Rattle.fabric_model.specs.Drivers.Rule.{table_entry, majority_of, register_bit, read_bit, constant}
 use Rattle.fabric_model.specs.Values.{State, lut_value, settled_bit, value_of}
-use Rattle.fabric_model.specs.Steps.{next_bit, written, shown, next_words, next_register, state_after, settled_state, output_values}
+use Rattle.fabric_model.specs.Steps.{event_edges, next_bit, written, shown, next_words, next_register, state_after, settled_state, output_values}
 use Rattle.graph_order.specs.Wiring.{has, leads_below, is_on_cycle}
-use Rattle.fabric_model.specs.Wiring.{wiring_of}
+use Rattle.fabric_model.specs.Wiring.{wiring_of, clocks_of_value, clocked_wiring}
 use Rattle.fabric_model.specs.ClockLuts.{pass_of, is_at_open}
 use Rattle.fabric_model.specs.ClockLuts.LutPass.{holds, follows, mixes}
 use Rattle.fabric_model.specs.Clocks.ClockEnd.{at_pin, still}
-use Rattle.fabric_model.specs.Clocks.{turned_end, turn_at, end_within, clock_end, users_of}
+use Rattle.fabric_model.specs.Clocks.{turned_end, turn_at, end_within, clock_end, clock_class, users_of}
 use Rattle.fabric_model.specs.Faults.{device_faults, pin_faults, cascade_faults, driver_faults, loop_faults, clock_faults, pins_fault, rams_fault, fabric_fault, design_fault}
 
 abbrev rc : ℕ → ℕ → RowCol
@@ -247,11 +247,11 @@ register_with is_async = record (register_of read.All (cell_with_lut 0)) { is_as
 
 -- options with which LUTs read only the inputs that they use
 abbrev used_inputs : FabricOptions
-used_inputs = record { lut_inputs = read.Used; all_pins = false }
+used_inputs = record { lut_inputs = read.Used; all_pins = false; register_clocks = false }
 
 -- and with which pins of every kind are taken
 abbrev all_pins : FabricOptions
-all_pins = record { lut_inputs = read.All; all_pins = true }
+all_pins = record { lut_inputs = read.All; all_pins = true; register_clocks = false }
 
 -- an input pin whose input is read, and an output pin that is fed
 abbrev read_pin : Pin
@@ -318,128 +318,129 @@ inverter : fabric_of database_a (both (at 1 1 2 0 ∷ [])) ≡ record {
   plls = [];
   globals = [];
   lut_inputs = read.All;
+  register_clocks = false;
   lcs = record { x = 1; y = 1; i = 0; lut = 21845; carry = false; flip = false; «set» = false; is_async = false; neg = false; ins = Some 1 ∷ None ∷ None ∷ None ∷ []; out = Some 2; lout = None; cout = None; cin = None; clk = None; cen = None; sr = None } ∷ [];
   registers = [];
   sets = [];
   rams = [];
   start = [];
 }
-unfolding database_a image_with digits word_bits word_of bytes_of blank flat rows_of row_from rows_from kind_of start_in standard_widths standard_side_columns standard_pad_columns standard_pad_rows standard_banks place_of word_place_of any_below least_below last_below first_below gathered_below net_at names_of_net function_place extra_place input_of pad_of are_set is_link_on is_function_on is_any_on is_extra_on over_grid is_read cell_places cell_bits entry_bits cell_with cells_at cells_of register_of registers_of pin_register pin_registers_of sets_of is_ram_used ram_at rams_of start_words pintype_of pin_with pins_of pin_places global_nets globals_of is_refused_with is_joined class_of numbered_from joins_of buffers_of fabric_with drives_of drivers_of is_driven nets_read lut_value settled_bit value_of next_bit written shown next_words next_register state_after settled_state outputs_of output_values wiring_of has leads_below is_on_cycle turn_at pass_of is_at_open end_within clock_end users_of device_faults pll_tiles pll_tile pll_sources pll_ports pin_faults cascade_faults driver_faults loop_faults clock_faults pins_fault rams_fault fabric_fault design_fault
+unfolding database_a image_with digits word_bits word_of bytes_of blank flat rows_of row_from rows_from kind_of start_in standard_widths standard_side_columns standard_pad_columns standard_pad_rows standard_banks place_of word_place_of any_below least_below last_below first_below gathered_below net_at names_of_net function_place extra_place input_of pad_of are_set is_link_on is_function_on is_any_on is_extra_on over_grid is_read cell_places cell_bits entry_bits cell_with cells_at cells_of register_of registers_of pin_register pin_registers_of sets_of is_ram_used ram_at rams_of start_words pintype_of pin_with pins_of pin_places global_nets globals_of is_refused_with is_joined class_of numbered_from joins_of buffers_of fabric_with drives_of drivers_of is_driven nets_read lut_value settled_bit value_of next_bit written shown next_words next_register state_after settled_state outputs_of output_values wiring_of clocked_wiring clocks_of_value has leads_below is_on_cycle turn_at pass_of is_at_open end_within clock_end clock_class users_of device_faults pll_tiles pll_tile pll_sources pll_ports pin_faults cascade_faults driver_faults loop_faults clock_faults pins_fault rams_fault fabric_fault design_fault
 inverter = refl
 
 -- nothing is wrong with it
 inverter_taken : design_fault no_options database_a (both (at 1 1 2 0 ∷ [])) ≡ None
-unfolding database_a image_with digits word_bits word_of bytes_of blank flat rows_of row_from rows_from kind_of start_in standard_widths standard_side_columns standard_pad_columns standard_pad_rows standard_banks place_of word_place_of any_below least_below last_below first_below gathered_below net_at names_of_net function_place extra_place input_of pad_of are_set is_link_on is_function_on is_any_on is_extra_on over_grid is_read cell_places cell_bits entry_bits cell_with cells_at cells_of register_of registers_of pin_register pin_registers_of sets_of is_ram_used ram_at rams_of start_words pintype_of pin_with pins_of pin_places global_nets globals_of is_refused_with is_joined class_of numbered_from joins_of buffers_of fabric_with drives_of drivers_of is_driven nets_read lut_value settled_bit value_of next_bit written shown next_words next_register state_after settled_state outputs_of output_values wiring_of has leads_below is_on_cycle turn_at pass_of is_at_open end_within clock_end users_of device_faults pll_tiles pll_tile pll_sources pll_ports pin_faults cascade_faults driver_faults loop_faults clock_faults pins_fault rams_fault fabric_fault design_fault
+unfolding database_a image_with digits word_bits word_of bytes_of blank flat rows_of row_from rows_from kind_of start_in standard_widths standard_side_columns standard_pad_columns standard_pad_rows standard_banks place_of word_place_of any_below least_below last_below first_below gathered_below net_at names_of_net function_place extra_place input_of pad_of are_set is_link_on is_function_on is_any_on is_extra_on over_grid is_read cell_places cell_bits entry_bits cell_with cells_at cells_of register_of registers_of pin_register pin_registers_of sets_of is_ram_used ram_at rams_of start_words pintype_of pin_with pins_of pin_places global_nets globals_of is_refused_with is_joined class_of numbered_from joins_of buffers_of fabric_with drives_of drivers_of is_driven nets_read lut_value settled_bit value_of next_bit written shown next_words next_register state_after settled_state outputs_of output_values wiring_of clocked_wiring clocks_of_value has leads_below is_on_cycle turn_at pass_of is_at_open end_within clock_end clock_class users_of device_faults pll_tiles pll_tile pll_sources pll_ports pin_faults cascade_faults driver_faults loop_faults clock_faults pins_fault rams_fault fabric_fault design_fault
 inverter_taken = refl
 
 -- its drivers in their order
 inverter_drivers : map {B = Driver × ℕ} (λ drive. (drive.driver, drive.net)) (drives_of (fabric_of database_a (both (at 1 1 2 0 ∷ [])))) ≡ (driver.Pin 0 1 0, 0) ∷ (driver.Lut 1 1 0, 2) ∷ (driver.Link 0, 1) ∷ (driver.Link 1, 3) ∷ []
-unfolding database_a image_with digits word_bits word_of bytes_of blank flat rows_of row_from rows_from kind_of start_in standard_widths standard_side_columns standard_pad_columns standard_pad_rows standard_banks place_of word_place_of any_below least_below last_below first_below gathered_below net_at names_of_net function_place extra_place input_of pad_of are_set is_link_on is_function_on is_any_on is_extra_on over_grid is_read cell_places cell_bits entry_bits cell_with cells_at cells_of register_of registers_of pin_register pin_registers_of sets_of is_ram_used ram_at rams_of start_words pintype_of pin_with pins_of pin_places global_nets globals_of is_refused_with is_joined class_of numbered_from joins_of buffers_of fabric_with drives_of drivers_of is_driven nets_read lut_value settled_bit value_of next_bit written shown next_words next_register state_after settled_state outputs_of output_values wiring_of has leads_below is_on_cycle turn_at pass_of is_at_open end_within clock_end users_of device_faults pll_tiles pll_tile pll_sources pll_ports pin_faults cascade_faults driver_faults loop_faults clock_faults pins_fault rams_fault fabric_fault design_fault
+unfolding database_a image_with digits word_bits word_of bytes_of blank flat rows_of row_from rows_from kind_of start_in standard_widths standard_side_columns standard_pad_columns standard_pad_rows standard_banks place_of word_place_of any_below least_below last_below first_below gathered_below net_at names_of_net function_place extra_place input_of pad_of are_set is_link_on is_function_on is_any_on is_extra_on over_grid is_read cell_places cell_bits entry_bits cell_with cells_at cells_of register_of registers_of pin_register pin_registers_of sets_of is_ram_used ram_at rams_of start_words pintype_of pin_with pins_of pin_places global_nets globals_of is_refused_with is_joined class_of numbered_from joins_of buffers_of fabric_with drives_of drivers_of is_driven nets_read lut_value settled_bit value_of next_bit written shown next_words next_register state_after settled_state outputs_of output_values wiring_of clocked_wiring clocks_of_value has leads_below is_on_cycle turn_at pass_of is_at_open end_within clock_end clock_class users_of device_faults pll_tiles pll_tile pll_sources pll_ports pin_faults cascade_faults driver_faults loop_faults clock_faults pins_fault rams_fault fabric_fault design_fault
 inverter_drivers = refl
 
 -- an image without a set bit
-nothing_set : fabric_of database_a (image_with []) ≡ record { nets = 4; joins = []; buffers = []; pins = []; plls = []; globals = []; lut_inputs = read.All; lcs = []; registers = []; sets = []; rams = []; start = [] }
-unfolding database_a image_with digits word_bits word_of bytes_of blank flat rows_of row_from rows_from kind_of start_in standard_widths standard_side_columns standard_pad_columns standard_pad_rows standard_banks place_of word_place_of any_below least_below last_below first_below gathered_below net_at names_of_net function_place extra_place input_of pad_of are_set is_link_on is_function_on is_any_on is_extra_on over_grid is_read cell_places cell_bits entry_bits cell_with cells_at cells_of register_of registers_of pin_register pin_registers_of sets_of is_ram_used ram_at rams_of start_words pintype_of pin_with pins_of pin_places global_nets globals_of is_refused_with is_joined class_of numbered_from joins_of buffers_of fabric_with drives_of drivers_of is_driven nets_read lut_value settled_bit value_of next_bit written shown next_words next_register state_after settled_state outputs_of output_values wiring_of has leads_below is_on_cycle turn_at pass_of is_at_open end_within clock_end users_of device_faults pll_tiles pll_tile pll_sources pll_ports pin_faults cascade_faults driver_faults loop_faults clock_faults pins_fault rams_fault fabric_fault design_fault
+nothing_set : fabric_of database_a (image_with []) ≡ record { nets = 4; joins = []; buffers = []; pins = []; plls = []; globals = []; lut_inputs = read.All; register_clocks = false; lcs = []; registers = []; sets = []; rams = []; start = [] }
+unfolding database_a image_with digits word_bits word_of bytes_of blank flat rows_of row_from rows_from kind_of start_in standard_widths standard_side_columns standard_pad_columns standard_pad_rows standard_banks place_of word_place_of any_below least_below last_below first_below gathered_below net_at names_of_net function_place extra_place input_of pad_of are_set is_link_on is_function_on is_any_on is_extra_on over_grid is_read cell_places cell_bits entry_bits cell_with cells_at cells_of register_of registers_of pin_register pin_registers_of sets_of is_ram_used ram_at rams_of start_words pintype_of pin_with pins_of pin_places global_nets globals_of is_refused_with is_joined class_of numbered_from joins_of buffers_of fabric_with drives_of drivers_of is_driven nets_read lut_value settled_bit value_of next_bit written shown next_words next_register state_after settled_state outputs_of output_values wiring_of clocked_wiring clocks_of_value has leads_below is_on_cycle turn_at pass_of is_at_open end_within clock_end clock_class users_of device_faults pll_tiles pll_tile pll_sources pll_ports pin_faults cascade_faults driver_faults loop_faults clock_faults pins_fault rams_fault fabric_fault design_fault
 nothing_set = refl
 
 -- it is taken
 nothing_taken : design_fault no_options database_a (image_with []) ≡ None
-unfolding database_a image_with digits word_bits word_of bytes_of blank flat rows_of row_from rows_from kind_of start_in standard_widths standard_side_columns standard_pad_columns standard_pad_rows standard_banks place_of word_place_of any_below least_below last_below first_below gathered_below net_at names_of_net function_place extra_place input_of pad_of are_set is_link_on is_function_on is_any_on is_extra_on over_grid is_read cell_places cell_bits entry_bits cell_with cells_at cells_of register_of registers_of pin_register pin_registers_of sets_of is_ram_used ram_at rams_of start_words pintype_of pin_with pins_of pin_places global_nets globals_of is_refused_with is_joined class_of numbered_from joins_of buffers_of fabric_with drives_of drivers_of is_driven nets_read lut_value settled_bit value_of next_bit written shown next_words next_register state_after settled_state outputs_of output_values wiring_of has leads_below is_on_cycle turn_at pass_of is_at_open end_within clock_end users_of device_faults pll_tiles pll_tile pll_sources pll_ports pin_faults cascade_faults driver_faults loop_faults clock_faults pins_fault rams_fault fabric_fault design_fault
+unfolding database_a image_with digits word_bits word_of bytes_of blank flat rows_of row_from rows_from kind_of start_in standard_widths standard_side_columns standard_pad_columns standard_pad_rows standard_banks place_of word_place_of any_below least_below last_below first_below gathered_below net_at names_of_net function_place extra_place input_of pad_of are_set is_link_on is_function_on is_any_on is_extra_on over_grid is_read cell_places cell_bits entry_bits cell_with cells_at cells_of register_of registers_of pin_register pin_registers_of sets_of is_ram_used ram_at rams_of start_words pintype_of pin_with pins_of pin_places global_nets globals_of is_refused_with is_joined class_of numbered_from joins_of buffers_of fabric_with drives_of drivers_of is_driven nets_read lut_value settled_bit value_of next_bit written shown next_words next_register state_after settled_state outputs_of output_values wiring_of clocked_wiring clocks_of_value has leads_below is_on_cycle turn_at pass_of is_at_open end_within clock_end clock_class users_of device_faults pll_tiles pll_tile pll_sources pll_ports pin_faults cascade_faults driver_faults loop_faults clock_faults pins_fault rams_fault fabric_fault design_fault
 nothing_taken = refl
 
 -- two buffers to one net
 two_buffers : design_fault no_options database_b (both (at 1 1 2 0 ∷ at 1 1 3 0 ∷ [])) ≡ Some (fault.two_drivers 1 (driver.Link 0) (driver.Link 2))
-unfolding database_a database_b image_with digits word_bits word_of bytes_of blank flat rows_of row_from rows_from kind_of start_in standard_widths standard_side_columns standard_pad_columns standard_pad_rows standard_banks place_of word_place_of any_below least_below last_below first_below gathered_below net_at names_of_net function_place extra_place input_of pad_of are_set is_link_on is_function_on is_any_on is_extra_on over_grid is_read cell_places cell_bits entry_bits cell_with cells_at cells_of register_of registers_of pin_register pin_registers_of sets_of is_ram_used ram_at rams_of start_words pintype_of pin_with pins_of pin_places global_nets globals_of is_refused_with is_joined class_of numbered_from joins_of buffers_of fabric_with drives_of drivers_of is_driven nets_read lut_value settled_bit value_of next_bit written shown next_words next_register state_after settled_state outputs_of output_values wiring_of has leads_below is_on_cycle turn_at pass_of is_at_open end_within clock_end users_of device_faults pll_tiles pll_tile pll_sources pll_ports pin_faults cascade_faults driver_faults loop_faults clock_faults pins_fault rams_fault fabric_fault design_fault
+unfolding database_a database_b image_with digits word_bits word_of bytes_of blank flat rows_of row_from rows_from kind_of start_in standard_widths standard_side_columns standard_pad_columns standard_pad_rows standard_banks place_of word_place_of any_below least_below last_below first_below gathered_below net_at names_of_net function_place extra_place input_of pad_of are_set is_link_on is_function_on is_any_on is_extra_on over_grid is_read cell_places cell_bits entry_bits cell_with cells_at cells_of register_of registers_of pin_register pin_registers_of sets_of is_ram_used ram_at rams_of start_words pintype_of pin_with pins_of pin_places global_nets globals_of is_refused_with is_joined class_of numbered_from joins_of buffers_of fabric_with drives_of drivers_of is_driven nets_read lut_value settled_bit value_of next_bit written shown next_words next_register state_after settled_state outputs_of output_values wiring_of clocked_wiring clocks_of_value has leads_below is_on_cycle turn_at pass_of is_at_open end_within clock_end clock_class users_of device_faults pll_tiles pll_tile pll_sources pll_ports pin_faults cascade_faults driver_faults loop_faults clock_faults pins_fault rams_fault fabric_fault design_fault
 two_buffers = refl
 
 -- a LUT that reads itself
 loop : design_fault no_options database_b (both (at 1 1 3 0 ∷ [])) ≡ Some (fault.loop 1)
-unfolding database_a database_b image_with digits word_bits word_of bytes_of blank flat rows_of row_from rows_from kind_of start_in standard_widths standard_side_columns standard_pad_columns standard_pad_rows standard_banks place_of word_place_of any_below least_below last_below first_below gathered_below net_at names_of_net function_place extra_place input_of pad_of are_set is_link_on is_function_on is_any_on is_extra_on over_grid is_read cell_places cell_bits entry_bits cell_with cells_at cells_of register_of registers_of pin_register pin_registers_of sets_of is_ram_used ram_at rams_of start_words pintype_of pin_with pins_of pin_places global_nets globals_of is_refused_with is_joined class_of numbered_from joins_of buffers_of fabric_with drives_of drivers_of is_driven nets_read lut_value settled_bit value_of next_bit written shown next_words next_register state_after settled_state outputs_of output_values wiring_of has leads_below is_on_cycle turn_at pass_of is_at_open end_within clock_end users_of device_faults pll_tiles pll_tile pll_sources pll_ports pin_faults cascade_faults driver_faults loop_faults clock_faults pins_fault rams_fault fabric_fault design_fault
+unfolding database_a database_b image_with digits word_bits word_of bytes_of blank flat rows_of row_from rows_from kind_of start_in standard_widths standard_side_columns standard_pad_columns standard_pad_rows standard_banks place_of word_place_of any_below least_below last_below first_below gathered_below net_at names_of_net function_place extra_place input_of pad_of are_set is_link_on is_function_on is_any_on is_extra_on over_grid is_read cell_places cell_bits entry_bits cell_with cells_at cells_of register_of registers_of pin_register pin_registers_of sets_of is_ram_used ram_at rams_of start_words pintype_of pin_with pins_of pin_places global_nets globals_of is_refused_with is_joined class_of numbered_from joins_of buffers_of fabric_with drives_of drivers_of is_driven nets_read lut_value settled_bit value_of next_bit written shown next_words next_register state_after settled_state outputs_of output_values wiring_of clocked_wiring clocks_of_value has leads_below is_on_cycle turn_at pass_of is_at_open end_within clock_end clock_class users_of device_faults pll_tiles pll_tile pll_sources pll_ports pin_faults cascade_faults driver_faults loop_faults clock_faults pins_fault rams_fault fabric_fault design_fault
 loop = refl
 
 -- it reads the input that it inverts, so it is refused also if it reads only what it uses
 loop_used : design_fault used_inputs database_b (both (at 1 1 3 0 ∷ [])) ≡ Some (fault.loop 1)
-unfolding database_a database_b image_with digits word_bits word_of bytes_of blank flat rows_of row_from rows_from kind_of start_in standard_widths standard_side_columns standard_pad_columns standard_pad_rows standard_banks place_of word_place_of any_below least_below last_below first_below gathered_below net_at names_of_net function_place extra_place input_of pad_of are_set is_link_on is_function_on is_any_on is_extra_on over_grid is_read cell_places cell_bits entry_bits cell_with cells_at cells_of uses_input register_of registers_of pin_register pin_registers_of sets_of is_ram_used ram_at rams_of start_words pintype_of pin_with pins_of pin_places global_nets globals_of is_refused_with is_joined class_of numbered_from joins_of buffers_of fabric_with drives_of drivers_of is_driven nets_read lut_value settled_bit value_of next_bit written shown next_words next_register state_after settled_state outputs_of output_values wiring_of has leads_below is_on_cycle turn_at pass_of is_at_open end_within clock_end users_of device_faults pll_tiles pll_tile pll_sources pll_ports pin_faults cascade_faults driver_faults loop_faults clock_faults pins_fault rams_fault fabric_fault design_fault
+unfolding database_a database_b image_with digits word_bits word_of bytes_of blank flat rows_of row_from rows_from kind_of start_in standard_widths standard_side_columns standard_pad_columns standard_pad_rows standard_banks place_of word_place_of any_below least_below last_below first_below gathered_below net_at names_of_net function_place extra_place input_of pad_of are_set is_link_on is_function_on is_any_on is_extra_on over_grid is_read cell_places cell_bits entry_bits cell_with cells_at cells_of uses_input register_of registers_of pin_register pin_registers_of sets_of is_ram_used ram_at rams_of start_words pintype_of pin_with pins_of pin_places global_nets globals_of is_refused_with is_joined class_of numbered_from joins_of buffers_of fabric_with drives_of drivers_of is_driven nets_read lut_value settled_bit value_of next_bit written shown next_words next_register state_after settled_state outputs_of output_values wiring_of clocked_wiring clocks_of_value has leads_below is_on_cycle turn_at pass_of is_at_open end_within clock_end clock_class users_of device_faults pll_tiles pll_tile pll_sources pll_ports pin_faults cascade_faults driver_faults loop_faults clock_faults pins_fault rams_fault fabric_fault design_fault
 loop_used = refl
 
 -- a LUT whose value is fed back to its in_2, which it doesn't use
 unused_loop : design_fault no_options database_f (both (at 1 1 3 0 ∷ [])) ≡ Some (fault.loop 1)
-unfolding database_a database_b database_f image_with digits word_bits word_of bytes_of blank flat rows_of row_from rows_from kind_of start_in standard_widths standard_side_columns standard_pad_columns standard_pad_rows standard_banks place_of word_place_of any_below least_below last_below first_below gathered_below net_at names_of_net function_place extra_place input_of pad_of are_set is_link_on is_function_on is_any_on is_extra_on over_grid is_read cell_places cell_bits entry_bits cell_with cells_at cells_of uses_input register_of registers_of pin_register pin_registers_of sets_of is_ram_used ram_at rams_of start_words pintype_of pin_with pins_of pin_places global_nets globals_of is_refused_with is_joined class_of numbered_from joins_of buffers_of fabric_with drives_of drivers_of is_driven nets_read lut_value settled_bit value_of next_bit written shown next_words next_register state_after settled_state outputs_of output_values wiring_of has leads_below is_on_cycle turn_at pass_of is_at_open end_within clock_end users_of device_faults pll_tiles pll_tile pll_sources pll_ports pin_faults cascade_faults driver_faults loop_faults clock_faults pins_fault rams_fault fabric_fault design_fault
+unfolding database_a database_b database_f image_with digits word_bits word_of bytes_of blank flat rows_of row_from rows_from kind_of start_in standard_widths standard_side_columns standard_pad_columns standard_pad_rows standard_banks place_of word_place_of any_below least_below last_below first_below gathered_below net_at names_of_net function_place extra_place input_of pad_of are_set is_link_on is_function_on is_any_on is_extra_on over_grid is_read cell_places cell_bits entry_bits cell_with cells_at cells_of uses_input register_of registers_of pin_register pin_registers_of sets_of is_ram_used ram_at rams_of start_words pintype_of pin_with pins_of pin_places global_nets globals_of is_refused_with is_joined class_of numbered_from joins_of buffers_of fabric_with drives_of drivers_of is_driven nets_read lut_value settled_bit value_of next_bit written shown next_words next_register state_after settled_state outputs_of output_values wiring_of clocked_wiring clocks_of_value has leads_below is_on_cycle turn_at pass_of is_at_open end_within clock_end clock_class users_of device_faults pll_tiles pll_tile pll_sources pll_ports pin_faults cascade_faults driver_faults loop_faults clock_faults pins_fault rams_fault fabric_fault design_fault
 unused_loop = refl
 
 unused_taken : design_fault used_inputs database_f (both (at 1 1 3 0 ∷ [])) ≡ None
-unfolding database_a database_b database_f image_with digits word_bits word_of bytes_of blank flat rows_of row_from rows_from kind_of start_in standard_widths standard_side_columns standard_pad_columns standard_pad_rows standard_banks place_of word_place_of any_below least_below last_below first_below gathered_below net_at names_of_net function_place extra_place input_of pad_of are_set is_link_on is_function_on is_any_on is_extra_on over_grid is_read cell_places cell_bits entry_bits cell_with cells_at cells_of uses_input register_of registers_of pin_register pin_registers_of sets_of is_ram_used ram_at rams_of start_words pintype_of pin_with pins_of pin_places global_nets globals_of is_refused_with is_joined class_of numbered_from joins_of buffers_of fabric_with drives_of drivers_of is_driven nets_read lut_value settled_bit value_of next_bit written shown next_words next_register state_after settled_state outputs_of output_values wiring_of has leads_below is_on_cycle turn_at pass_of is_at_open end_within clock_end users_of device_faults pll_tiles pll_tile pll_sources pll_ports pin_faults cascade_faults driver_faults loop_faults clock_faults pins_fault rams_fault fabric_fault design_fault
+unfolding database_a database_b database_f image_with digits word_bits word_of bytes_of blank flat rows_of row_from rows_from kind_of start_in standard_widths standard_side_columns standard_pad_columns standard_pad_rows standard_banks place_of word_place_of any_below least_below last_below first_below gathered_below net_at names_of_net function_place extra_place input_of pad_of are_set is_link_on is_function_on is_any_on is_extra_on over_grid is_read cell_places cell_bits entry_bits cell_with cells_at cells_of uses_input register_of registers_of pin_register pin_registers_of sets_of is_ram_used ram_at rams_of start_words pintype_of pin_with pins_of pin_places global_nets globals_of is_refused_with is_joined class_of numbered_from joins_of buffers_of fabric_with drives_of drivers_of is_driven nets_read lut_value settled_bit value_of next_bit written shown next_words next_register state_after settled_state outputs_of output_values wiring_of clocked_wiring clocks_of_value has leads_below is_on_cycle turn_at pass_of is_at_open end_within clock_end clock_class users_of device_faults pll_tiles pll_tile pll_sources pll_ports pin_faults cascade_faults driver_faults loop_faults clock_faults pins_fault rams_fault fabric_fault design_fault
 unused_taken = refl
 
 -- a clock that a LUT makes
 made_clock : design_fault no_options database_b (both (at 1 1 2 0 ∷ at 1 1 0 45 ∷ at 1 1 4 0 ∷ [])) ≡ Some (fault.clock 1 1 (Cell 0) 4)
-unfolding database_a database_b image_with digits word_bits word_of bytes_of blank flat rows_of row_from rows_from kind_of start_in standard_widths standard_side_columns standard_pad_columns standard_pad_rows standard_banks place_of word_place_of any_below least_below last_below first_below gathered_below net_at names_of_net function_place extra_place input_of pad_of are_set is_link_on is_function_on is_any_on is_extra_on over_grid is_read cell_places cell_bits entry_bits cell_with cells_at cells_of register_of registers_of pin_register pin_registers_of sets_of is_ram_used ram_at rams_of start_words pintype_of pin_with pins_of pin_places global_nets globals_of is_refused_with is_joined class_of numbered_from joins_of buffers_of fabric_with drives_of drivers_of is_driven nets_read lut_value settled_bit value_of next_bit written shown next_words next_register state_after settled_state outputs_of output_values wiring_of has leads_below is_on_cycle turn_at pass_of is_at_open end_within clock_end users_of device_faults pll_tiles pll_tile pll_sources pll_ports pin_faults cascade_faults driver_faults loop_faults clock_faults pins_fault rams_fault fabric_fault design_fault
+unfolding database_a database_b image_with digits word_bits word_of bytes_of blank flat rows_of row_from rows_from kind_of start_in standard_widths standard_side_columns standard_pad_columns standard_pad_rows standard_banks place_of word_place_of any_below least_below last_below first_below gathered_below net_at names_of_net function_place extra_place input_of pad_of are_set is_link_on is_function_on is_any_on is_extra_on over_grid is_read cell_places cell_bits entry_bits cell_with cells_at cells_of register_of registers_of pin_register pin_registers_of sets_of is_ram_used ram_at rams_of start_words pintype_of pin_with pins_of pin_places global_nets globals_of is_refused_with is_joined class_of numbered_from joins_of buffers_of fabric_with drives_of drivers_of is_driven nets_read lut_value settled_bit value_of next_bit written shown next_words next_register state_after settled_state outputs_of output_values wiring_of clocked_wiring clocks_of_value has leads_below is_on_cycle turn_at pass_of is_at_open end_within clock_end clock_class users_of device_faults pll_tiles pll_tile pll_sources pll_ports pin_faults cascade_faults driver_faults loop_faults clock_faults pins_fault rams_fault fabric_fault design_fault
 made_clock = refl
 
 -- a register that feeds itself, at falling edges: no loop
 toggle : design_fault no_options database_b (both (at 1 1 0 45 ∷ at 1 1 3 0 ∷ at 1 1 5 0 ∷ at 1 1 6 0 ∷ [])) ≡ None
-unfolding database_a database_b image_with digits word_bits word_of bytes_of blank flat rows_of row_from rows_from kind_of start_in standard_widths standard_side_columns standard_pad_columns standard_pad_rows standard_banks place_of word_place_of any_below least_below last_below first_below gathered_below net_at names_of_net function_place extra_place input_of pad_of are_set is_link_on is_function_on is_any_on is_extra_on over_grid is_read cell_places cell_bits entry_bits cell_with cells_at cells_of register_of registers_of pin_register pin_registers_of sets_of is_ram_used ram_at rams_of start_words pintype_of pin_with pins_of pin_places global_nets globals_of is_refused_with is_joined class_of numbered_from joins_of buffers_of fabric_with drives_of drivers_of is_driven nets_read lut_value settled_bit value_of next_bit written shown next_words next_register state_after settled_state outputs_of output_values wiring_of has leads_below is_on_cycle turn_at pass_of is_at_open end_within clock_end users_of device_faults pll_tiles pll_tile pll_sources pll_ports pin_faults cascade_faults driver_faults loop_faults clock_faults pins_fault rams_fault fabric_fault design_fault
+unfolding database_a database_b image_with digits word_bits word_of bytes_of blank flat rows_of row_from rows_from kind_of start_in standard_widths standard_side_columns standard_pad_columns standard_pad_rows standard_banks place_of word_place_of any_below least_below last_below first_below gathered_below net_at names_of_net function_place extra_place input_of pad_of are_set is_link_on is_function_on is_any_on is_extra_on over_grid is_read cell_places cell_bits entry_bits cell_with cells_at cells_of register_of registers_of pin_register pin_registers_of sets_of is_ram_used ram_at rams_of start_words pintype_of pin_with pins_of pin_places global_nets globals_of is_refused_with is_joined class_of numbered_from joins_of buffers_of fabric_with drives_of drivers_of is_driven nets_read lut_value settled_bit value_of next_bit written shown next_words next_register state_after settled_state outputs_of output_values wiring_of clocked_wiring clocks_of_value has leads_below is_on_cycle turn_at pass_of is_at_open end_within clock_end clock_class users_of device_faults pll_tiles pll_tile pll_sources pll_ports pin_faults cascade_faults driver_faults loop_faults clock_faults pins_fault rams_fault fabric_fault design_fault
 toggle = refl
 
 -- its cell
 toggle_cell : cells_of database_b (both (at 1 1 0 45 ∷ at 1 1 3 0 ∷ at 1 1 5 0 ∷ at 1 1 6 0 ∷ [])) ≡ record { x = 1; y = 1; i = 0; lut = 21845; carry = false; flip = true; «set» = false; is_async = false; neg = true; ins = Some 1 ∷ None ∷ None ∷ None ∷ []; out = Some 2; lout = None; cout = None; cin = None; clk = Some 4; cen = None; sr = None } ∷ []
-unfolding database_a database_b image_with digits word_bits word_of bytes_of blank flat rows_of row_from rows_from kind_of start_in standard_widths standard_side_columns standard_pad_columns standard_pad_rows standard_banks place_of word_place_of any_below least_below last_below first_below gathered_below net_at names_of_net function_place extra_place input_of pad_of are_set is_link_on is_function_on is_any_on is_extra_on over_grid is_read cell_places cell_bits entry_bits cell_with cells_at cells_of register_of registers_of pin_register pin_registers_of sets_of is_ram_used ram_at rams_of start_words pintype_of pin_with pins_of pin_places global_nets globals_of is_refused_with is_joined class_of numbered_from joins_of buffers_of fabric_with drives_of drivers_of is_driven nets_read lut_value settled_bit value_of next_bit written shown next_words next_register state_after settled_state outputs_of output_values wiring_of has leads_below is_on_cycle turn_at pass_of is_at_open end_within clock_end users_of device_faults pll_tiles pll_tile pll_sources pll_ports pin_faults cascade_faults driver_faults loop_faults clock_faults pins_fault rams_fault fabric_fault design_fault
+unfolding database_a database_b image_with digits word_bits word_of bytes_of blank flat rows_of row_from rows_from kind_of start_in standard_widths standard_side_columns standard_pad_columns standard_pad_rows standard_banks place_of word_place_of any_below least_below last_below first_below gathered_below net_at names_of_net function_place extra_place input_of pad_of are_set is_link_on is_function_on is_any_on is_extra_on over_grid is_read cell_places cell_bits entry_bits cell_with cells_at cells_of register_of registers_of pin_register pin_registers_of sets_of is_ram_used ram_at rams_of start_words pintype_of pin_with pins_of pin_places global_nets globals_of is_refused_with is_joined class_of numbered_from joins_of buffers_of fabric_with drives_of drivers_of is_driven nets_read lut_value settled_bit value_of next_bit written shown next_words next_register state_after settled_state outputs_of output_values wiring_of clocked_wiring clocks_of_value has leads_below is_on_cycle turn_at pass_of is_at_open end_within clock_end clock_class users_of device_faults pll_tiles pll_tile pll_sources pll_ports pin_faults cascade_faults driver_faults loop_faults clock_faults pins_fault rams_fault fabric_fault design_fault
 toggle_cell = refl
 
 -- a reset that acts at once is taken
 reset_taken : design_fault no_options database_b (both (at 1 1 0 45 ∷ at 1 1 1 45 ∷ [])) ≡ None
-unfolding database_a database_b image_with digits word_bits word_of bytes_of blank flat rows_of row_from rows_from kind_of start_in standard_widths standard_side_columns standard_pad_columns standard_pad_rows standard_banks place_of word_place_of any_below least_below last_below first_below gathered_below net_at names_of_net function_place extra_place input_of pad_of are_set is_link_on is_function_on is_any_on is_extra_on over_grid is_read cell_places cell_bits entry_bits cell_with cells_at cells_of register_of registers_of pin_register pin_registers_of sets_of is_ram_used ram_at rams_of start_words pintype_of pin_with pins_of pin_places global_nets globals_of is_refused_with is_joined class_of numbered_from joins_of buffers_of fabric_with drives_of drivers_of is_driven nets_read lut_value settled_bit value_of next_bit written shown next_words next_register state_after settled_state outputs_of output_values wiring_of has leads_below is_on_cycle turn_at pass_of is_at_open end_within clock_end users_of device_faults pll_tiles pll_tile pll_sources pll_ports pin_faults cascade_faults driver_faults loop_faults clock_faults pins_fault rams_fault fabric_fault design_fault
+unfolding database_a database_b image_with digits word_bits word_of bytes_of blank flat rows_of row_from rows_from kind_of start_in standard_widths standard_side_columns standard_pad_columns standard_pad_rows standard_banks place_of word_place_of any_below least_below last_below first_below gathered_below net_at names_of_net function_place extra_place input_of pad_of are_set is_link_on is_function_on is_any_on is_extra_on over_grid is_read cell_places cell_bits entry_bits cell_with cells_at cells_of register_of registers_of pin_register pin_registers_of sets_of is_ram_used ram_at rams_of start_words pintype_of pin_with pins_of pin_places global_nets globals_of is_refused_with is_joined class_of numbered_from joins_of buffers_of fabric_with drives_of drivers_of is_driven nets_read lut_value settled_bit value_of next_bit written shown next_words next_register state_after settled_state outputs_of output_values wiring_of clocked_wiring clocks_of_value has leads_below is_on_cycle turn_at pass_of is_at_open end_within clock_end clock_class users_of device_faults pll_tiles pll_tile pll_sources pll_ports pin_faults cascade_faults driver_faults loop_faults clock_faults pins_fault rams_fault fabric_fault design_fault
 reset_taken = refl
 
 -- a register that resets itself at once depends on itself
 reset_loop : design_fault no_options database_d (both (at 1 1 0 45 ∷ at 1 1 1 45 ∷ at 1 1 3 0 ∷ at 1 1 5 0 ∷ at 1 1 6 0 ∷ [])) ≡ Some (fault.loop 2)
-unfolding database_a database_b database_d image_with digits word_bits word_of bytes_of blank flat rows_of row_from rows_from kind_of start_in standard_widths standard_side_columns standard_pad_columns standard_pad_rows standard_banks place_of word_place_of any_below least_below last_below first_below gathered_below net_at names_of_net function_place extra_place input_of pad_of are_set is_link_on is_function_on is_any_on is_extra_on over_grid is_read cell_places cell_bits entry_bits cell_with cells_at cells_of register_of registers_of pin_register pin_registers_of sets_of is_ram_used ram_at rams_of start_words pintype_of pin_with pins_of pin_places global_nets globals_of is_refused_with is_joined class_of numbered_from joins_of buffers_of fabric_with drives_of drivers_of is_driven nets_read lut_value settled_bit value_of next_bit written shown next_words next_register state_after settled_state outputs_of output_values wiring_of has leads_below is_on_cycle turn_at pass_of is_at_open end_within clock_end users_of device_faults pll_tiles pll_tile pll_sources pll_ports pin_faults cascade_faults driver_faults loop_faults clock_faults pins_fault rams_fault fabric_fault design_fault
+unfolding database_a database_b database_d image_with digits word_bits word_of bytes_of blank flat rows_of row_from rows_from kind_of start_in standard_widths standard_side_columns standard_pad_columns standard_pad_rows standard_banks place_of word_place_of any_below least_below last_below first_below gathered_below net_at names_of_net function_place extra_place input_of pad_of are_set is_link_on is_function_on is_any_on is_extra_on over_grid is_read cell_places cell_bits entry_bits cell_with cells_at cells_of register_of registers_of pin_register pin_registers_of sets_of is_ram_used ram_at rams_of start_words pintype_of pin_with pins_of pin_places global_nets globals_of is_refused_with is_joined class_of numbered_from joins_of buffers_of fabric_with drives_of drivers_of is_driven nets_read lut_value settled_bit value_of next_bit written shown next_words next_register state_after settled_state outputs_of output_values wiring_of clocked_wiring clocks_of_value has leads_below is_on_cycle turn_at pass_of is_at_open end_within clock_end clock_class users_of device_faults pll_tiles pll_tile pll_sources pll_ports pin_faults cascade_faults driver_faults loop_faults clock_faults pins_fault rams_fault fabric_fault design_fault
 reset_loop = refl
 
 -- and one that resets itself at the clock doesn't
 reset_in_time : design_fault no_options database_d (both (at 1 1 0 45 ∷ at 1 1 3 0 ∷ at 1 1 5 0 ∷ at 1 1 6 0 ∷ [])) ≡ None
-unfolding database_a database_b database_d image_with digits word_bits word_of bytes_of blank flat rows_of row_from rows_from kind_of start_in standard_widths standard_side_columns standard_pad_columns standard_pad_rows standard_banks place_of word_place_of any_below least_below last_below first_below gathered_below net_at names_of_net function_place extra_place input_of pad_of are_set is_link_on is_function_on is_any_on is_extra_on over_grid is_read cell_places cell_bits entry_bits cell_with cells_at cells_of register_of registers_of pin_register pin_registers_of sets_of is_ram_used ram_at rams_of start_words pintype_of pin_with pins_of pin_places global_nets globals_of is_refused_with is_joined class_of numbered_from joins_of buffers_of fabric_with drives_of drivers_of is_driven nets_read lut_value settled_bit value_of next_bit written shown next_words next_register state_after settled_state outputs_of output_values wiring_of has leads_below is_on_cycle turn_at pass_of is_at_open end_within clock_end users_of device_faults pll_tiles pll_tile pll_sources pll_ports pin_faults cascade_faults driver_faults loop_faults clock_faults pins_fault rams_fault fabric_fault design_fault
+unfolding database_a database_b database_d image_with digits word_bits word_of bytes_of blank flat rows_of row_from rows_from kind_of start_in standard_widths standard_side_columns standard_pad_columns standard_pad_rows standard_banks place_of word_place_of any_below least_below last_below first_below gathered_below net_at names_of_net function_place extra_place input_of pad_of are_set is_link_on is_function_on is_any_on is_extra_on over_grid is_read cell_places cell_bits entry_bits cell_with cells_at cells_of register_of registers_of pin_register pin_registers_of sets_of is_ram_used ram_at rams_of start_words pintype_of pin_with pins_of pin_places global_nets globals_of is_refused_with is_joined class_of numbered_from joins_of buffers_of fabric_with drives_of drivers_of is_driven nets_read lut_value settled_bit value_of next_bit written shown next_words next_register state_after settled_state outputs_of output_values wiring_of clocked_wiring clocks_of_value has leads_below is_on_cycle turn_at pass_of is_at_open end_within clock_end clock_class users_of device_faults pll_tiles pll_tile pll_sources pll_ports pin_faults cascade_faults driver_faults loop_faults clock_faults pins_fault rams_fault fabric_fault design_fault
 reset_in_time = refl
 
 -- one bit of two: the link isn't on, and its clock is still
 half_link : design_fault no_options database_b (both (at 1 1 2 0 ∷ at 1 1 0 45 ∷ at 1 1 4 0 ∷ at 1 1 5 0 ∷ [])) ≡ None
-unfolding database_a database_b image_with digits word_bits word_of bytes_of blank flat rows_of row_from rows_from kind_of start_in standard_widths standard_side_columns standard_pad_columns standard_pad_rows standard_banks place_of word_place_of any_below least_below last_below first_below gathered_below net_at names_of_net function_place extra_place input_of pad_of are_set is_link_on is_function_on is_any_on is_extra_on over_grid is_read cell_places cell_bits entry_bits cell_with cells_at cells_of register_of registers_of pin_register pin_registers_of sets_of is_ram_used ram_at rams_of start_words pintype_of pin_with pins_of pin_places global_nets globals_of is_refused_with is_joined class_of numbered_from joins_of buffers_of fabric_with drives_of drivers_of is_driven nets_read lut_value settled_bit value_of next_bit written shown next_words next_register state_after settled_state outputs_of output_values wiring_of has leads_below is_on_cycle turn_at pass_of is_at_open end_within clock_end users_of device_faults pll_tiles pll_tile pll_sources pll_ports pin_faults cascade_faults driver_faults loop_faults clock_faults pins_fault rams_fault fabric_fault design_fault
+unfolding database_a database_b image_with digits word_bits word_of bytes_of blank flat rows_of row_from rows_from kind_of start_in standard_widths standard_side_columns standard_pad_columns standard_pad_rows standard_banks place_of word_place_of any_below least_below last_below first_below gathered_below net_at names_of_net function_place extra_place input_of pad_of are_set is_link_on is_function_on is_any_on is_extra_on over_grid is_read cell_places cell_bits entry_bits cell_with cells_at cells_of register_of registers_of pin_register pin_registers_of sets_of is_ram_used ram_at rams_of start_words pintype_of pin_with pins_of pin_places global_nets globals_of is_refused_with is_joined class_of numbered_from joins_of buffers_of fabric_with drives_of drivers_of is_driven nets_read lut_value settled_bit value_of next_bit written shown next_words next_register state_after settled_state outputs_of output_values wiring_of clocked_wiring clocks_of_value has leads_below is_on_cycle turn_at pass_of is_at_open end_within clock_end clock_class users_of device_faults pll_tiles pll_tile pll_sources pll_ports pin_faults cascade_faults driver_faults loop_faults clock_faults pins_fault rams_fault fabric_fault design_fault
 half_link = refl
 
 -- a pin with another output part
 pin_output : design_fault no_options database_b (both (at 0 3 2 0 ∷ [])) ≡ Some (fault.pin_mode 0 3 0 4)
-unfolding database_a database_b image_with digits word_bits word_of bytes_of blank flat rows_of row_from rows_from kind_of start_in standard_widths standard_side_columns standard_pad_columns standard_pad_rows standard_banks place_of word_place_of any_below least_below last_below first_below gathered_below net_at names_of_net function_place extra_place input_of pad_of are_set is_link_on is_function_on is_any_on is_extra_on over_grid is_read cell_places cell_bits entry_bits cell_with cells_at cells_of register_of registers_of pin_register pin_registers_of sets_of is_ram_used ram_at rams_of start_words pintype_of pin_with pins_of pin_places global_nets globals_of is_refused_with is_joined class_of numbered_from joins_of buffers_of fabric_with drives_of drivers_of is_driven nets_read lut_value settled_bit value_of next_bit written shown next_words next_register state_after settled_state outputs_of output_values wiring_of has leads_below is_on_cycle turn_at pass_of is_at_open end_within clock_end users_of device_faults pll_tiles pll_tile pll_sources pll_ports pin_faults cascade_faults driver_faults loop_faults clock_faults pins_fault rams_fault fabric_fault design_fault
+unfolding database_a database_b image_with digits word_bits word_of bytes_of blank flat rows_of row_from rows_from kind_of start_in standard_widths standard_side_columns standard_pad_columns standard_pad_rows standard_banks place_of word_place_of any_below least_below last_below first_below gathered_below net_at names_of_net function_place extra_place input_of pad_of are_set is_link_on is_function_on is_any_on is_extra_on over_grid is_read cell_places cell_bits entry_bits cell_with cells_at cells_of register_of registers_of pin_register pin_registers_of sets_of is_ram_used ram_at rams_of start_words pintype_of pin_with pins_of pin_places global_nets globals_of is_refused_with is_joined class_of numbered_from joins_of buffers_of fabric_with drives_of drivers_of is_driven nets_read lut_value settled_bit value_of next_bit written shown next_words next_register state_after settled_state outputs_of output_values wiring_of clocked_wiring clocks_of_value has leads_below is_on_cycle turn_at pass_of is_at_open end_within clock_end clock_class users_of device_faults pll_tiles pll_tile pll_sources pll_ports pin_faults cascade_faults driver_faults loop_faults clock_faults pins_fault rams_fault fabric_fault design_fault
 pin_output = refl
 
 -- an input part that is neither plain nor registered, whose net is read
 pin_input : design_fault no_options database_b (image_with (at 0 1 1 0 ∷ at 1 1 2 0 ∷ [])) ≡ Some (fault.pin_mode 0 1 0 2)
-unfolding database_a database_b image_with digits word_bits word_of bytes_of blank flat rows_of row_from rows_from kind_of start_in standard_widths standard_side_columns standard_pad_columns standard_pad_rows standard_banks place_of word_place_of any_below least_below last_below first_below gathered_below net_at names_of_net function_place extra_place input_of pad_of are_set is_link_on is_function_on is_any_on is_extra_on over_grid is_read cell_places cell_bits entry_bits cell_with cells_at cells_of register_of registers_of pin_register pin_registers_of sets_of is_ram_used ram_at rams_of start_words pintype_of pin_with pins_of pin_places global_nets globals_of is_refused_with is_joined class_of numbered_from joins_of buffers_of fabric_with drives_of drivers_of is_driven nets_read lut_value settled_bit value_of next_bit written shown next_words next_register state_after settled_state outputs_of output_values wiring_of has leads_below is_on_cycle turn_at pass_of is_at_open end_within clock_end users_of device_faults pll_tiles pll_tile pll_sources pll_ports pin_faults cascade_faults driver_faults loop_faults clock_faults pins_fault rams_fault fabric_fault design_fault
+unfolding database_a database_b image_with digits word_bits word_of bytes_of blank flat rows_of row_from rows_from kind_of start_in standard_widths standard_side_columns standard_pad_columns standard_pad_rows standard_banks place_of word_place_of any_below least_below last_below first_below gathered_below net_at names_of_net function_place extra_place input_of pad_of are_set is_link_on is_function_on is_any_on is_extra_on over_grid is_read cell_places cell_bits entry_bits cell_with cells_at cells_of register_of registers_of pin_register pin_registers_of sets_of is_ram_used ram_at rams_of start_words pintype_of pin_with pins_of pin_places global_nets globals_of is_refused_with is_joined class_of numbered_from joins_of buffers_of fabric_with drives_of drivers_of is_driven nets_read lut_value settled_bit value_of next_bit written shown next_words next_register state_after settled_state outputs_of output_values wiring_of clocked_wiring clocks_of_value has leads_below is_on_cycle turn_at pass_of is_at_open end_within clock_end clock_class users_of device_faults pll_tiles pll_tile pll_sources pll_ports pin_faults cascade_faults driver_faults loop_faults clock_faults pins_fault rams_fault fabric_fault design_fault
 pin_input = refl
 
 -- a registered input whose net is read
 pin_registered : design_fault no_options database_b (image_with (at 1 1 2 0 ∷ [])) ≡ None
-unfolding database_a database_b image_with digits word_bits word_of bytes_of blank flat rows_of row_from rows_from kind_of start_in standard_widths standard_side_columns standard_pad_columns standard_pad_rows standard_banks place_of word_place_of any_below least_below last_below first_below gathered_below net_at names_of_net function_place extra_place input_of pad_of are_set is_link_on is_function_on is_any_on is_extra_on over_grid is_read cell_places cell_bits entry_bits cell_with cells_at cells_of register_of registers_of pin_register pin_registers_of sets_of is_ram_used ram_at rams_of start_words pintype_of pin_with pins_of pin_places global_nets globals_of is_refused_with is_joined class_of numbered_from joins_of buffers_of fabric_with drives_of drivers_of is_driven nets_read lut_value settled_bit value_of next_bit written shown next_words next_register state_after settled_state outputs_of output_values wiring_of has leads_below is_on_cycle turn_at pass_of is_at_open end_within clock_end users_of device_faults pll_tiles pll_tile pll_sources pll_ports pin_faults cascade_faults driver_faults loop_faults clock_faults pins_fault rams_fault fabric_fault design_fault
+unfolding database_a database_b image_with digits word_bits word_of bytes_of blank flat rows_of row_from rows_from kind_of start_in standard_widths standard_side_columns standard_pad_columns standard_pad_rows standard_banks place_of word_place_of any_below least_below last_below first_below gathered_below net_at names_of_net function_place extra_place input_of pad_of are_set is_link_on is_function_on is_any_on is_extra_on over_grid is_read cell_places cell_bits entry_bits cell_with cells_at cells_of register_of registers_of pin_register pin_registers_of sets_of is_ram_used ram_at rams_of start_words pintype_of pin_with pins_of pin_places global_nets globals_of is_refused_with is_joined class_of numbered_from joins_of buffers_of fabric_with drives_of drivers_of is_driven nets_read lut_value settled_bit value_of next_bit written shown next_words next_register state_after settled_state outputs_of output_values wiring_of clocked_wiring clocks_of_value has leads_below is_on_cycle turn_at pass_of is_at_open end_within clock_end clock_class users_of device_faults pll_tiles pll_tile pll_sources pll_ports pin_faults cascade_faults driver_faults loop_faults clock_faults pins_fault rams_fault fabric_fault design_fault
 pin_registered = refl
 
 -- the register of a registered input takes the pin, and drives its net; the clock is another pin
 registered_input : map {B = RegisterKind × Option ℕ × Option ℕ × List Signal} (λ register. (register.kind, register.out, register.clk, register.table.ins))
     (fabric_of database_e (image_with (at 0 2 0 0 ∷ at 0 2 3 0 ∷ at 0 2 4 0 ∷ at 0 2 6 0 ∷ at 0 3 0 0 ∷ (lut_i ++ at 1 1 2 0 ∷ [])))).registers
     ≡ (OfPin 0 kind.Input, Some 0, Some 4, signal.Input 0 ∷ net_or_0 None ∷ net_or_0 None ∷ net_or_0 None ∷ []) ∷ []
-unfolding database_a database_e image_with digits word_bits word_of bytes_of blank flat rows_of row_from rows_from kind_of start_in standard_widths standard_side_columns standard_pad_columns standard_pad_rows standard_banks place_of word_place_of any_below least_below last_below first_below gathered_below net_at names_of_net function_place extra_place input_of pad_of are_set is_link_on is_function_on is_any_on is_extra_on over_grid is_read cell_places cell_bits entry_bits cell_with cells_at cells_of register_of registers_of pin_register pin_registers_of sets_of is_ram_used ram_at rams_of start_words pintype_of pin_with pins_of pin_places global_nets globals_of is_refused_with is_joined class_of numbered_from joins_of buffers_of fabric_with drives_of drivers_of is_driven nets_read lut_value settled_bit value_of next_bit written shown next_words next_register state_after settled_state outputs_of output_values wiring_of has leads_below is_on_cycle turn_at pass_of is_at_open end_within clock_end users_of device_faults pll_tiles pll_tile pll_sources pll_ports pin_faults cascade_faults driver_faults loop_faults clock_faults pins_fault rams_fault fabric_fault design_fault
+unfolding database_a database_e image_with digits word_bits word_of bytes_of blank flat rows_of row_from rows_from kind_of start_in standard_widths standard_side_columns standard_pad_columns standard_pad_rows standard_banks place_of word_place_of any_below least_below last_below first_below gathered_below net_at names_of_net function_place extra_place input_of pad_of are_set is_link_on is_function_on is_any_on is_extra_on over_grid is_read cell_places cell_bits entry_bits cell_with cells_at cells_of register_of registers_of pin_register pin_registers_of sets_of is_ram_used ram_at rams_of start_words pintype_of pin_with pins_of pin_places global_nets globals_of is_refused_with is_joined class_of numbered_from joins_of buffers_of fabric_with drives_of drivers_of is_driven nets_read lut_value settled_bit value_of next_bit written shown next_words next_register state_after settled_state outputs_of output_values wiring_of clocked_wiring clocks_of_value has leads_below is_on_cycle turn_at pass_of is_at_open end_within clock_end clock_class users_of device_faults pll_tiles pll_tile pll_sources pll_ports pin_faults cascade_faults driver_faults loop_faults clock_faults pins_fault rams_fault fabric_fault design_fault
 registered_input = refl
 
 -- its driver goes last
 registered_drivers : map {B = Driver × ℕ} (λ drive. (drive.driver, drive.net))
     (drives_of (fabric_of database_e (image_with (at 0 2 0 0 ∷ at 0 2 3 0 ∷ at 0 2 4 0 ∷ at 0 2 6 0 ∷ at 0 3 0 0 ∷ (lut_i ++ at 1 1 2 0 ∷ [])))))
     ≡ (driver.Pin 0 3 0, 4) ∷ (driver.Lut 1 1 0, 2) ∷ (driver.Link 0, 1) ∷ (driver.Link 1, 3) ∷ (driver.PinReg 0 1 0, 0) ∷ []
-unfolding database_a database_e image_with digits word_bits word_of bytes_of blank flat rows_of row_from rows_from kind_of start_in standard_widths standard_side_columns standard_pad_columns standard_pad_rows standard_banks place_of word_place_of any_below least_below last_below first_below gathered_below net_at names_of_net function_place extra_place input_of pad_of are_set is_link_on is_function_on is_any_on is_extra_on over_grid is_read cell_places cell_bits entry_bits cell_with cells_at cells_of register_of registers_of pin_register pin_registers_of sets_of is_ram_used ram_at rams_of start_words pintype_of pin_with pins_of pin_places global_nets globals_of is_refused_with is_joined class_of numbered_from joins_of buffers_of fabric_with drives_of drivers_of is_driven nets_read lut_value settled_bit value_of next_bit written shown next_words next_register state_after settled_state outputs_of output_values wiring_of has leads_below is_on_cycle turn_at pass_of is_at_open end_within clock_end users_of device_faults pll_tiles pll_tile pll_sources pll_ports pin_faults cascade_faults driver_faults loop_faults clock_faults pins_fault rams_fault fabric_fault design_fault
+unfolding database_a database_e image_with digits word_bits word_of bytes_of blank flat rows_of row_from rows_from kind_of start_in standard_widths standard_side_columns standard_pad_columns standard_pad_rows standard_banks place_of word_place_of any_below least_below last_below first_below gathered_below net_at names_of_net function_place extra_place input_of pad_of are_set is_link_on is_function_on is_any_on is_extra_on over_grid is_read cell_places cell_bits entry_bits cell_with cells_at cells_of register_of registers_of pin_register pin_registers_of sets_of is_ram_used ram_at rams_of start_words pintype_of pin_with pins_of pin_places global_nets globals_of is_refused_with is_joined class_of numbered_from joins_of buffers_of fabric_with drives_of drivers_of is_driven nets_read lut_value settled_bit value_of next_bit written shown next_words next_register state_after settled_state outputs_of output_values wiring_of clocked_wiring clocks_of_value has leads_below is_on_cycle turn_at pass_of is_at_open end_within clock_end clock_class users_of device_faults pll_tiles pll_tile pll_sources pll_ports pin_faults cascade_faults driver_faults loop_faults clock_faults pins_fault rams_fault fabric_fault design_fault
 registered_drivers = refl
 
 -- a tri-state pin has two outputs, the second of which is 1 if nothing drives it
 switched : map {B = Bool × Signal} (λ output. (output.enable, output.source))
     (outputs_of (fabric_of database_a (image_with (at 0 1 0 0 ∷ at 0 2 0 0 ∷ at 0 2 3 0 ∷ at 0 2 5 0 ∷ at 0 2 6 0 ∷ (lut_i ++ at 1 1 2 0 ∷ [])))))
     ≡ (false, net_or_0 (Some 3)) ∷ (true, net_or_1 None) ∷ []
-unfolding database_a image_with digits word_bits word_of bytes_of blank flat rows_of row_from rows_from kind_of start_in standard_widths standard_side_columns standard_pad_columns standard_pad_rows standard_banks place_of word_place_of any_below least_below last_below first_below gathered_below net_at names_of_net function_place extra_place input_of pad_of are_set is_link_on is_function_on is_any_on is_extra_on over_grid is_read cell_places cell_bits entry_bits cell_with cells_at cells_of register_of registers_of pin_register pin_registers_of sets_of is_ram_used ram_at rams_of start_words pintype_of pin_with pins_of pin_places global_nets globals_of is_refused_with is_joined class_of numbered_from joins_of buffers_of fabric_with drives_of drivers_of is_driven nets_read lut_value settled_bit value_of next_bit written shown next_words next_register state_after settled_state outputs_of output_values wiring_of has leads_below is_on_cycle turn_at pass_of is_at_open end_within clock_end users_of device_faults pll_tiles pll_tile pll_sources pll_ports pin_faults cascade_faults driver_faults loop_faults clock_faults pins_fault rams_fault fabric_fault design_fault
+unfolding database_a image_with digits word_bits word_of bytes_of blank flat rows_of row_from rows_from kind_of start_in standard_widths standard_side_columns standard_pad_columns standard_pad_rows standard_banks place_of word_place_of any_below least_below last_below first_below gathered_below net_at names_of_net function_place extra_place input_of pad_of are_set is_link_on is_function_on is_any_on is_extra_on over_grid is_read cell_places cell_bits entry_bits cell_with cells_at cells_of register_of registers_of pin_register pin_registers_of sets_of is_ram_used ram_at rams_of start_words pintype_of pin_with pins_of pin_places global_nets globals_of is_refused_with is_joined class_of numbered_from joins_of buffers_of fabric_with drives_of drivers_of is_driven nets_read lut_value settled_bit value_of next_bit written shown next_words next_register state_after settled_state outputs_of output_values wiring_of clocked_wiring clocks_of_value has leads_below is_on_cycle turn_at pass_of is_at_open end_within clock_end clock_class users_of device_faults pll_tiles pll_tile pll_sources pll_ports pin_faults cascade_faults driver_faults loop_faults clock_faults pins_fault rams_fault fabric_fault design_fault
 switched = refl
 
 -- a registered output has the value of its register
@@ -448,7 +449,7 @@ registered_output : outputs_of (fabric_of database_a (image_with (at 0 1 0 0 ∷
   enable = false;
   source = signal.Register 0;
 } ∷ []
-unfolding database_a image_with digits word_bits word_of bytes_of blank flat rows_of row_from rows_from kind_of start_in standard_widths standard_side_columns standard_pad_columns standard_pad_rows standard_banks place_of word_place_of any_below least_below last_below first_below gathered_below net_at names_of_net function_place extra_place input_of pad_of are_set is_link_on is_function_on is_any_on is_extra_on over_grid is_read cell_places cell_bits entry_bits cell_with cells_at cells_of register_of registers_of pin_register pin_registers_of sets_of is_ram_used ram_at rams_of start_words pintype_of pin_with pins_of pin_places global_nets globals_of is_refused_with is_joined class_of numbered_from joins_of buffers_of fabric_with drives_of drivers_of is_driven nets_read lut_value settled_bit value_of next_bit written shown next_words next_register state_after settled_state outputs_of output_values wiring_of has leads_below is_on_cycle turn_at pass_of is_at_open end_within clock_end users_of device_faults pll_tiles pll_tile pll_sources pll_ports pin_faults cascade_faults driver_faults loop_faults clock_faults pins_fault rams_fault fabric_fault design_fault
+unfolding database_a image_with digits word_bits word_of bytes_of blank flat rows_of row_from rows_from kind_of start_in standard_widths standard_side_columns standard_pad_columns standard_pad_rows standard_banks place_of word_place_of any_below least_below last_below first_below gathered_below net_at names_of_net function_place extra_place input_of pad_of are_set is_link_on is_function_on is_any_on is_extra_on over_grid is_read cell_places cell_bits entry_bits cell_with cells_at cells_of register_of registers_of pin_register pin_registers_of sets_of is_ram_used ram_at rams_of start_words pintype_of pin_with pins_of pin_places global_nets globals_of is_refused_with is_joined class_of numbered_from joins_of buffers_of fabric_with drives_of drivers_of is_driven nets_read lut_value settled_bit value_of next_bit written shown next_words next_register state_after settled_state outputs_of output_values wiring_of clocked_wiring clocks_of_value has leads_below is_on_cycle turn_at pass_of is_at_open end_within clock_end clock_class users_of device_faults pll_tiles pll_tile pll_sources pll_ports pin_faults cascade_faults driver_faults loop_faults clock_faults pins_fault rams_fault fabric_fault design_fault
 registered_output = refl
 
 -- which takes what is given to the pin, and has no clock here
@@ -465,132 +466,132 @@ output_register : (fabric_of database_a (image_with (at 0 1 0 0 ∷ at 0 2 0 0 �
   is_async = false;
   table = record { word = 43690; ins = net_or_0 (Some 3) ∷ net_or_0 None ∷ net_or_0 None ∷ net_or_0 None ∷ [] };
 } ∷ []
-unfolding database_a image_with digits word_bits word_of bytes_of blank flat rows_of row_from rows_from kind_of start_in standard_widths standard_side_columns standard_pad_columns standard_pad_rows standard_banks place_of word_place_of any_below least_below last_below first_below gathered_below net_at names_of_net function_place extra_place input_of pad_of are_set is_link_on is_function_on is_any_on is_extra_on over_grid is_read cell_places cell_bits entry_bits cell_with cells_at cells_of register_of registers_of pin_register pin_registers_of sets_of is_ram_used ram_at rams_of start_words pintype_of pin_with pins_of pin_places global_nets globals_of is_refused_with is_joined class_of numbered_from joins_of buffers_of fabric_with drives_of drivers_of is_driven nets_read lut_value settled_bit value_of next_bit written shown next_words next_register state_after settled_state outputs_of output_values wiring_of has leads_below is_on_cycle turn_at pass_of is_at_open end_within clock_end users_of device_faults pll_tiles pll_tile pll_sources pll_ports pin_faults cascade_faults driver_faults loop_faults clock_faults pins_fault rams_fault fabric_fault design_fault
+unfolding database_a image_with digits word_bits word_of bytes_of blank flat rows_of row_from rows_from kind_of start_in standard_widths standard_side_columns standard_pad_columns standard_pad_rows standard_banks place_of word_place_of any_below least_below last_below first_below gathered_below net_at names_of_net function_place extra_place input_of pad_of are_set is_link_on is_function_on is_any_on is_extra_on over_grid is_read cell_places cell_bits entry_bits cell_with cells_at cells_of register_of registers_of pin_register pin_registers_of sets_of is_ram_used ram_at rams_of start_words pintype_of pin_with pins_of pin_places global_nets globals_of is_refused_with is_joined class_of numbered_from joins_of buffers_of fabric_with drives_of drivers_of is_driven nets_read lut_value settled_bit value_of next_bit written shown next_words next_register state_after settled_state outputs_of output_values wiring_of clocked_wiring clocks_of_value has leads_below is_on_cycle turn_at pass_of is_at_open end_within clock_end clock_class users_of device_faults pll_tiles pll_tile pll_sources pll_ports pin_faults cascade_faults driver_faults loop_faults clock_faults pins_fault rams_fault fabric_fault design_fault
 output_register = refl
 
 -- another output part
 not_switched : design_fault no_options database_a (image_with (at 0 1 0 0 ∷ at 0 2 0 0 ∷ at 0 2 2 0 ∷ at 0 2 5 0 ∷ at 0 2 6 0 ∷ (lut_i ++ at 1 1 2 0 ∷ []))) ≡ Some (fault.pin_mode 0 2 0 37)
-unfolding database_a image_with digits word_bits word_of bytes_of blank flat rows_of row_from rows_from kind_of start_in standard_widths standard_side_columns standard_pad_columns standard_pad_rows standard_banks place_of word_place_of any_below least_below last_below first_below gathered_below net_at names_of_net function_place extra_place input_of pad_of are_set is_link_on is_function_on is_any_on is_extra_on over_grid is_read cell_places cell_bits entry_bits cell_with cells_at cells_of register_of registers_of pin_register pin_registers_of sets_of is_ram_used ram_at rams_of start_words pintype_of pin_with pins_of pin_places global_nets globals_of is_refused_with is_joined class_of numbered_from joins_of buffers_of fabric_with drives_of drivers_of is_driven nets_read lut_value settled_bit value_of next_bit written shown next_words next_register state_after settled_state outputs_of output_values wiring_of has leads_below is_on_cycle turn_at pass_of is_at_open end_within clock_end users_of device_faults pll_tiles pll_tile pll_sources pll_ports pin_faults cascade_faults driver_faults loop_faults clock_faults pins_fault rams_fault fabric_fault design_fault
+unfolding database_a image_with digits word_bits word_of bytes_of blank flat rows_of row_from rows_from kind_of start_in standard_widths standard_side_columns standard_pad_columns standard_pad_rows standard_banks place_of word_place_of any_below least_below last_below first_below gathered_below net_at names_of_net function_place extra_place input_of pad_of are_set is_link_on is_function_on is_any_on is_extra_on over_grid is_read cell_places cell_bits entry_bits cell_with cells_at cells_of register_of registers_of pin_register pin_registers_of sets_of is_ram_used ram_at rams_of start_words pintype_of pin_with pins_of pin_places global_nets globals_of is_refused_with is_joined class_of numbered_from joins_of buffers_of fabric_with drives_of drivers_of is_driven nets_read lut_value settled_bit value_of next_bit written shown next_words next_register state_after settled_state outputs_of output_values wiring_of clocked_wiring clocks_of_value has leads_below is_on_cycle turn_at pass_of is_at_open end_within clock_end clock_class users_of device_faults pll_tiles pll_tile pll_sources pll_ports pin_faults cascade_faults driver_faults loop_faults clock_faults pins_fault rams_fault fabric_fault design_fault
 not_switched = refl
 
 -- a PLL with one output, at the pin that is read
 pll_taken : pins_fault true database_h (both (at 0 2 9 0 ∷ at 1 1 2 0 ∷ [])) ≡ None
-unfolding database_a database_h image_with digits word_bits word_of bytes_of blank flat rows_of row_from rows_from kind_of start_in standard_widths standard_side_columns standard_pad_columns standard_pad_rows standard_banks place_of word_place_of any_below least_below last_below first_below gathered_below net_at names_of_net function_place extra_place input_of pad_of are_set is_link_on is_function_on is_any_on is_extra_on over_grid is_read cell_places cell_bits entry_bits cell_with cells_at cells_of register_of registers_of pin_register pin_registers_of sets_of is_ram_used ram_at rams_of start_words pintype_of pin_with pins_of pin_places global_nets globals_of is_refused_with is_joined class_of numbered_from joins_of buffers_of fabric_with drives_of drivers_of is_driven nets_read lut_value settled_bit value_of next_bit written shown next_words next_register state_after settled_state outputs_of output_values wiring_of has leads_below is_on_cycle turn_at pass_of is_at_open end_within clock_end users_of device_faults pll_type output_pin output_net sources_in pll_sources has_unnamed is_pll_refused unnamed_tiles refused_tiles pll_tile pll_ports pin_faults cascade_faults driver_faults loop_faults clock_faults pins_fault rams_fault fabric_fault design_fault
+unfolding database_a database_h image_with digits word_bits word_of bytes_of blank flat rows_of row_from rows_from kind_of start_in standard_widths standard_side_columns standard_pad_columns standard_pad_rows standard_banks place_of word_place_of any_below least_below last_below first_below gathered_below net_at names_of_net function_place extra_place input_of pad_of are_set is_link_on is_function_on is_any_on is_extra_on over_grid is_read cell_places cell_bits entry_bits cell_with cells_at cells_of register_of registers_of pin_register pin_registers_of sets_of is_ram_used ram_at rams_of start_words pintype_of pin_with pins_of pin_places global_nets globals_of is_refused_with is_joined class_of numbered_from joins_of buffers_of fabric_with drives_of drivers_of is_driven nets_read lut_value settled_bit value_of next_bit written shown next_words next_register state_after settled_state outputs_of output_values wiring_of clocked_wiring clocks_of_value has leads_below is_on_cycle turn_at pass_of is_at_open end_within clock_end clock_class users_of device_faults pll_type output_pin output_net sources_in pll_sources has_unnamed is_pll_refused unnamed_tiles refused_tiles pll_tile pll_ports pin_faults cascade_faults driver_faults loop_faults clock_faults pins_fault rams_fault fabric_fault design_fault
 pll_taken = refl
 
 -- the output is the input port, in place of the pin
 pll_inputs : inputs_of (fabric_with all_pins database_h (both (at 0 2 9 0 ∷ at 1 1 2 0 ∷ []))) ≡ port.Pll 0 1 output.A ∷ []
-unfolding database_a database_h image_with digits word_bits word_of bytes_of blank flat rows_of row_from rows_from kind_of start_in standard_widths standard_side_columns standard_pad_columns standard_pad_rows standard_banks place_of word_place_of any_below least_below last_below first_below gathered_below net_at names_of_net function_place extra_place input_of pad_of are_set is_link_on is_function_on is_any_on is_extra_on over_grid is_read cell_places cell_bits entry_bits cell_with cells_at cells_of register_of registers_of pin_register pin_registers_of sets_of is_ram_used ram_at rams_of start_words pintype_of pin_with pins_of pin_places global_nets globals_of is_refused_with is_joined class_of numbered_from joins_of buffers_of fabric_with drives_of drivers_of is_driven nets_read lut_value settled_bit value_of next_bit written shown next_words next_register state_after settled_state outputs_of output_values wiring_of has leads_below is_on_cycle turn_at pass_of is_at_open end_within clock_end users_of device_faults pll_type output_pin output_net sources_in pll_sources has_unnamed is_pll_refused unnamed_tiles refused_tiles pll_tile pll_ports pin_faults cascade_faults driver_faults loop_faults clock_faults pins_fault rams_fault fabric_fault design_fault
+unfolding database_a database_h image_with digits word_bits word_of bytes_of blank flat rows_of row_from rows_from kind_of start_in standard_widths standard_side_columns standard_pad_columns standard_pad_rows standard_banks place_of word_place_of any_below least_below last_below first_below gathered_below net_at names_of_net function_place extra_place input_of pad_of are_set is_link_on is_function_on is_any_on is_extra_on over_grid is_read cell_places cell_bits entry_bits cell_with cells_at cells_of register_of registers_of pin_register pin_registers_of sets_of is_ram_used ram_at rams_of start_words pintype_of pin_with pins_of pin_places global_nets globals_of is_refused_with is_joined class_of numbered_from joins_of buffers_of fabric_with drives_of drivers_of is_driven nets_read lut_value settled_bit value_of next_bit written shown next_words next_register state_after settled_state outputs_of output_values wiring_of clocked_wiring clocks_of_value has leads_below is_on_cycle turn_at pass_of is_at_open end_within clock_end clock_class users_of device_faults pll_type output_pin output_net sources_in pll_sources has_unnamed is_pll_refused unnamed_tiles refused_tiles pll_tile pll_ports pin_faults cascade_faults driver_faults loop_faults clock_faults pins_fault rams_fault fabric_fault design_fault
 pll_inputs = refl
 
 -- and drives its net
 pll_drivers : map {B = Driver × ℕ} (λ drive. (drive.driver, drive.net)) (drives_of (fabric_with all_pins database_h (both (at 0 2 9 0 ∷ at 1 1 2 0 ∷ []))))
     ≡ (driver.Lut 1 1 0, 2) ∷ (driver.Link 0, 1) ∷ (driver.Link 1, 3) ∷ (driver.PllOut 0 1 output.A, 0) ∷ []
-unfolding database_a database_h image_with digits word_bits word_of bytes_of blank flat rows_of row_from rows_from kind_of start_in standard_widths standard_side_columns standard_pad_columns standard_pad_rows standard_banks place_of word_place_of any_below least_below last_below first_below gathered_below net_at names_of_net function_place extra_place input_of pad_of are_set is_link_on is_function_on is_any_on is_extra_on over_grid is_read cell_places cell_bits entry_bits cell_with cells_at cells_of register_of registers_of pin_register pin_registers_of sets_of is_ram_used ram_at rams_of start_words pintype_of pin_with pins_of pin_places global_nets globals_of is_refused_with is_joined class_of numbered_from joins_of buffers_of fabric_with drives_of drivers_of is_driven nets_read lut_value settled_bit value_of next_bit written shown next_words next_register state_after settled_state outputs_of output_values wiring_of has leads_below is_on_cycle turn_at pass_of is_at_open end_within clock_end users_of device_faults pll_type output_pin output_net sources_in pll_sources has_unnamed is_pll_refused unnamed_tiles refused_tiles pll_tile pll_ports pin_faults cascade_faults driver_faults loop_faults clock_faults pins_fault rams_fault fabric_fault design_fault
+unfolding database_a database_h image_with digits word_bits word_of bytes_of blank flat rows_of row_from rows_from kind_of start_in standard_widths standard_side_columns standard_pad_columns standard_pad_rows standard_banks place_of word_place_of any_below least_below last_below first_below gathered_below net_at names_of_net function_place extra_place input_of pad_of are_set is_link_on is_function_on is_any_on is_extra_on over_grid is_read cell_places cell_bits entry_bits cell_with cells_at cells_of register_of registers_of pin_register pin_registers_of sets_of is_ram_used ram_at rams_of start_words pintype_of pin_with pins_of pin_places global_nets globals_of is_refused_with is_joined class_of numbered_from joins_of buffers_of fabric_with drives_of drivers_of is_driven nets_read lut_value settled_bit value_of next_bit written shown next_words next_register state_after settled_state outputs_of output_values wiring_of clocked_wiring clocks_of_value has leads_below is_on_cycle turn_at pass_of is_at_open end_within clock_end clock_class users_of device_faults pll_type output_pin output_net sources_in pll_sources has_unnamed is_pll_refused unnamed_tiles refused_tiles pll_tile pll_ports pin_faults cascade_faults driver_faults loop_faults clock_faults pins_fault rams_fault fabric_fault design_fault
 pll_drivers = refl
 
 -- a type that is none
 pll_type_unknown : pins_fault true database_h (both (at 0 2 8 0 ∷ at 1 1 2 0 ∷ [])) ≡ Some (fault.pll 0 1)
-unfolding database_a database_h image_with digits word_bits word_of bytes_of blank flat rows_of row_from rows_from kind_of start_in standard_widths standard_side_columns standard_pad_columns standard_pad_rows standard_banks place_of word_place_of any_below least_below last_below first_below gathered_below net_at names_of_net function_place extra_place input_of pad_of are_set is_link_on is_function_on is_any_on is_extra_on over_grid is_read cell_places cell_bits entry_bits cell_with cells_at cells_of register_of registers_of pin_register pin_registers_of sets_of is_ram_used ram_at rams_of start_words pintype_of pin_with pins_of pin_places global_nets globals_of is_refused_with is_joined class_of numbered_from joins_of buffers_of fabric_with drives_of drivers_of is_driven nets_read lut_value settled_bit value_of next_bit written shown next_words next_register state_after settled_state outputs_of output_values wiring_of has leads_below is_on_cycle turn_at pass_of is_at_open end_within clock_end users_of device_faults pll_type output_pin output_net sources_in pll_sources has_unnamed is_pll_refused unnamed_tiles refused_tiles pll_tile pll_ports pin_faults cascade_faults driver_faults loop_faults clock_faults pins_fault rams_fault fabric_fault design_fault
+unfolding database_a database_h image_with digits word_bits word_of bytes_of blank flat rows_of row_from rows_from kind_of start_in standard_widths standard_side_columns standard_pad_columns standard_pad_rows standard_banks place_of word_place_of any_below least_below last_below first_below gathered_below net_at names_of_net function_place extra_place input_of pad_of are_set is_link_on is_function_on is_any_on is_extra_on over_grid is_read cell_places cell_bits entry_bits cell_with cells_at cells_of register_of registers_of pin_register pin_registers_of sets_of is_ram_used ram_at rams_of start_words pintype_of pin_with pins_of pin_places global_nets globals_of is_refused_with is_joined class_of numbered_from joins_of buffers_of fabric_with drives_of drivers_of is_driven nets_read lut_value settled_bit value_of next_bit written shown next_words next_register state_after settled_state outputs_of output_values wiring_of clocked_wiring clocks_of_value has leads_below is_on_cycle turn_at pass_of is_at_open end_within clock_end clock_class users_of device_faults pll_type output_pin output_net sources_in pll_sources has_unnamed is_pll_refused unnamed_tiles refused_tiles pll_tile pll_ports pin_faults cascade_faults driver_faults loop_faults clock_faults pins_fault rams_fault fabric_fault design_fault
 pll_type_unknown = refl
 
 -- a function that no PLL names
 pll_unnamed : pins_fault true database_h (both (at 0 3 9 0 ∷ at 1 1 2 0 ∷ [])) ≡ Some (fault.pll 0 3)
-unfolding database_a database_h image_with digits word_bits word_of bytes_of blank flat rows_of row_from rows_from kind_of start_in standard_widths standard_side_columns standard_pad_columns standard_pad_rows standard_banks place_of word_place_of any_below least_below last_below first_below gathered_below net_at names_of_net function_place extra_place input_of pad_of are_set is_link_on is_function_on is_any_on is_extra_on over_grid is_read cell_places cell_bits entry_bits cell_with cells_at cells_of register_of registers_of pin_register pin_registers_of sets_of is_ram_used ram_at rams_of start_words pintype_of pin_with pins_of pin_places global_nets globals_of is_refused_with is_joined class_of numbered_from joins_of buffers_of fabric_with drives_of drivers_of is_driven nets_read lut_value settled_bit value_of next_bit written shown next_words next_register state_after settled_state outputs_of output_values wiring_of has leads_below is_on_cycle turn_at pass_of is_at_open end_within clock_end users_of device_faults pll_type output_pin output_net sources_in pll_sources has_unnamed is_pll_refused unnamed_tiles refused_tiles pll_tile pll_ports pin_faults cascade_faults driver_faults loop_faults clock_faults pins_fault rams_fault fabric_fault design_fault
+unfolding database_a database_h image_with digits word_bits word_of bytes_of blank flat rows_of row_from rows_from kind_of start_in standard_widths standard_side_columns standard_pad_columns standard_pad_rows standard_banks place_of word_place_of any_below least_below last_below first_below gathered_below net_at names_of_net function_place extra_place input_of pad_of are_set is_link_on is_function_on is_any_on is_extra_on over_grid is_read cell_places cell_bits entry_bits cell_with cells_at cells_of register_of registers_of pin_register pin_registers_of sets_of is_ram_used ram_at rams_of start_words pintype_of pin_with pins_of pin_places global_nets globals_of is_refused_with is_joined class_of numbered_from joins_of buffers_of fabric_with drives_of drivers_of is_driven nets_read lut_value settled_bit value_of next_bit written shown next_words next_register state_after settled_state outputs_of output_values wiring_of clocked_wiring clocks_of_value has leads_below is_on_cycle turn_at pass_of is_at_open end_within clock_end clock_class users_of device_faults pll_type output_pin output_net sources_in pll_sources has_unnamed is_pll_refused unnamed_tiles refused_tiles pll_tile pll_ports pin_faults cascade_faults driver_faults loop_faults clock_faults pins_fault rams_fault fabric_fault design_fault
 pll_unnamed = refl
 
 -- an output that isn't read as it is
 pll_misread : pins_fault true database_h (image_with (at 0 2 0 0 ∷ at 0 2 3 0 ∷ at 0 2 4 0 ∷ at 0 2 6 0 ∷ at 0 2 9 0 ∷ (lut_i ++ at 1 1 2 0 ∷ []))) ≡ Some (fault.pin_mode 0 1 0 0)
-unfolding database_a database_h image_with digits word_bits word_of bytes_of blank flat rows_of row_from rows_from kind_of start_in standard_widths standard_side_columns standard_pad_columns standard_pad_rows standard_banks place_of word_place_of any_below least_below last_below first_below gathered_below net_at names_of_net function_place extra_place input_of pad_of are_set is_link_on is_function_on is_any_on is_extra_on over_grid is_read cell_places cell_bits entry_bits cell_with cells_at cells_of register_of registers_of pin_register pin_registers_of sets_of is_ram_used ram_at rams_of start_words pintype_of pin_with pins_of pin_places global_nets globals_of is_refused_with is_joined class_of numbered_from joins_of buffers_of fabric_with drives_of drivers_of is_driven nets_read lut_value settled_bit value_of next_bit written shown next_words next_register state_after settled_state outputs_of output_values wiring_of has leads_below is_on_cycle turn_at pass_of is_at_open end_within clock_end users_of device_faults pll_type output_pin output_net sources_in pll_sources has_unnamed is_pll_refused unnamed_tiles refused_tiles pll_tile pll_ports pin_faults cascade_faults driver_faults loop_faults clock_faults pins_fault rams_fault fabric_fault design_fault
+unfolding database_a database_h image_with digits word_bits word_of bytes_of blank flat rows_of row_from rows_from kind_of start_in standard_widths standard_side_columns standard_pad_columns standard_pad_rows standard_banks place_of word_place_of any_below least_below last_below first_below gathered_below net_at names_of_net function_place extra_place input_of pad_of are_set is_link_on is_function_on is_any_on is_extra_on over_grid is_read cell_places cell_bits entry_bits cell_with cells_at cells_of register_of registers_of pin_register pin_registers_of sets_of is_ram_used ram_at rams_of start_words pintype_of pin_with pins_of pin_places global_nets globals_of is_refused_with is_joined class_of numbered_from joins_of buffers_of fabric_with drives_of drivers_of is_driven nets_read lut_value settled_bit value_of next_bit written shown next_words next_register state_after settled_state outputs_of output_values wiring_of clocked_wiring clocks_of_value has leads_below is_on_cycle turn_at pass_of is_at_open end_within clock_end clock_class users_of device_faults pll_type output_pin output_net sources_in pll_sources has_unnamed is_pll_refused unnamed_tiles refused_tiles pll_tile pll_ports pin_faults cascade_faults driver_faults loop_faults clock_faults pins_fault rams_fault fabric_fault design_fault
 pll_misread = refl
 
 -- without the option a PLL isn't taken
 pll_without : pins_fault false database_h (both (at 0 2 9 0 ∷ at 1 1 2 0 ∷ [])) ≡ Some (fault.pll 0 2)
-unfolding database_a database_h image_with digits word_bits word_of bytes_of blank flat rows_of row_from rows_from kind_of start_in standard_widths standard_side_columns standard_pad_columns standard_pad_rows standard_banks place_of word_place_of any_below least_below last_below first_below gathered_below net_at names_of_net function_place extra_place input_of pad_of are_set is_link_on is_function_on is_any_on is_extra_on over_grid is_read cell_places cell_bits entry_bits cell_with cells_at cells_of register_of registers_of pin_register pin_registers_of sets_of is_ram_used ram_at rams_of start_words pintype_of pin_with pins_of pin_places global_nets globals_of is_refused_with is_joined class_of numbered_from joins_of buffers_of fabric_with drives_of drivers_of is_driven nets_read lut_value settled_bit value_of next_bit written shown next_words next_register state_after settled_state outputs_of output_values wiring_of has leads_below is_on_cycle turn_at pass_of is_at_open end_within clock_end users_of device_faults pll_type output_pin output_net sources_in pll_sources has_unnamed is_pll_refused unnamed_tiles refused_tiles pll_tiles pll_tile pll_ports pin_faults cascade_faults driver_faults loop_faults clock_faults pins_fault rams_fault fabric_fault design_fault
+unfolding database_a database_h image_with digits word_bits word_of bytes_of blank flat rows_of row_from rows_from kind_of start_in standard_widths standard_side_columns standard_pad_columns standard_pad_rows standard_banks place_of word_place_of any_below least_below last_below first_below gathered_below net_at names_of_net function_place extra_place input_of pad_of are_set is_link_on is_function_on is_any_on is_extra_on over_grid is_read cell_places cell_bits entry_bits cell_with cells_at cells_of register_of registers_of pin_register pin_registers_of sets_of is_ram_used ram_at rams_of start_words pintype_of pin_with pins_of pin_places global_nets globals_of is_refused_with is_joined class_of numbered_from joins_of buffers_of fabric_with drives_of drivers_of is_driven nets_read lut_value settled_bit value_of next_bit written shown next_words next_register state_after settled_state outputs_of output_values wiring_of clocked_wiring clocks_of_value has leads_below is_on_cycle turn_at pass_of is_at_open end_within clock_end clock_class users_of device_faults pll_type output_pin output_net sources_in pll_sources has_unnamed is_pll_refused unnamed_tiles refused_tiles pll_tiles pll_tile pll_ports pin_faults cascade_faults driver_faults loop_faults clock_faults pins_fault rams_fault fabric_fault design_fault
 pll_without = refl
 
 -- the other device
 device : device_faults database_a (blank_image (standard_layout Hx8k)) ≡ fault.other_device ∷ []
-unfolding database_a image_with digits word_bits word_of bytes_of blank flat rows_of row_from rows_from kind_of start_in standard_widths standard_side_columns standard_pad_columns standard_pad_rows standard_banks place_of word_place_of any_below least_below last_below first_below gathered_below net_at names_of_net function_place extra_place input_of pad_of are_set is_link_on is_function_on is_any_on is_extra_on over_grid is_read cell_places cell_bits entry_bits cell_with cells_at cells_of register_of registers_of pin_register pin_registers_of sets_of is_ram_used ram_at rams_of start_words pintype_of pin_with pins_of pin_places global_nets globals_of is_refused_with is_joined class_of numbered_from joins_of buffers_of fabric_with drives_of drivers_of is_driven nets_read lut_value settled_bit value_of next_bit written shown next_words next_register state_after settled_state outputs_of output_values wiring_of has leads_below is_on_cycle turn_at pass_of is_at_open end_within clock_end users_of device_faults pll_tiles pll_tile pll_sources pll_ports pin_faults cascade_faults driver_faults loop_faults clock_faults pins_fault rams_fault fabric_fault design_fault
+unfolding database_a image_with digits word_bits word_of bytes_of blank flat rows_of row_from rows_from kind_of start_in standard_widths standard_side_columns standard_pad_columns standard_pad_rows standard_banks place_of word_place_of any_below least_below last_below first_below gathered_below net_at names_of_net function_place extra_place input_of pad_of are_set is_link_on is_function_on is_any_on is_extra_on over_grid is_read cell_places cell_bits entry_bits cell_with cells_at cells_of register_of registers_of pin_register pin_registers_of sets_of is_ram_used ram_at rams_of start_words pintype_of pin_with pins_of pin_places global_nets globals_of is_refused_with is_joined class_of numbered_from joins_of buffers_of fabric_with drives_of drivers_of is_driven nets_read lut_value settled_bit value_of next_bit written shown next_words next_register state_after settled_state outputs_of output_values wiring_of clocked_wiring clocks_of_value has leads_below is_on_cycle turn_at pass_of is_at_open end_within clock_end clock_class users_of device_faults pll_tiles pll_tile pll_sources pll_ports pin_faults cascade_faults driver_faults loop_faults clock_faults pins_fault rams_fault fabric_fault design_fault
 device = refl
 
 -- a PLL
 pll : design_fault no_options database_c (both (at 0 9 9 0 ∷ at 0 3 2 0 ∷ [])) ≡ Some (fault.pll 0 9)
-unfolding database_a database_b database_c image_with digits word_bits word_of bytes_of blank flat rows_of row_from rows_from kind_of start_in standard_widths standard_side_columns standard_pad_columns standard_pad_rows standard_banks place_of word_place_of any_below least_below last_below first_below gathered_below net_at names_of_net function_place extra_place input_of pad_of are_set is_link_on is_function_on is_any_on is_extra_on over_grid is_read cell_places cell_bits entry_bits cell_with cells_at cells_of register_of registers_of pin_register pin_registers_of sets_of is_ram_used ram_at rams_of start_words pintype_of pin_with pins_of pin_places global_nets globals_of is_refused_with is_joined class_of numbered_from joins_of buffers_of fabric_with drives_of drivers_of is_driven nets_read lut_value settled_bit value_of next_bit written shown next_words next_register state_after settled_state outputs_of output_values wiring_of has leads_below is_on_cycle turn_at pass_of is_at_open end_within clock_end users_of device_faults pll_tiles pll_tile pll_sources pll_ports pin_faults cascade_faults driver_faults loop_faults clock_faults pins_fault rams_fault fabric_fault design_fault
+unfolding database_a database_b database_c image_with digits word_bits word_of bytes_of blank flat rows_of row_from rows_from kind_of start_in standard_widths standard_side_columns standard_pad_columns standard_pad_rows standard_banks place_of word_place_of any_below least_below last_below first_below gathered_below net_at names_of_net function_place extra_place input_of pad_of are_set is_link_on is_function_on is_any_on is_extra_on over_grid is_read cell_places cell_bits entry_bits cell_with cells_at cells_of register_of registers_of pin_register pin_registers_of sets_of is_ram_used ram_at rams_of start_words pintype_of pin_with pins_of pin_places global_nets globals_of is_refused_with is_joined class_of numbered_from joins_of buffers_of fabric_with drives_of drivers_of is_driven nets_read lut_value settled_bit value_of next_bit written shown next_words next_register state_after settled_state outputs_of output_values wiring_of clocked_wiring clocks_of_value has leads_below is_on_cycle turn_at pass_of is_at_open end_within clock_end clock_class users_of device_faults pll_tiles pll_tile pll_sources pll_ports pin_faults cascade_faults driver_faults loop_faults clock_faults pins_fault rams_fault fabric_fault design_fault
 pll = refl
 
 -- a port beside a differential pair
 lvds : design_fault no_options database_c (both (at 0 1 10 0 ∷ [])) ≡ Some (fault.pin_mode 0 1 0 1)
-unfolding database_a database_b database_c image_with digits word_bits word_of bytes_of blank flat rows_of row_from rows_from kind_of start_in standard_widths standard_side_columns standard_pad_columns standard_pad_rows standard_banks place_of word_place_of any_below least_below last_below first_below gathered_below net_at names_of_net function_place extra_place input_of pad_of are_set is_link_on is_function_on is_any_on is_extra_on over_grid is_read cell_places cell_bits entry_bits cell_with cells_at cells_of register_of registers_of pin_register pin_registers_of sets_of is_ram_used ram_at rams_of start_words pintype_of pin_with pins_of pin_places global_nets globals_of is_refused_with is_joined class_of numbered_from joins_of buffers_of fabric_with drives_of drivers_of is_driven nets_read lut_value settled_bit value_of next_bit written shown next_words next_register state_after settled_state outputs_of output_values wiring_of has leads_below is_on_cycle turn_at pass_of is_at_open end_within clock_end users_of device_faults pll_tiles pll_tile pll_sources pll_ports pin_faults cascade_faults driver_faults loop_faults clock_faults pins_fault rams_fault fabric_fault design_fault
+unfolding database_a database_b database_c image_with digits word_bits word_of bytes_of blank flat rows_of row_from rows_from kind_of start_in standard_widths standard_side_columns standard_pad_columns standard_pad_rows standard_banks place_of word_place_of any_below least_below last_below first_below gathered_below net_at names_of_net function_place extra_place input_of pad_of are_set is_link_on is_function_on is_any_on is_extra_on over_grid is_read cell_places cell_bits entry_bits cell_with cells_at cells_of register_of registers_of pin_register pin_registers_of sets_of is_ram_used ram_at rams_of start_words pintype_of pin_with pins_of pin_places global_nets globals_of is_refused_with is_joined class_of numbered_from joins_of buffers_of fabric_with drives_of drivers_of is_driven nets_read lut_value settled_bit value_of next_bit written shown next_words next_register state_after settled_state outputs_of output_values wiring_of clocked_wiring clocks_of_value has leads_below is_on_cycle turn_at pass_of is_at_open end_within clock_end clock_class users_of device_faults pll_tiles pll_tile pll_sources pll_ports pin_faults cascade_faults driver_faults loop_faults clock_faults pins_fault rams_fault fabric_fault design_fault
 lvds = refl
 
 -- a second input that a routing reads
 second_input : design_fault no_options database_c (both (at 1 1 8 0 ∷ [])) ≡ Some (fault.pin_mode 0 1 0 1)
-unfolding database_a database_b database_c image_with digits word_bits word_of bytes_of blank flat rows_of row_from rows_from kind_of start_in standard_widths standard_side_columns standard_pad_columns standard_pad_rows standard_banks place_of word_place_of any_below least_below last_below first_below gathered_below net_at names_of_net function_place extra_place input_of pad_of are_set is_link_on is_function_on is_any_on is_extra_on over_grid is_read cell_places cell_bits entry_bits cell_with cells_at cells_of register_of registers_of pin_register pin_registers_of sets_of is_ram_used ram_at rams_of start_words pintype_of pin_with pins_of pin_places global_nets globals_of is_refused_with is_joined class_of numbered_from joins_of buffers_of fabric_with drives_of drivers_of is_driven nets_read lut_value settled_bit value_of next_bit written shown next_words next_register state_after settled_state outputs_of output_values wiring_of has leads_below is_on_cycle turn_at pass_of is_at_open end_within clock_end users_of device_faults pll_tiles pll_tile pll_sources pll_ports pin_faults cascade_faults driver_faults loop_faults clock_faults pins_fault rams_fault fabric_fault design_fault
+unfolding database_a database_b database_c image_with digits word_bits word_of bytes_of blank flat rows_of row_from rows_from kind_of start_in standard_widths standard_side_columns standard_pad_columns standard_pad_rows standard_banks place_of word_place_of any_below least_below last_below first_below gathered_below net_at names_of_net function_place extra_place input_of pad_of are_set is_link_on is_function_on is_any_on is_extra_on over_grid is_read cell_places cell_bits entry_bits cell_with cells_at cells_of register_of registers_of pin_register pin_registers_of sets_of is_ram_used ram_at rams_of start_words pintype_of pin_with pins_of pin_places global_nets globals_of is_refused_with is_joined class_of numbered_from joins_of buffers_of fabric_with drives_of drivers_of is_driven nets_read lut_value settled_bit value_of next_bit written shown next_words next_register state_after settled_state outputs_of output_values wiring_of clocked_wiring clocks_of_value has leads_below is_on_cycle turn_at pass_of is_at_open end_within clock_end clock_class users_of device_faults pll_tiles pll_tile pll_sources pll_ports pin_faults cascade_faults driver_faults loop_faults clock_faults pins_fault rams_fault fabric_fault design_fault
 second_input = refl
 
 -- a RAM whose words are narrow is taken; it is used for its buffer is on
 narrow : map {B = ℕ × ℕ} (λ ram. (ram.read, ram.write)) (rams_of database_c (both (at 3 1 0 0 ∷ at 3 2 1 0 ∷ at 3 2 2 0 ∷ []))) ≡ (2, 1) ∷ []
-unfolding database_a database_b database_c image_with digits word_bits word_of bytes_of blank flat rows_of row_from rows_from kind_of start_in standard_widths standard_side_columns standard_pad_columns standard_pad_rows standard_banks place_of word_place_of any_below least_below last_below first_below gathered_below net_at names_of_net function_place extra_place input_of pad_of are_set is_link_on is_function_on is_any_on is_extra_on over_grid is_read cell_places cell_bits entry_bits cell_with cells_at cells_of register_of registers_of pin_register pin_registers_of sets_of is_ram_used ram_at rams_of start_words pintype_of pin_with pins_of pin_places global_nets globals_of is_refused_with is_joined class_of numbered_from joins_of buffers_of fabric_with drives_of drivers_of is_driven nets_read lut_value settled_bit value_of next_bit written shown next_words next_register state_after settled_state outputs_of output_values wiring_of has leads_below is_on_cycle turn_at pass_of is_at_open end_within clock_end users_of device_faults pll_tiles pll_tile pll_sources pll_ports pin_faults cascade_faults driver_faults loop_faults clock_faults pins_fault rams_fault fabric_fault design_fault
+unfolding database_a database_b database_c image_with digits word_bits word_of bytes_of blank flat rows_of row_from rows_from kind_of start_in standard_widths standard_side_columns standard_pad_columns standard_pad_rows standard_banks place_of word_place_of any_below least_below last_below first_below gathered_below net_at names_of_net function_place extra_place input_of pad_of are_set is_link_on is_function_on is_any_on is_extra_on over_grid is_read cell_places cell_bits entry_bits cell_with cells_at cells_of register_of registers_of pin_register pin_registers_of sets_of is_ram_used ram_at rams_of start_words pintype_of pin_with pins_of pin_places global_nets globals_of is_refused_with is_joined class_of numbered_from joins_of buffers_of fabric_with drives_of drivers_of is_driven nets_read lut_value settled_bit value_of next_bit written shown next_words next_register state_after settled_state outputs_of output_values wiring_of clocked_wiring clocks_of_value has leads_below is_on_cycle turn_at pass_of is_at_open end_within clock_end clock_class users_of device_faults pll_tiles pll_tile pll_sources pll_ports pin_faults cascade_faults driver_faults loop_faults clock_faults pins_fault rams_fault fabric_fault design_fault
 narrow = refl
 
 narrow_taken : rams_fault database_c (both (at 3 1 0 0 ∷ at 3 2 1 0 ∷ at 3 2 2 0 ∷ [])) ≡ None
-unfolding database_a database_b database_c image_with digits word_bits word_of bytes_of blank flat rows_of row_from rows_from kind_of start_in standard_widths standard_side_columns standard_pad_columns standard_pad_rows standard_banks place_of word_place_of any_below least_below last_below first_below gathered_below net_at names_of_net function_place extra_place input_of pad_of are_set is_link_on is_function_on is_any_on is_extra_on over_grid is_read cell_places cell_bits entry_bits cell_with cells_at cells_of register_of registers_of pin_register pin_registers_of sets_of is_ram_used ram_at rams_of start_words pintype_of pin_with pins_of pin_places global_nets globals_of is_refused_with is_joined class_of numbered_from joins_of buffers_of fabric_with drives_of drivers_of is_driven nets_read lut_value settled_bit value_of next_bit written shown next_words next_register state_after settled_state outputs_of output_values wiring_of has leads_below is_on_cycle turn_at pass_of is_at_open end_within clock_end users_of device_faults pll_tiles pll_tile pll_sources pll_ports pin_faults cascade_faults driver_faults loop_faults clock_faults pins_fault rams_fault fabric_fault design_fault
+unfolding database_a database_b database_c image_with digits word_bits word_of bytes_of blank flat rows_of row_from rows_from kind_of start_in standard_widths standard_side_columns standard_pad_columns standard_pad_rows standard_banks place_of word_place_of any_below least_below last_below first_below gathered_below net_at names_of_net function_place extra_place input_of pad_of are_set is_link_on is_function_on is_any_on is_extra_on over_grid is_read cell_places cell_bits entry_bits cell_with cells_at cells_of register_of registers_of pin_register pin_registers_of sets_of is_ram_used ram_at rams_of start_words pintype_of pin_with pins_of pin_places global_nets globals_of is_refused_with is_joined class_of numbered_from joins_of buffers_of fabric_with drives_of drivers_of is_driven nets_read lut_value settled_bit value_of next_bit written shown next_words next_register state_after settled_state outputs_of output_values wiring_of clocked_wiring clocks_of_value has leads_below is_on_cycle turn_at pass_of is_at_open end_within clock_end clock_class users_of device_faults pll_tiles pll_tile pll_sources pll_ports pin_faults cascade_faults driver_faults loop_faults clock_faults pins_fault rams_fault fabric_fault design_fault
 narrow_taken = refl
 
 -- a RAM that isn't used isn't asked
 unused_ram : design_fault no_options database_c (both (at 3 2 1 0 ∷ at 3 1 3 0 ∷ [])) ≡ None
-unfolding database_a database_b database_c image_with digits word_bits word_of bytes_of blank flat rows_of row_from rows_from kind_of start_in standard_widths standard_side_columns standard_pad_columns standard_pad_rows standard_banks place_of word_place_of any_below least_below last_below first_below gathered_below net_at names_of_net function_place extra_place input_of pad_of are_set is_link_on is_function_on is_any_on is_extra_on over_grid is_read cell_places cell_bits entry_bits cell_with cells_at cells_of register_of registers_of pin_register pin_registers_of sets_of is_ram_used ram_at rams_of start_words pintype_of pin_with pins_of pin_places global_nets globals_of is_refused_with is_joined class_of numbered_from joins_of buffers_of fabric_with drives_of drivers_of is_driven nets_read lut_value settled_bit value_of next_bit written shown next_words next_register state_after settled_state outputs_of output_values wiring_of has leads_below is_on_cycle turn_at pass_of is_at_open end_within clock_end users_of device_faults pll_tiles pll_tile pll_sources pll_ports pin_faults cascade_faults driver_faults loop_faults clock_faults pins_fault rams_fault fabric_fault design_fault
+unfolding database_a database_b database_c image_with digits word_bits word_of bytes_of blank flat rows_of row_from rows_from kind_of start_in standard_widths standard_side_columns standard_pad_columns standard_pad_rows standard_banks place_of word_place_of any_below least_below last_below first_below gathered_below net_at names_of_net function_place extra_place input_of pad_of are_set is_link_on is_function_on is_any_on is_extra_on over_grid is_read cell_places cell_bits entry_bits cell_with cells_at cells_of register_of registers_of pin_register pin_registers_of sets_of is_ram_used ram_at rams_of start_words pintype_of pin_with pins_of pin_places global_nets globals_of is_refused_with is_joined class_of numbered_from joins_of buffers_of fabric_with drives_of drivers_of is_driven nets_read lut_value settled_bit value_of next_bit written shown next_words next_register state_after settled_state outputs_of output_values wiring_of clocked_wiring clocks_of_value has leads_below is_on_cycle turn_at pass_of is_at_open end_within clock_end clock_class users_of device_faults pll_tiles pll_tile pll_sources pll_ports pin_faults cascade_faults driver_faults loop_faults clock_faults pins_fault rams_fault fabric_fault design_fault
 unused_ram = refl
 
 -- a cascade
 cascade : design_fault no_options database_c (both (at 3 1 0 0 ∷ at 3 1 3 0 ∷ [])) ≡ Some (fault.cascade 3 1)
-unfolding database_a database_b database_c image_with digits word_bits word_of bytes_of blank flat rows_of row_from rows_from kind_of start_in standard_widths standard_side_columns standard_pad_columns standard_pad_rows standard_banks place_of word_place_of any_below least_below last_below first_below gathered_below net_at names_of_net function_place extra_place input_of pad_of are_set is_link_on is_function_on is_any_on is_extra_on over_grid is_read cell_places cell_bits entry_bits cell_with cells_at cells_of register_of registers_of pin_register pin_registers_of sets_of is_ram_used ram_at rams_of start_words pintype_of pin_with pins_of pin_places global_nets globals_of is_refused_with is_joined class_of numbered_from joins_of buffers_of fabric_with drives_of drivers_of is_driven nets_read lut_value settled_bit value_of next_bit written shown next_words next_register state_after settled_state outputs_of output_values wiring_of has leads_below is_on_cycle turn_at pass_of is_at_open end_within clock_end users_of device_faults pll_tiles pll_tile pll_sources pll_ports pin_faults cascade_faults driver_faults loop_faults clock_faults pins_fault rams_fault fabric_fault design_fault
+unfolding database_a database_b database_c image_with digits word_bits word_of bytes_of blank flat rows_of row_from rows_from kind_of start_in standard_widths standard_side_columns standard_pad_columns standard_pad_rows standard_banks place_of word_place_of any_below least_below last_below first_below gathered_below net_at names_of_net function_place extra_place input_of pad_of are_set is_link_on is_function_on is_any_on is_extra_on over_grid is_read cell_places cell_bits entry_bits cell_with cells_at cells_of register_of registers_of pin_register pin_registers_of sets_of is_ram_used ram_at rams_of start_words pintype_of pin_with pins_of pin_places global_nets globals_of is_refused_with is_joined class_of numbered_from joins_of buffers_of fabric_with drives_of drivers_of is_driven nets_read lut_value settled_bit value_of next_bit written shown next_words next_register state_after settled_state outputs_of output_values wiring_of clocked_wiring clocks_of_value has leads_below is_on_cycle turn_at pass_of is_at_open end_within clock_end clock_class users_of device_faults pll_tiles pll_tile pll_sources pll_ports pin_faults cascade_faults driver_faults loop_faults clock_faults pins_fault rams_fault fabric_fault design_fault
 cascade = refl
 
 -- a pin and a RAM on one net
 pin_and_ram : design_fault no_options database_c (both (at 3 1 0 0 ∷ [])) ≡ Some (fault.two_drivers 0 (driver.Pin 0 1 0) (driver.Link 5))
-unfolding database_a database_b database_c image_with digits word_bits word_of bytes_of blank flat rows_of row_from rows_from kind_of start_in standard_widths standard_side_columns standard_pad_columns standard_pad_rows standard_banks place_of word_place_of any_below least_below last_below first_below gathered_below net_at names_of_net function_place extra_place input_of pad_of are_set is_link_on is_function_on is_any_on is_extra_on over_grid is_read cell_places cell_bits entry_bits cell_with cells_at cells_of register_of registers_of pin_register pin_registers_of sets_of is_ram_used ram_at rams_of start_words pintype_of pin_with pins_of pin_places global_nets globals_of is_refused_with is_joined class_of numbered_from joins_of buffers_of fabric_with drives_of drivers_of is_driven nets_read lut_value settled_bit value_of next_bit written shown next_words next_register state_after settled_state outputs_of output_values wiring_of has leads_below is_on_cycle turn_at pass_of is_at_open end_within clock_end users_of device_faults pll_tiles pll_tile pll_sources pll_ports pin_faults cascade_faults driver_faults loop_faults clock_faults pins_fault rams_fault fabric_fault design_fault
+unfolding database_a database_b database_c image_with digits word_bits word_of bytes_of blank flat rows_of row_from rows_from kind_of start_in standard_widths standard_side_columns standard_pad_columns standard_pad_rows standard_banks place_of word_place_of any_below least_below last_below first_below gathered_below net_at names_of_net function_place extra_place input_of pad_of are_set is_link_on is_function_on is_any_on is_extra_on over_grid is_read cell_places cell_bits entry_bits cell_with cells_at cells_of register_of registers_of pin_register pin_registers_of sets_of is_ram_used ram_at rams_of start_words pintype_of pin_with pins_of pin_places global_nets globals_of is_refused_with is_joined class_of numbered_from joins_of buffers_of fabric_with drives_of drivers_of is_driven nets_read lut_value settled_bit value_of next_bit written shown next_words next_register state_after settled_state outputs_of output_values wiring_of clocked_wiring clocks_of_value has leads_below is_on_cycle turn_at pass_of is_at_open end_within clock_end clock_class users_of device_faults pll_tiles pll_tile pll_sources pll_ports pin_faults cascade_faults driver_faults loop_faults clock_faults pins_fault rams_fault fabric_fault design_fault
 pin_and_ram = refl
 
 -- the clock of a RAM is inverted in the upper tile, where its name is found
 ram_clock : map {B = Bool × Bool × Option ℕ} (λ ram. (ram.rneg, ram.wneg, ram.rclk)) (rams_of database_c (both (at 3 1 0 0 ∷ at 3 2 4 0 ∷ []))) ≡ (true, false, Some 4) ∷ []
-unfolding database_a database_b database_c image_with digits word_bits word_of bytes_of blank flat rows_of row_from rows_from kind_of start_in standard_widths standard_side_columns standard_pad_columns standard_pad_rows standard_banks place_of word_place_of any_below least_below last_below first_below gathered_below net_at names_of_net function_place extra_place input_of pad_of are_set is_link_on is_function_on is_any_on is_extra_on over_grid is_read cell_places cell_bits entry_bits cell_with cells_at cells_of register_of registers_of pin_register pin_registers_of sets_of is_ram_used ram_at rams_of start_words pintype_of pin_with pins_of pin_places global_nets globals_of is_refused_with is_joined class_of numbered_from joins_of buffers_of fabric_with drives_of drivers_of is_driven nets_read lut_value settled_bit value_of next_bit written shown next_words next_register state_after settled_state outputs_of output_values wiring_of has leads_below is_on_cycle turn_at pass_of is_at_open end_within clock_end users_of device_faults pll_tiles pll_tile pll_sources pll_ports pin_faults cascade_faults driver_faults loop_faults clock_faults pins_fault rams_fault fabric_fault design_fault
+unfolding database_a database_b database_c image_with digits word_bits word_of bytes_of blank flat rows_of row_from rows_from kind_of start_in standard_widths standard_side_columns standard_pad_columns standard_pad_rows standard_banks place_of word_place_of any_below least_below last_below first_below gathered_below net_at names_of_net function_place extra_place input_of pad_of are_set is_link_on is_function_on is_any_on is_extra_on over_grid is_read cell_places cell_bits entry_bits cell_with cells_at cells_of register_of registers_of pin_register pin_registers_of sets_of is_ram_used ram_at rams_of start_words pintype_of pin_with pins_of pin_places global_nets globals_of is_refused_with is_joined class_of numbered_from joins_of buffers_of fabric_with drives_of drivers_of is_driven nets_read lut_value settled_bit value_of next_bit written shown next_words next_register state_after settled_state outputs_of output_values wiring_of clocked_wiring clocks_of_value has leads_below is_on_cycle turn_at pass_of is_at_open end_within clock_end clock_class users_of device_faults pll_tiles pll_tile pll_sources pll_ports pin_faults cascade_faults driver_faults loop_faults clock_faults pins_fault rams_fault fabric_fault design_fault
 ram_clock = refl
 
 -- a global without its pad's bit has its net `fabout`
 global_fabout : globals_of false database_c (image_with []) ≡ record { g = 2; net = 6; from = Fabout 7 } ∷ record { g = 2; net = 8; from = Fabout 7 } ∷ []
-unfolding database_a database_b database_c image_with digits word_bits word_of bytes_of blank flat rows_of row_from rows_from kind_of start_in standard_widths standard_side_columns standard_pad_columns standard_pad_rows standard_banks place_of word_place_of any_below least_below last_below first_below gathered_below net_at names_of_net function_place extra_place input_of pad_of are_set is_link_on is_function_on is_any_on is_extra_on over_grid is_read cell_places cell_bits entry_bits cell_with cells_at cells_of register_of registers_of pin_register pin_registers_of sets_of is_ram_used ram_at rams_of start_words pintype_of pin_with pins_of pin_places global_nets globals_of is_refused_with is_joined class_of numbered_from joins_of buffers_of fabric_with drives_of drivers_of is_driven nets_read lut_value settled_bit value_of next_bit written shown next_words next_register state_after settled_state outputs_of output_values wiring_of has leads_below is_on_cycle turn_at pass_of is_at_open end_within clock_end users_of device_faults pll_tiles pll_tile pll_sources pll_ports pin_faults cascade_faults driver_faults loop_faults clock_faults pins_fault rams_fault fabric_fault design_fault
+unfolding database_a database_b database_c image_with digits word_bits word_of bytes_of blank flat rows_of row_from rows_from kind_of start_in standard_widths standard_side_columns standard_pad_columns standard_pad_rows standard_banks place_of word_place_of any_below least_below last_below first_below gathered_below net_at names_of_net function_place extra_place input_of pad_of are_set is_link_on is_function_on is_any_on is_extra_on over_grid is_read cell_places cell_bits entry_bits cell_with cells_at cells_of register_of registers_of pin_register pin_registers_of sets_of is_ram_used ram_at rams_of start_words pintype_of pin_with pins_of pin_places global_nets globals_of is_refused_with is_joined class_of numbered_from joins_of buffers_of fabric_with drives_of drivers_of is_driven nets_read lut_value settled_bit value_of next_bit written shown next_words next_register state_after settled_state outputs_of output_values wiring_of clocked_wiring clocks_of_value has leads_below is_on_cycle turn_at pass_of is_at_open end_within clock_end clock_class users_of device_faults pll_tiles pll_tile pll_sources pll_ports pin_faults cascade_faults driver_faults loop_faults clock_faults pins_fault rams_fault fabric_fault design_fault
 global_fabout = refl
 
 -- and with it the pad
 global_pad : globals_of false database_c (record (blank_image (standard_layout Hx1k)) { cram = with_place_bit (blank_image (standard_layout Hx1k)).cram (record { bank = 0; px = 330; py = 143 }) true }) ≡ record { g = 2; net = 6; from = Pad 0 1 0 } ∷ record { g = 2; net = 8; from = Pad 0 1 0 } ∷ []
-unfolding database_a database_b database_c image_with digits word_bits word_of bytes_of blank flat rows_of row_from rows_from kind_of start_in standard_widths standard_side_columns standard_pad_columns standard_pad_rows standard_banks place_of word_place_of any_below least_below last_below first_below gathered_below net_at names_of_net function_place extra_place input_of pad_of are_set is_link_on is_function_on is_any_on is_extra_on over_grid is_read cell_places cell_bits entry_bits cell_with cells_at cells_of register_of registers_of pin_register pin_registers_of sets_of is_ram_used ram_at rams_of start_words pintype_of pin_with pins_of pin_places global_nets globals_of is_refused_with is_joined class_of numbered_from joins_of buffers_of fabric_with drives_of drivers_of is_driven nets_read lut_value settled_bit value_of next_bit written shown next_words next_register state_after settled_state outputs_of output_values wiring_of has leads_below is_on_cycle turn_at pass_of is_at_open end_within clock_end users_of device_faults pll_tiles pll_tile pll_sources pll_ports pin_faults cascade_faults driver_faults loop_faults clock_faults pins_fault rams_fault fabric_fault design_fault
+unfolding database_a database_b database_c image_with digits word_bits word_of bytes_of blank flat rows_of row_from rows_from kind_of start_in standard_widths standard_side_columns standard_pad_columns standard_pad_rows standard_banks place_of word_place_of any_below least_below last_below first_below gathered_below net_at names_of_net function_place extra_place input_of pad_of are_set is_link_on is_function_on is_any_on is_extra_on over_grid is_read cell_places cell_bits entry_bits cell_with cells_at cells_of register_of registers_of pin_register pin_registers_of sets_of is_ram_used ram_at rams_of start_words pintype_of pin_with pins_of pin_places global_nets globals_of is_refused_with is_joined class_of numbered_from joins_of buffers_of fabric_with drives_of drivers_of is_driven nets_read lut_value settled_bit value_of next_bit written shown next_words next_register state_after settled_state outputs_of output_values wiring_of clocked_wiring clocks_of_value has leads_below is_on_cycle turn_at pass_of is_at_open end_within clock_end clock_class users_of device_faults pll_tiles pll_tile pll_sources pll_ports pin_faults cascade_faults driver_faults loop_faults clock_faults pins_fault rams_fault fabric_fault design_fault
 global_pad = refl
 
 -- a pad that isn't an input pin
 bad_pad : pins_fault false database_c (record (blank_image (standard_layout Hx1k)) { cram = with_place_bit (blank_image (standard_layout Hx1k)).cram (record { bank = 0; px = 330; py = 143 }) true }) ≡ Some (fault.pin_mode 0 1 0 0)
-unfolding database_a database_b database_c image_with digits word_bits word_of bytes_of blank flat rows_of row_from rows_from kind_of start_in standard_widths standard_side_columns standard_pad_columns standard_pad_rows standard_banks place_of word_place_of any_below least_below last_below first_below gathered_below net_at names_of_net function_place extra_place input_of pad_of are_set is_link_on is_function_on is_any_on is_extra_on over_grid is_read cell_places cell_bits entry_bits cell_with cells_at cells_of register_of registers_of pin_register pin_registers_of sets_of is_ram_used ram_at rams_of start_words pintype_of pin_with pins_of pin_places global_nets globals_of is_refused_with is_joined class_of numbered_from joins_of buffers_of fabric_with drives_of drivers_of is_driven nets_read lut_value settled_bit value_of next_bit written shown next_words next_register state_after settled_state outputs_of output_values wiring_of has leads_below is_on_cycle turn_at pass_of is_at_open end_within clock_end users_of device_faults pll_tiles pll_tile pll_sources pll_ports pin_faults cascade_faults driver_faults loop_faults clock_faults pins_fault rams_fault fabric_fault design_fault
+unfolding database_a database_b database_c image_with digits word_bits word_of bytes_of blank flat rows_of row_from rows_from kind_of start_in standard_widths standard_side_columns standard_pad_columns standard_pad_rows standard_banks place_of word_place_of any_below least_below last_below first_below gathered_below net_at names_of_net function_place extra_place input_of pad_of are_set is_link_on is_function_on is_any_on is_extra_on over_grid is_read cell_places cell_bits entry_bits cell_with cells_at cells_of register_of registers_of pin_register pin_registers_of sets_of is_ram_used ram_at rams_of start_words pintype_of pin_with pins_of pin_places global_nets globals_of is_refused_with is_joined class_of numbered_from joins_of buffers_of fabric_with drives_of drivers_of is_driven nets_read lut_value settled_bit value_of next_bit written shown next_words next_register state_after settled_state outputs_of output_values wiring_of clocked_wiring clocks_of_value has leads_below is_on_cycle turn_at pass_of is_at_open end_within clock_end clock_class users_of device_faults pll_tiles pll_tile pll_sources pll_ports pin_faults cascade_faults driver_faults loop_faults clock_faults pins_fault rams_fault fabric_fault design_fault
 bad_pad = refl
 
 -- routings join both ways: 3, 7 and 8 are one class of joined nets
 classes : map (class_of ((7, 3) ∷ (3, 8) ∷ [])) (0 ∷ 3 ∷ 7 ∷ 8 ∷ []) ≡ 0 ∷ 3 ∷ 3 ∷ 3 ∷ []
-unfolding image_with digits word_bits word_of bytes_of blank flat rows_of row_from rows_from kind_of start_in standard_widths standard_side_columns standard_pad_columns standard_pad_rows standard_banks place_of word_place_of any_below least_below last_below first_below gathered_below net_at names_of_net function_place extra_place input_of pad_of are_set is_link_on is_function_on is_any_on is_extra_on over_grid is_read cell_places cell_bits entry_bits cell_with cells_at cells_of register_of registers_of pin_register pin_registers_of sets_of is_ram_used ram_at rams_of start_words pintype_of pin_with pins_of pin_places global_nets globals_of is_refused_with is_joined class_of numbered_from joins_of buffers_of fabric_with drives_of drivers_of is_driven nets_read lut_value settled_bit value_of next_bit written shown next_words next_register state_after settled_state outputs_of output_values wiring_of has leads_below is_on_cycle turn_at pass_of is_at_open end_within clock_end users_of device_faults pll_tiles pll_tile pll_sources pll_ports pin_faults cascade_faults driver_faults loop_faults clock_faults pins_fault rams_fault fabric_fault design_fault
+unfolding image_with digits word_bits word_of bytes_of blank flat rows_of row_from rows_from kind_of start_in standard_widths standard_side_columns standard_pad_columns standard_pad_rows standard_banks place_of word_place_of any_below least_below last_below first_below gathered_below net_at names_of_net function_place extra_place input_of pad_of are_set is_link_on is_function_on is_any_on is_extra_on over_grid is_read cell_places cell_bits entry_bits cell_with cells_at cells_of register_of registers_of pin_register pin_registers_of sets_of is_ram_used ram_at rams_of start_words pintype_of pin_with pins_of pin_places global_nets globals_of is_refused_with is_joined class_of numbered_from joins_of buffers_of fabric_with drives_of drivers_of is_driven nets_read lut_value settled_bit value_of next_bit written shown next_words next_register state_after settled_state outputs_of output_values wiring_of clocked_wiring clocks_of_value has leads_below is_on_cycle turn_at pass_of is_at_open end_within clock_end clock_class users_of device_faults pll_tiles pll_tile pll_sources pll_ports pin_faults cascade_faults driver_faults loop_faults clock_faults pins_fault rams_fault fabric_fault design_fault
 classes = refl
 
 -- entry 1 of a LUT has in_0 alone
 entry_one : lut_value (λ net. true) nothing_kept [] (λ net. net == 0) (table_of read.All (cell_with_lut 2)) ≡ true
-unfolding image_with digits word_bits word_of bytes_of blank flat rows_of row_from rows_from kind_of start_in standard_widths standard_side_columns standard_pad_columns standard_pad_rows standard_banks place_of word_place_of any_below least_below last_below first_below gathered_below net_at names_of_net function_place extra_place input_of pad_of are_set is_link_on is_function_on is_any_on is_extra_on over_grid is_read cell_places cell_bits entry_bits cell_with cells_at cells_of register_of registers_of pin_register pin_registers_of sets_of is_ram_used ram_at rams_of start_words pintype_of pin_with pins_of pin_places global_nets globals_of is_refused_with is_joined class_of numbered_from joins_of buffers_of fabric_with drives_of drivers_of is_driven nets_read lut_value settled_bit value_of next_bit written shown next_words next_register state_after settled_state outputs_of output_values wiring_of has leads_below is_on_cycle turn_at pass_of is_at_open end_within clock_end users_of device_faults pll_tiles pll_tile pll_sources pll_ports pin_faults cascade_faults driver_faults loop_faults clock_faults pins_fault rams_fault fabric_fault design_fault
+unfolding image_with digits word_bits word_of bytes_of blank flat rows_of row_from rows_from kind_of start_in standard_widths standard_side_columns standard_pad_columns standard_pad_rows standard_banks place_of word_place_of any_below least_below last_below first_below gathered_below net_at names_of_net function_place extra_place input_of pad_of are_set is_link_on is_function_on is_any_on is_extra_on over_grid is_read cell_places cell_bits entry_bits cell_with cells_at cells_of register_of registers_of pin_register pin_registers_of sets_of is_ram_used ram_at rams_of start_words pintype_of pin_with pins_of pin_places global_nets globals_of is_refused_with is_joined class_of numbered_from joins_of buffers_of fabric_with drives_of drivers_of is_driven nets_read lut_value settled_bit value_of next_bit written shown next_words next_register state_after settled_state outputs_of output_values wiring_of clocked_wiring clocks_of_value has leads_below is_on_cycle turn_at pass_of is_at_open end_within clock_end clock_class users_of device_faults pll_tiles pll_tile pll_sources pll_ports pin_faults cascade_faults driver_faults loop_faults clock_faults pins_fault rams_fault fabric_fault design_fault
 entry_one = refl
 
 -- entry 8 has in_3 alone
 entry_eight : lut_value (λ net. true) nothing_kept [] (λ net. net == 3) (table_of read.All (cell_with_lut 256)) ≡ true
-unfolding image_with digits word_bits word_of bytes_of blank flat rows_of row_from rows_from kind_of start_in standard_widths standard_side_columns standard_pad_columns standard_pad_rows standard_banks place_of word_place_of any_below least_below last_below first_below gathered_below net_at names_of_net function_place extra_place input_of pad_of are_set is_link_on is_function_on is_any_on is_extra_on over_grid is_read cell_places cell_bits entry_bits cell_with cells_at cells_of register_of registers_of pin_register pin_registers_of sets_of is_ram_used ram_at rams_of start_words pintype_of pin_with pins_of pin_places global_nets globals_of is_refused_with is_joined class_of numbered_from joins_of buffers_of fabric_with drives_of drivers_of is_driven nets_read lut_value settled_bit value_of next_bit written shown next_words next_register state_after settled_state outputs_of output_values wiring_of has leads_below is_on_cycle turn_at pass_of is_at_open end_within clock_end users_of device_faults pll_tiles pll_tile pll_sources pll_ports pin_faults cascade_faults driver_faults loop_faults clock_faults pins_fault rams_fault fabric_fault design_fault
+unfolding image_with digits word_bits word_of bytes_of blank flat rows_of row_from rows_from kind_of start_in standard_widths standard_side_columns standard_pad_columns standard_pad_rows standard_banks place_of word_place_of any_below least_below last_below first_below gathered_below net_at names_of_net function_place extra_place input_of pad_of are_set is_link_on is_function_on is_any_on is_extra_on over_grid is_read cell_places cell_bits entry_bits cell_with cells_at cells_of register_of registers_of pin_register pin_registers_of sets_of is_ram_used ram_at rams_of start_words pintype_of pin_with pins_of pin_places global_nets globals_of is_refused_with is_joined class_of numbered_from joins_of buffers_of fabric_with drives_of drivers_of is_driven nets_read lut_value settled_bit value_of next_bit written shown next_words next_register state_after settled_state outputs_of output_values wiring_of clocked_wiring clocks_of_value has leads_below is_on_cycle turn_at pass_of is_at_open end_within clock_end clock_class users_of device_faults pll_tiles pll_tile pll_sources pll_ports pin_faults cascade_faults driver_faults loop_faults clock_faults pins_fault rams_fault fabric_fault design_fault
 entry_eight = refl
 
 -- an input without a driver counts as 0
 entry_none : lut_value (λ net. false) nothing_kept [] (λ net. true) (table_of read.All (cell_with_lut 1)) ≡ true
-unfolding image_with digits word_bits word_of bytes_of blank flat rows_of row_from rows_from kind_of start_in standard_widths standard_side_columns standard_pad_columns standard_pad_rows standard_banks place_of word_place_of any_below least_below last_below first_below gathered_below net_at names_of_net function_place extra_place input_of pad_of are_set is_link_on is_function_on is_any_on is_extra_on over_grid is_read cell_places cell_bits entry_bits cell_with cells_at cells_of register_of registers_of pin_register pin_registers_of sets_of is_ram_used ram_at rams_of start_words pintype_of pin_with pins_of pin_places global_nets globals_of is_refused_with is_joined class_of numbered_from joins_of buffers_of fabric_with drives_of drivers_of is_driven nets_read lut_value settled_bit value_of next_bit written shown next_words next_register state_after settled_state outputs_of output_values wiring_of has leads_below is_on_cycle turn_at pass_of is_at_open end_within clock_end users_of device_faults pll_tiles pll_tile pll_sources pll_ports pin_faults cascade_faults driver_faults loop_faults clock_faults pins_fault rams_fault fabric_fault design_fault
+unfolding image_with digits word_bits word_of bytes_of blank flat rows_of row_from rows_from kind_of start_in standard_widths standard_side_columns standard_pad_columns standard_pad_rows standard_banks place_of word_place_of any_below least_below last_below first_below gathered_below net_at names_of_net function_place extra_place input_of pad_of are_set is_link_on is_function_on is_any_on is_extra_on over_grid is_read cell_places cell_bits entry_bits cell_with cells_at cells_of register_of registers_of pin_register pin_registers_of sets_of is_ram_used ram_at rams_of start_words pintype_of pin_with pins_of pin_places global_nets globals_of is_refused_with is_joined class_of numbered_from joins_of buffers_of fabric_with drives_of drivers_of is_driven nets_read lut_value settled_bit value_of next_bit written shown next_words next_register state_after settled_state outputs_of output_values wiring_of clocked_wiring clocks_of_value has leads_below is_on_cycle turn_at pass_of is_at_open end_within clock_end clock_class users_of device_faults pll_tiles pll_tile pll_sources pll_ports pin_faults cascade_faults driver_faults loop_faults clock_faults pins_fault rams_fault fabric_fault design_fault
 entry_none = refl
 
 -- ---- which inputs LUTs use
@@ -645,12 +646,12 @@ unused_value = refl
 
 -- a synchronous reset doesn't act if the clock enable is 0
 reset_disabled : next_bit (λ net. true) nothing_kept [] (λ net. net == 6) (register_with false) false ≡ false
-unfolding image_with digits word_bits word_of bytes_of blank flat rows_of row_from rows_from kind_of start_in standard_widths standard_side_columns standard_pad_columns standard_pad_rows standard_banks place_of word_place_of any_below least_below last_below first_below gathered_below net_at names_of_net function_place extra_place input_of pad_of are_set is_link_on is_function_on is_any_on is_extra_on over_grid is_read cell_places cell_bits entry_bits cell_with cells_at cells_of register_of registers_of pin_register pin_registers_of sets_of is_ram_used ram_at rams_of start_words pintype_of pin_with pins_of pin_places global_nets globals_of is_refused_with is_joined class_of numbered_from joins_of buffers_of fabric_with drives_of drivers_of is_driven nets_read lut_value settled_bit value_of next_bit written shown next_words next_register state_after settled_state outputs_of output_values wiring_of has leads_below is_on_cycle turn_at pass_of is_at_open end_within clock_end users_of device_faults pll_tiles pll_tile pll_sources pll_ports pin_faults cascade_faults driver_faults loop_faults clock_faults pins_fault rams_fault fabric_fault design_fault
+unfolding image_with digits word_bits word_of bytes_of blank flat rows_of row_from rows_from kind_of start_in standard_widths standard_side_columns standard_pad_columns standard_pad_rows standard_banks place_of word_place_of any_below least_below last_below first_below gathered_below net_at names_of_net function_place extra_place input_of pad_of are_set is_link_on is_function_on is_any_on is_extra_on over_grid is_read cell_places cell_bits entry_bits cell_with cells_at cells_of register_of registers_of pin_register pin_registers_of sets_of is_ram_used ram_at rams_of start_words pintype_of pin_with pins_of pin_places global_nets globals_of is_refused_with is_joined class_of numbered_from joins_of buffers_of fabric_with drives_of drivers_of is_driven nets_read lut_value settled_bit value_of next_bit written shown next_words next_register state_after settled_state outputs_of output_values wiring_of clocked_wiring clocks_of_value has leads_below is_on_cycle turn_at pass_of is_at_open end_within clock_end clock_class users_of device_faults pll_tiles pll_tile pll_sources pll_ports pin_faults cascade_faults driver_faults loop_faults clock_faults pins_fault rams_fault fabric_fault design_fault
 reset_disabled = refl
 
 -- it acts if the clock enable has no driver
 reset_enabled : next_bit (λ net. not (net == 5)) nothing_kept [] (λ net. net == 6) (register_with false) false ≡ true
-unfolding image_with digits word_bits word_of bytes_of blank flat rows_of row_from rows_from kind_of start_in standard_widths standard_side_columns standard_pad_columns standard_pad_rows standard_banks place_of word_place_of any_below least_below last_below first_below gathered_below net_at names_of_net function_place extra_place input_of pad_of are_set is_link_on is_function_on is_any_on is_extra_on over_grid is_read cell_places cell_bits entry_bits cell_with cells_at cells_of register_of registers_of pin_register pin_registers_of sets_of is_ram_used ram_at rams_of start_words pintype_of pin_with pins_of pin_places global_nets globals_of is_refused_with is_joined class_of numbered_from joins_of buffers_of fabric_with drives_of drivers_of is_driven nets_read lut_value settled_bit value_of next_bit written shown next_words next_register state_after settled_state outputs_of output_values wiring_of has leads_below is_on_cycle turn_at pass_of is_at_open end_within clock_end users_of device_faults pll_tiles pll_tile pll_sources pll_ports pin_faults cascade_faults driver_faults loop_faults clock_faults pins_fault rams_fault fabric_fault design_fault
+unfolding image_with digits word_bits word_of bytes_of blank flat rows_of row_from rows_from kind_of start_in standard_widths standard_side_columns standard_pad_columns standard_pad_rows standard_banks place_of word_place_of any_below least_below last_below first_below gathered_below net_at names_of_net function_place extra_place input_of pad_of are_set is_link_on is_function_on is_any_on is_extra_on over_grid is_read cell_places cell_bits entry_bits cell_with cells_at cells_of register_of registers_of pin_register pin_registers_of sets_of is_ram_used ram_at rams_of start_words pintype_of pin_with pins_of pin_places global_nets globals_of is_refused_with is_joined class_of numbered_from joins_of buffers_of fabric_with drives_of drivers_of is_driven nets_read lut_value settled_bit value_of next_bit written shown next_words next_register state_after settled_state outputs_of output_values wiring_of clocked_wiring clocks_of_value has leads_below is_on_cycle turn_at pass_of is_at_open end_within clock_end clock_class users_of device_faults pll_tiles pll_tile pll_sources pll_ports pin_faults cascade_faults driver_faults loop_faults clock_faults pins_fault rams_fault fabric_fault design_fault
 reset_enabled = refl
 
 -- one that acts at once goes before the enable
@@ -687,18 +688,18 @@ unfolding register_of nets_read lut_value word_bits settled_bit value_of next_bi
 reset_unread = refl
 
 -- a toggle at a falling edge
-toggle_step : state_after (fabric_of database_b (both (at 1 1 0 45 ∷ at 1 1 3 0 ∷ at 1 1 5 0 ∷ at 1 1 6 0 ∷ []))) (true ∷ []) (record { bits = false ∷ []; reads = []; words = [] }) (bit_in (true ∷ false ∷ false ∷ false ∷ true ∷ [])) (bit_in (false ∷ false ∷ false ∷ false ∷ false ∷ [])) ≡ record { bits = true ∷ []; reads = []; words = [] }
-unfolding database_a database_b image_with digits word_bits word_of bytes_of blank flat rows_of row_from rows_from kind_of start_in standard_widths standard_side_columns standard_pad_columns standard_pad_rows standard_banks place_of word_place_of any_below least_below last_below first_below gathered_below net_at names_of_net function_place extra_place input_of pad_of are_set is_link_on is_function_on is_any_on is_extra_on over_grid is_read cell_places cell_bits entry_bits cell_with cells_at cells_of register_of registers_of pin_register pin_registers_of sets_of is_ram_used ram_at rams_of start_words pintype_of pin_with pins_of pin_places global_nets globals_of is_refused_with is_joined class_of numbered_from joins_of buffers_of fabric_with drives_of drivers_of is_driven nets_read lut_value settled_bit value_of next_bit written shown next_words next_register state_after settled_state outputs_of output_values wiring_of has leads_below is_on_cycle turn_at pass_of is_at_open end_within clock_end users_of device_faults pll_tiles pll_tile pll_sources pll_ports pin_faults cascade_faults driver_faults loop_faults clock_faults pins_fault rams_fault fabric_fault design_fault
+toggle_step : state_after (fabric_of database_b (both (at 1 1 0 45 ∷ at 1 1 3 0 ∷ at 1 1 5 0 ∷ at 1 1 6 0 ∷ []))) (true ∷ []) (record { bits = false ∷ []; reads = []; words = [] }) (bit_in (true ∷ false ∷ false ∷ false ∷ true ∷ [])) (event_edges (fabric_of database_b (both (at 1 1 0 45 ∷ at 1 1 3 0 ∷ at 1 1 5 0 ∷ at 1 1 6 0 ∷ []))) (bit_in (true ∷ false ∷ false ∷ false ∷ true ∷ [])) (bit_in (false ∷ false ∷ false ∷ false ∷ false ∷ []))) ≡ record { bits = true ∷ []; reads = []; words = [] }
+unfolding database_a database_b image_with digits word_bits word_of bytes_of blank flat rows_of row_from rows_from kind_of start_in standard_widths standard_side_columns standard_pad_columns standard_pad_rows standard_banks place_of word_place_of any_below least_below last_below first_below gathered_below net_at names_of_net function_place extra_place input_of pad_of are_set is_link_on is_function_on is_any_on is_extra_on over_grid is_read cell_places cell_bits entry_bits cell_with cells_at cells_of register_of registers_of pin_register pin_registers_of sets_of is_ram_used ram_at rams_of start_words pintype_of pin_with pins_of pin_places global_nets globals_of is_refused_with is_joined class_of numbered_from joins_of buffers_of fabric_with drives_of drivers_of is_driven nets_read lut_value settled_bit value_of next_bit written shown next_words next_register state_after settled_state outputs_of output_values wiring_of clocked_wiring clocks_of_value has leads_below is_on_cycle turn_at pass_of is_at_open end_within clock_end clock_class users_of device_faults pll_tiles pll_tile pll_sources pll_ports pin_faults cascade_faults driver_faults loop_faults clock_faults pins_fault rams_fault fabric_fault design_fault
 toggle_step = refl
 
 -- and none at a rising one
-toggle_stays : state_after (fabric_of database_b (both (at 1 1 0 45 ∷ at 1 1 3 0 ∷ at 1 1 5 0 ∷ at 1 1 6 0 ∷ []))) (false ∷ []) (record { bits = false ∷ []; reads = []; words = [] }) (bit_in (false ∷ false ∷ false ∷ false ∷ false ∷ [])) (bit_in (true ∷ false ∷ false ∷ false ∷ true ∷ [])) ≡ record { bits = false ∷ []; reads = []; words = [] }
-unfolding database_a database_b image_with digits word_bits word_of bytes_of blank flat rows_of row_from rows_from kind_of start_in standard_widths standard_side_columns standard_pad_columns standard_pad_rows standard_banks place_of word_place_of any_below least_below last_below first_below gathered_below net_at names_of_net function_place extra_place input_of pad_of are_set is_link_on is_function_on is_any_on is_extra_on over_grid is_read cell_places cell_bits entry_bits cell_with cells_at cells_of register_of registers_of pin_register pin_registers_of sets_of is_ram_used ram_at rams_of start_words pintype_of pin_with pins_of pin_places global_nets globals_of is_refused_with is_joined class_of numbered_from joins_of buffers_of fabric_with drives_of drivers_of is_driven nets_read lut_value settled_bit value_of next_bit written shown next_words next_register state_after settled_state outputs_of output_values wiring_of has leads_below is_on_cycle turn_at pass_of is_at_open end_within clock_end users_of device_faults pll_tiles pll_tile pll_sources pll_ports pin_faults cascade_faults driver_faults loop_faults clock_faults pins_fault rams_fault fabric_fault design_fault
+toggle_stays : state_after (fabric_of database_b (both (at 1 1 0 45 ∷ at 1 1 3 0 ∷ at 1 1 5 0 ∷ at 1 1 6 0 ∷ []))) (false ∷ []) (record { bits = false ∷ []; reads = []; words = [] }) (bit_in (false ∷ false ∷ false ∷ false ∷ false ∷ [])) (event_edges (fabric_of database_b (both (at 1 1 0 45 ∷ at 1 1 3 0 ∷ at 1 1 5 0 ∷ at 1 1 6 0 ∷ []))) (bit_in (false ∷ false ∷ false ∷ false ∷ false ∷ [])) (bit_in (true ∷ false ∷ false ∷ false ∷ true ∷ []))) ≡ record { bits = false ∷ []; reads = []; words = [] }
+unfolding database_a database_b image_with digits word_bits word_of bytes_of blank flat rows_of row_from rows_from kind_of start_in standard_widths standard_side_columns standard_pad_columns standard_pad_rows standard_banks place_of word_place_of any_below least_below last_below first_below gathered_below net_at names_of_net function_place extra_place input_of pad_of are_set is_link_on is_function_on is_any_on is_extra_on over_grid is_read cell_places cell_bits entry_bits cell_with cells_at cells_of register_of registers_of pin_register pin_registers_of sets_of is_ram_used ram_at rams_of start_words pintype_of pin_with pins_of pin_places global_nets globals_of is_refused_with is_joined class_of numbered_from joins_of buffers_of fabric_with drives_of drivers_of is_driven nets_read lut_value settled_bit value_of next_bit written shown next_words next_register state_after settled_state outputs_of output_values wiring_of clocked_wiring clocks_of_value has leads_below is_on_cycle turn_at pass_of is_at_open end_within clock_end clock_class users_of device_faults pll_tiles pll_tile pll_sources pll_ports pin_faults cascade_faults driver_faults loop_faults clock_faults pins_fault rams_fault fabric_fault design_fault
 toggle_stays = refl
 
 -- a word 1234 written with ABCD under the mask 00FF is AB34: net 16 + b has bit b of the data, net 32 + b that of the mask
 masked_write : written (λ net. true) (bit_in (false ∷ false ∷ false ∷ false ∷ false ∷ false ∷ false ∷ false ∷ false ∷ false ∷ false ∷ false ∷ false ∷ false ∷ false ∷ false ∷ true ∷ false ∷ true ∷ true ∷ false ∷ false ∷ true ∷ true ∷ true ∷ true ∷ false ∷ true ∷ false ∷ true ∷ false ∷ true ∷ true ∷ true ∷ true ∷ true ∷ true ∷ true ∷ true ∷ true ∷ false ∷ false ∷ false ∷ false ∷ false ∷ false ∷ false ∷ false ∷ [])) ram_with_nets (false ∷ false ∷ true ∷ false ∷ true ∷ true ∷ false ∷ false ∷ false ∷ true ∷ false ∷ false ∷ true ∷ false ∷ false ∷ false ∷ []) ≡ false ∷ false ∷ true ∷ false ∷ true ∷ true ∷ false ∷ false ∷ true ∷ true ∷ false ∷ true ∷ false ∷ true ∷ false ∷ true ∷ []
-unfolding image_with digits word_bits word_of bytes_of blank flat rows_of row_from rows_from kind_of start_in standard_widths standard_side_columns standard_pad_columns standard_pad_rows standard_banks place_of word_place_of any_below least_below last_below first_below gathered_below net_at names_of_net function_place extra_place input_of pad_of are_set is_link_on is_function_on is_any_on is_extra_on over_grid is_read cell_places cell_bits entry_bits cell_with cells_at cells_of register_of registers_of pin_register pin_registers_of sets_of is_ram_used ram_at rams_of start_words pintype_of pin_with pins_of pin_places global_nets globals_of is_refused_with is_joined class_of numbered_from joins_of buffers_of fabric_with drives_of drivers_of is_driven nets_read lut_value settled_bit value_of next_bit written shown next_words next_register state_after settled_state outputs_of output_values wiring_of has leads_below is_on_cycle turn_at pass_of is_at_open end_within clock_end users_of device_faults pll_tiles pll_tile pll_sources pll_ports pin_faults cascade_faults driver_faults loop_faults clock_faults pins_fault rams_fault fabric_fault design_fault
+unfolding image_with digits word_bits word_of bytes_of blank flat rows_of row_from rows_from kind_of start_in standard_widths standard_side_columns standard_pad_columns standard_pad_rows standard_banks place_of word_place_of any_below least_below last_below first_below gathered_below net_at names_of_net function_place extra_place input_of pad_of are_set is_link_on is_function_on is_any_on is_extra_on over_grid is_read cell_places cell_bits entry_bits cell_with cells_at cells_of register_of registers_of pin_register pin_registers_of sets_of is_ram_used ram_at rams_of start_words pintype_of pin_with pins_of pin_places global_nets globals_of is_refused_with is_joined class_of numbered_from joins_of buffers_of fabric_with drives_of drivers_of is_driven nets_read lut_value settled_bit value_of next_bit written shown next_words next_register state_after settled_state outputs_of output_values wiring_of clocked_wiring clocks_of_value has leads_below is_on_cycle turn_at pass_of is_at_open end_within clock_end clock_class users_of device_faults pll_tiles pll_tile pll_sources pll_ports pin_faults cascade_faults driver_faults loop_faults clock_faults pins_fault rams_fault fabric_fault design_fault
 masked_write = refl
 
 -- a RAM with nets 48 to 58 as addresses at both ports, written in mode 1 and read in a mode
@@ -708,13 +709,13 @@ narrow_ram mode = record ram_with_nets { read = mode; write = 1; waddr = each_be
 -- a word 1234 in which A5 is written as the narrow word of high part 1 is 9836: A5 stands at every second bit of the data
 narrow_write : written (λ net. true) (has (16 ∷ 20 ∷ 26 ∷ 30 ∷ 56 ∷ [])) (narrow_ram 0) (false ∷ false ∷ true ∷ false ∷ true ∷ true ∷ false ∷ false ∷ false ∷ true ∷ false ∷ false ∷ true ∷ false ∷ false ∷ false ∷ [])
     ≡ false ∷ true ∷ true ∷ false ∷ true ∷ true ∷ false ∷ false ∷ false ∷ false ∷ false ∷ true ∷ true ∷ false ∷ false ∷ true ∷ []
-unfolding image_with digits word_bits word_of bytes_of blank flat rows_of row_from rows_from kind_of start_in standard_widths standard_side_columns standard_pad_columns standard_pad_rows standard_banks place_of word_place_of any_below least_below last_below first_below gathered_below net_at names_of_net function_place extra_place input_of pad_of are_set is_link_on is_function_on is_any_on is_extra_on over_grid is_read cell_places cell_bits entry_bits cell_with cells_at cells_of register_of registers_of pin_register pin_registers_of sets_of is_ram_used ram_at rams_of start_words pintype_of pin_with pins_of pin_places global_nets globals_of is_refused_with is_joined class_of numbered_from joins_of buffers_of fabric_with drives_of drivers_of is_driven nets_read lut_value settled_bit value_of next_bit written shown next_words next_register state_after settled_state outputs_of output_values wiring_of has leads_below is_on_cycle turn_at pass_of is_at_open end_within clock_end users_of device_faults pll_tiles pll_tile pll_sources pll_ports pin_faults cascade_faults driver_faults loop_faults clock_faults pins_fault rams_fault fabric_fault design_fault
+unfolding image_with digits word_bits word_of bytes_of blank flat rows_of row_from rows_from kind_of start_in standard_widths standard_side_columns standard_pad_columns standard_pad_rows standard_banks place_of word_place_of any_below least_below last_below first_below gathered_below net_at names_of_net function_place extra_place input_of pad_of are_set is_link_on is_function_on is_any_on is_extra_on over_grid is_read cell_places cell_bits entry_bits cell_with cells_at cells_of register_of registers_of pin_register pin_registers_of sets_of is_ram_used ram_at rams_of start_words pintype_of pin_with pins_of pin_places global_nets globals_of is_refused_with is_joined class_of numbered_from joins_of buffers_of fabric_with drives_of drivers_of is_driven nets_read lut_value settled_bit value_of next_bit written shown next_words next_register state_after settled_state outputs_of output_values wiring_of clocked_wiring clocks_of_value has leads_below is_on_cycle turn_at pass_of is_at_open end_within clock_end clock_class users_of device_faults pll_tiles pll_tile pll_sources pll_ports pin_faults cascade_faults driver_faults loop_faults clock_faults pins_fault rams_fault fabric_fault design_fault
 narrow_write = refl
 
 -- read in mode 2 at high part 3 it shows 1100, which is read at the bits 9 and 13
 narrow_read : shown (λ net. true) (has (56 ∷ 57 ∷ [])) (narrow_ram 2) (false ∷ true ∷ true ∷ false ∷ true ∷ true ∷ false ∷ false ∷ false ∷ false ∷ false ∷ true ∷ true ∷ false ∷ false ∷ true ∷ [])
     ≡ false ∷ false ∷ false ∷ false ∷ false ∷ false ∷ false ∷ false ∷ true ∷ false ∷ false ∷ false ∷ true ∷ false ∷ false ∷ false ∷ []
-unfolding image_with digits word_bits word_of bytes_of blank flat rows_of row_from rows_from kind_of start_in standard_widths standard_side_columns standard_pad_columns standard_pad_rows standard_banks place_of word_place_of any_below least_below last_below first_below gathered_below net_at names_of_net function_place extra_place input_of pad_of are_set is_link_on is_function_on is_any_on is_extra_on over_grid is_read cell_places cell_bits entry_bits cell_with cells_at cells_of register_of registers_of pin_register pin_registers_of sets_of is_ram_used ram_at rams_of start_words pintype_of pin_with pins_of pin_places global_nets globals_of is_refused_with is_joined class_of numbered_from joins_of buffers_of fabric_with drives_of drivers_of is_driven nets_read lut_value settled_bit value_of next_bit written shown next_words next_register state_after settled_state outputs_of output_values wiring_of has leads_below is_on_cycle turn_at pass_of is_at_open end_within clock_end users_of device_faults pll_tiles pll_tile pll_sources pll_ports pin_faults cascade_faults driver_faults loop_faults clock_faults pins_fault rams_fault fabric_fault design_fault
+unfolding image_with digits word_bits word_of bytes_of blank flat rows_of row_from rows_from kind_of start_in standard_widths standard_side_columns standard_pad_columns standard_pad_rows standard_banks place_of word_place_of any_below least_below last_below first_below gathered_below net_at names_of_net function_place extra_place input_of pad_of are_set is_link_on is_function_on is_any_on is_extra_on over_grid is_read cell_places cell_bits entry_bits cell_with cells_at cells_of register_of registers_of pin_register pin_registers_of sets_of is_ram_used ram_at rams_of start_words pintype_of pin_with pins_of pin_places global_nets globals_of is_refused_with is_joined class_of numbered_from joins_of buffers_of fabric_with drives_of drivers_of is_driven nets_read lut_value settled_bit value_of next_bit written shown next_words next_register state_after settled_state outputs_of output_values wiring_of clocked_wiring clocks_of_value has leads_below is_on_cycle turn_at pass_of is_at_open end_within clock_end clock_class users_of device_faults pll_tiles pll_tile pll_sources pll_ports pin_faults cascade_faults driver_faults loop_faults clock_faults pins_fault rams_fault fabric_fault design_fault
 narrow_read = refl
 
 narrow_bits : map (read_data_rule 0 2) (8 ∷ 9 ∷ 13 ∷ []) ≡ constant false ∷ read_bit 0 8 ∷ read_bit 0 12 ∷ []
@@ -723,7 +724,7 @@ narrow_bits = refl
 -- and in mode 3 at high part 7 0100, which is read at bit 11
 narrowest_read : shown (λ net. true) (has (56 ∷ 57 ∷ 58 ∷ [])) (narrow_ram 3) (false ∷ true ∷ true ∷ false ∷ true ∷ true ∷ false ∷ false ∷ false ∷ false ∷ false ∷ true ∷ true ∷ false ∷ false ∷ true ∷ [])
     ≡ false ∷ false ∷ false ∷ false ∷ false ∷ false ∷ false ∷ false ∷ true ∷ false ∷ false ∷ false ∷ false ∷ false ∷ false ∷ false ∷ []
-unfolding image_with digits word_bits word_of bytes_of blank flat rows_of row_from rows_from kind_of start_in standard_widths standard_side_columns standard_pad_columns standard_pad_rows standard_banks place_of word_place_of any_below least_below last_below first_below gathered_below net_at names_of_net function_place extra_place input_of pad_of are_set is_link_on is_function_on is_any_on is_extra_on over_grid is_read cell_places cell_bits entry_bits cell_with cells_at cells_of register_of registers_of pin_register pin_registers_of sets_of is_ram_used ram_at rams_of start_words pintype_of pin_with pins_of pin_places global_nets globals_of is_refused_with is_joined class_of numbered_from joins_of buffers_of fabric_with drives_of drivers_of is_driven nets_read lut_value settled_bit value_of next_bit written shown next_words next_register state_after settled_state outputs_of output_values wiring_of has leads_below is_on_cycle turn_at pass_of is_at_open end_within clock_end users_of device_faults pll_tiles pll_tile pll_sources pll_ports pin_faults cascade_faults driver_faults loop_faults clock_faults pins_fault rams_fault fabric_fault design_fault
+unfolding image_with digits word_bits word_of bytes_of blank flat rows_of row_from rows_from kind_of start_in standard_widths standard_side_columns standard_pad_columns standard_pad_rows standard_banks place_of word_place_of any_below least_below last_below first_below gathered_below net_at names_of_net function_place extra_place input_of pad_of are_set is_link_on is_function_on is_any_on is_extra_on over_grid is_read cell_places cell_bits entry_bits cell_with cells_at cells_of register_of registers_of pin_register pin_registers_of sets_of is_ram_used ram_at rams_of start_words pintype_of pin_with pins_of pin_places global_nets globals_of is_refused_with is_joined class_of numbered_from joins_of buffers_of fabric_with drives_of drivers_of is_driven nets_read lut_value settled_bit value_of next_bit written shown next_words next_register state_after settled_state outputs_of output_values wiring_of clocked_wiring clocks_of_value has leads_below is_on_cycle turn_at pass_of is_at_open end_within clock_end clock_class users_of device_faults pll_tiles pll_tile pll_sources pll_ports pin_faults cascade_faults driver_faults loop_faults clock_faults pins_fault rams_fault fabric_fault design_fault
 narrowest_read = refl
 
 narrowest_bits : map (read_data_rule 0 3) (0 ∷ 3 ∷ 11 ∷ []) ≡ constant false ∷ read_bit 0 0 ∷ read_bit 0 8 ∷ []
@@ -731,7 +732,7 @@ narrowest_bits = refl
 
 -- a carry chain: the carry out of a cell whose inputs are 0 and 1 and whose carry in is set
 carried : value_of (λ net. true) nothing_kept [] (λ net. not (net == 1)) (majority_of (Some 1) (Some 2) (Some 7)) ≡ true
-unfolding image_with digits word_bits word_of bytes_of blank flat rows_of row_from rows_from kind_of start_in standard_widths standard_side_columns standard_pad_columns standard_pad_rows standard_banks place_of word_place_of any_below least_below last_below first_below gathered_below net_at names_of_net function_place extra_place input_of pad_of are_set is_link_on is_function_on is_any_on is_extra_on over_grid is_read cell_places cell_bits entry_bits cell_with cells_at cells_of register_of registers_of pin_register pin_registers_of sets_of is_ram_used ram_at rams_of start_words pintype_of pin_with pins_of pin_places global_nets globals_of is_refused_with is_joined class_of numbered_from joins_of buffers_of fabric_with drives_of drivers_of is_driven nets_read lut_value settled_bit value_of next_bit written shown next_words next_register state_after settled_state outputs_of output_values wiring_of has leads_below is_on_cycle turn_at pass_of is_at_open end_within clock_end users_of device_faults pll_tiles pll_tile pll_sources pll_ports pin_faults cascade_faults driver_faults loop_faults clock_faults pins_fault rams_fault fabric_fault design_fault
+unfolding image_with digits word_bits word_of bytes_of blank flat rows_of row_from rows_from kind_of start_in standard_widths standard_side_columns standard_pad_columns standard_pad_rows standard_banks place_of word_place_of any_below least_below last_below first_below gathered_below net_at names_of_net function_place extra_place input_of pad_of are_set is_link_on is_function_on is_any_on is_extra_on over_grid is_read cell_places cell_bits entry_bits cell_with cells_at cells_of register_of registers_of pin_register pin_registers_of sets_of is_ram_used ram_at rams_of start_words pintype_of pin_with pins_of pin_places global_nets globals_of is_refused_with is_joined class_of numbered_from joins_of buffers_of fabric_with drives_of drivers_of is_driven nets_read lut_value settled_bit value_of next_bit written shown next_words next_register state_after settled_state outputs_of output_values wiring_of clocked_wiring clocks_of_value has leads_below is_on_cycle turn_at pass_of is_at_open end_within clock_end clock_class users_of device_faults pll_tiles pll_tile pll_sources pll_ports pin_faults cascade_faults driver_faults loop_faults clock_faults pins_fault rams_fault fabric_fault design_fault
 carried = refl
 
 -- ---- what a LUT does to a clock

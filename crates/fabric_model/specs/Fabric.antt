@@ -29,9 +29,8 @@ pub record Buffer : Type 0 where
   pub dst : ℕ
 
 -- The nets are the numbers below `nets`. Each list is in the order of tiles, but joins and buffers are in the order of the database, and global
--- nets by their networks. The registers
--- are the flip-flops of the cells, then the registers of pins. `plls` are the outputs of PLLs that are input ports. `lut_inputs` says which
--- inputs the LUTs of the cells read.
+-- nets by their networks. The registers are the flip-flops of the cells, then the registers of pins. `plls` are the outputs of PLLs that
+-- are input ports. `lut_inputs` says which inputs the LUTs of the cells read, and `register_clocks` whether registers may be clocks.
 pub record Fabric : Type 0 where
   pub nets : ℕ
   pub joins : List (ℕ × ℕ)
@@ -40,6 +39,7 @@ pub record Fabric : Type 0 where
   pub plls : List PllSource
   pub globals : List GlobalNet
   pub lut_inputs : LutInputs
+  pub register_clocks : Bool
   pub lcs : List LogicCell
   pub registers : List Register
   pub sets : List CarrySet
@@ -71,6 +71,7 @@ fabric_with options db image = record {
   plls = pll_ports options.all_pins db image;
   globals = globals_of options.all_pins db image;
   lut_inputs = options.lut_inputs;
+  register_clocks = options.register_clocks;
   lcs = cells_of db image;
   registers = registers_of options.lut_inputs (cells_of db image)
       ++ pin_registers_of (flips_among (cells_of db image)) (pins_of options.all_pins db image);
@@ -81,11 +82,11 @@ fabric_with options db image = record {
 
 -- the same options, but the LUTs read all of their inputs
 abbrev pub reading_all : FabricOptions → FabricOptions
-reading_all options = record { lut_inputs = read.All; all_pins = options.all_pins }
+reading_all options = record { lut_inputs = read.All; all_pins = options.all_pins; register_clocks = options.register_clocks }
 
--- no options: the LUTs read all of their inputs, and not pins of every kind are taken
+-- no options: the LUTs read all of their inputs, not pins of every kind are taken, and no register is a clock
 abbrev pub no_options : FabricOptions
-no_options = record { lut_inputs = read.All; all_pins = false }
+no_options = record { lut_inputs = read.All; all_pins = false; register_clocks = false }
 
 -- what a database and an image configure, without options
 abbrev pub fabric_of : Database → Configuration → Fabric

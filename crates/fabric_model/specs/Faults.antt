@@ -17,9 +17,9 @@ use Rattle.fabric_model.specs.Pins.{PinPlace, pin_places, pin_with, is_refused_w
 use Rattle.fabric_model.specs.Fabric.{Fabric, numbered, fabric_with}
 use Rattle.fabric_model.specs.Drivers.{Drive, drivers_of}
 use Rattle.graph_order.specs.Wiring.{Wiring, is_on_cycle}
-use Rattle.fabric_model.specs.Wiring.{wiring_of}
+use Rattle.fabric_model.specs.Wiring.{wiring_of, clocked_wiring}
 use Rattle.fabric_model.specs.Clocks.{ClockEnd, User, users_of, clock_end}
-use Rattle.fabric_model.specs.Clocks.ClockEnd.{at_pin, still, logic}
+use Rattle.fabric_model.specs.Clocks.ClockEnd.{at_pin, at_register, still, logic}
 
 -- a cause, and what has it
 pub data Fault : Type 0 where
@@ -33,7 +33,7 @@ pub data Fault : Type 0 where
   cascade : (x y : ℕ) → Fault
   -- a class of joined nets with two drivers or more, and the first two
   two_drivers : (net : ℕ) (first second : Driver) → Fault
-  -- a class of joined nets that lies on a combinational cycle
+  -- a class of joined nets that lies on a combinational cycle, or on one by registers that are clocks
   loop : (net : ℕ) → Fault
   -- a user of a clock whose clock chain ends at logic
   clock : (x y : ℕ) (user : ClockUser) (net : ℕ) → Fault
@@ -82,7 +82,7 @@ drivers_fault class drives = []
 unfoldable pub driver_faults : Fabric → List Fault
 driver_faults fabric = gathered_below fabric.nets (λ class. drivers_fault class (drivers_of fabric class))
 
--- classes of joined nets that lie on a combinational cycle
+-- classes of joined nets that lie on a cycle: of logic, or also of registers that are clocks
 unfoldable pub loop_faults : Wiring → List Fault
 loop_faults wiring = gathered_below wiring.count (λ class. item_if (is_on_cycle wiring class) (loop class))
 
@@ -90,6 +90,7 @@ loop_faults wiring = gathered_below wiring.count (λ class. item_if (is_on_cycle
 
 abbrev pub end_fault : User → ℕ → ClockEnd → List Fault
 end_fault user net (at_pin place turned) = []
+end_fault user net (at_register class place turned) = []
 end_fault user net (still bit) = []
 end_fault user net logic = clock user.x user.y user.user net ∷ []
 
@@ -117,7 +118,8 @@ unfoldable pub fabric_fault : DeviceName → Fabric → Option Fault
 fabric_fault device fabric =
     or_else (first_of (driver_faults fabric))
     (or_else (first_of (loop_faults (wiring_of fabric)))
-    (first_of (clock_faults device fabric)))
+    (or_else (first_of (loop_faults (clocked_wiring fabric)))
+    (first_of (clock_faults device fabric))))
 
 -- why a database and an image aren't taken, with these options
 unfoldable pub design_fault : FabricOptions → Database → Configuration → Option Fault

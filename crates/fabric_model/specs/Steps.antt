@@ -1,5 +1,7 @@
--- What an event changes, how registers settle, and runs.
-use Rattle.std.specs.Prelude.{◌≡◌, ℕ, Bool, false, not, ◌&&◌, List, [], ◌∷◌, ◌==◌, length, map, take, drop, get_or, set, replicate, Option, Some, None, if◌then◌else◌}
+-- What an event changes in a step and in waves, how registers settle, and runs.
+use Rattle.std.specs.Prelude.{◌≡◌, ℕ, zero, suc, Bool, true, false, not, ◌&&◌, List, [], ◌∷◌, ◌++◌, ◌==◌, length, map, flat_map, filter, take, drop, get_or, set, replicate, is_some, Option, Some, None, if◌then◌else◌}
+use Rattle.std.specs.List.{list_any}
+use Rattle.fabric_model.specs.Clocks.{clock_class}
 use Rattle.bit_plane.specs.BitList.{word_of}
 use Rattle.bit_plane.specs.Rows.{row_from}
 use Rattle.fabric_model.specs.declared.register.Register.{Register}
@@ -17,6 +19,23 @@ abbrev pub has_edge : Bool → Option ℕ → (ℕ → Bool) → (ℕ → Bool) 
 has_edge inverted None before after = false
 has_edge inverted (Some net) before after =
     if inverted then before net && not (after net) else not (before net) && after net
+
+-- Which users of clocks have an edge: given whether its clock is inverted, and the net of its clock, whether a user has one.
+abbrev pub Edges : Type 0
+Edges = Bool → Option ℕ → Bool
+
+-- whether a register is the clock of a net
+abbrev pub is_on_register : Fabric → Option ℕ → Bool
+is_on_register fabric net = is_some (clock_class fabric net)
+
+-- The edges of an event: those of users whose clock is no register. In a fabric that is taken these are the users whose clock is an input
+-- port, since a bit that is always the same has no edge.
+abbrev pub event_edges : Fabric → (ℕ → Bool) → (ℕ → Bool) → Edges
+event_edges fabric before after inverted net = not (is_on_register fabric net) && has_edge inverted net before after
+
+-- The edges of a wave: those of users whose clock is a register.
+abbrev pub wave_edges : Fabric → (ℕ → Bool) → (ℕ → Bool) → Edges
+wave_edges fabric before after inverted net = is_on_register fabric net && has_edge inverted net before after
 
 -- ---- registers
 
@@ -102,32 +121,32 @@ next_register connected bit ram words register =
 
 -- ---- the next state
 
--- A register with an edge takes its next value from the state, the pins and the bits before, one without an edge keeps its value.
-abbrev pub bit_after : (ℕ → Bool) → List Bool → (ℕ → Bool) → (ℕ → Bool) → State → ℕ × Register → Bool
-bit_after connected pins before after state place =
+-- A register with an edge takes its next value from the state, the pins and the bits of nets, one without an edge keeps its value.
+abbrev pub bit_after : (ℕ → Bool) → List Bool → (ℕ → Bool) → Edges → State → ℕ × Register → Bool
+bit_after connected pins bit edges state place =
     let old = get_or state.bits place.0 false in
-    if has_edge place.1.neg place.1.clk before after then next_bit connected state pins before place.1 old else old
+    if edges place.1.neg place.1.clk then next_bit connected state pins bit place.1 old else old
 
-abbrev pub words_after : (ℕ → Bool) → (ℕ → Bool) → (ℕ → Bool) → State → ℕ × RamCell → List (List Bool)
-words_after connected before after state place =
+abbrev pub words_after : (ℕ → Bool) → (ℕ → Bool) → Edges → State → ℕ × RamCell → List (List Bool)
+words_after connected bit edges state place =
     let old = get_or state.words place.0 [] in
-    if has_edge place.1.wneg place.1.wclk before after then next_words connected before place.1 old else old
+    if edges place.1.wneg place.1.wclk then next_words connected bit place.1 old else old
 
-abbrev pub read_after : (ℕ → Bool) → (ℕ → Bool) → (ℕ → Bool) → State → ℕ × RamCell → List Bool
-read_after connected before after state place =
+abbrev pub read_after : (ℕ → Bool) → (ℕ → Bool) → Edges → State → ℕ × RamCell → List Bool
+read_after connected bit edges state place =
     let old = get_or state.reads place.0 [] in
-    if has_edge place.1.rneg place.1.rclk before after
-    then next_register connected before place.1 (get_or state.words place.0 []) old
+    if edges place.1.rneg place.1.rclk
+    then next_register connected bit place.1 (get_or state.words place.0 []) old
     else old
 
--- the next state, from the pins, the state and the bits of nets before an event, and the bits of clock nets after it
-unfoldable pub state_after : Fabric → List Bool → State → (ℕ → Bool) → (ℕ → Bool) → State
-state_after fabric pins state before after =
+-- the next state, from the pins, the state and the bits of nets, and the edges: all users with an edge change at once
+unfoldable pub state_after : Fabric → List Bool → State → (ℕ → Bool) → Edges → State
+state_after fabric pins state bit edges =
     let connected = is_connected fabric in
     record {
-      bits = map (bit_after connected pins before after state) (numbered fabric.registers);
-      reads = map (read_after connected before after state) (numbered fabric.rams);
-      words = map (words_after connected before after state) (numbered fabric.rams);
+      bits = map (bit_after connected pins bit edges state) (numbered fabric.registers);
+      reads = map (read_after connected bit edges state) (numbered fabric.rams);
+      words = map (words_after connected bit edges state) (numbered fabric.rams);
     }
 
 -- ---- settling
@@ -162,12 +181,55 @@ pub record IsEntry (fabric : Fabric) (entry : Entry) : Type 0 where
   pub consistent : IsConsistent fabric entry.state entry.pins entry.v
   pub outputs : entry.outputs ≡ output_values fabric entry.state entry.pins entry.v
 
--- an entry follows another by an event
-pub record Follows (fabric : Fabric) (before : Entry) (event : Event) (after : Entry) : Type 0 where
+-- The first step of an event: its input port gets its bit, and users whose clock is no register take their next values at their edges, computed
+-- from the entry before.
+pub record IsFirstStep (fabric : Fabric) (before : Entry) (event : Event) (after : Entry) : Type 0 where
   pub entry : IsEntry fabric after
   pub pins : after.pins ≡ set before.pins event.pin event.bit
   pub state : after.state
-      ≡ settled_state fabric (bit_in after.v) (state_after fabric before.pins before.state (bit_in before.v) (bit_in after.v))
+      ≡ settled_state fabric (bit_in after.v)
+      (state_after fabric before.pins before.state (bit_in before.v) (event_edges fabric (bit_in before.v) (bit_in after.v)))
+
+-- A wave, from two entries to the one after it: users whose clock is a register take their next values at their edges between the two,
+-- computed from the second one.
+pub record IsWave (fabric : Fabric) (earlier before after : Entry) : Type 0 where
+  pub entry : IsEntry fabric after
+  pub pins : after.pins ≡ before.pins
+  pub state : after.state
+      ≡ settled_state fabric (bit_in after.v)
+      (state_after fabric before.pins before.state (bit_in before.v) (wave_edges fabric (bit_in earlier.v) (bit_in before.v)))
+
+-- the users of clocks, each by whether its clock is inverted and by the net of its clock
+abbrev pub clocked_users : Fabric → List (Bool × Option ℕ)
+clocked_users fabric =
+    map (λ register. (register.neg, register.clk)) fabric.registers
+    ++ flat_map (λ ram. (ram.rneg, ram.rclk) ∷ (ram.wneg, ram.wclk) ∷ []) fabric.rams
+
+-- whether a wave comes after two entries: a user whose clock is a register has an edge between them
+abbrev pub has_wave : Fabric → Entry → Entry → Bool
+has_wave fabric earlier before = list_any (λ user. wave_edges fabric (bit_in earlier.v) (bit_in before.v) user.0 user.1) (clocked_users fabric)
+
+-- how many waves an event has at most: one for each user whose clock is a register
+abbrev pub wave_bound : Fabric → ℕ
+wave_bound fabric = length (filter (λ user. is_on_register fabric user.1) (clocked_users fabric))
+
+-- Waves come after two entries, at most this many, until none comes any more: from these two entries to the last two.
+pub data EndsAt (fabric : Fabric) : ℕ → (earlier before : Entry) → (prior last : Entry) → Type 0 where
+  bound : {earlier before : Entry} → EndsAt fabric zero earlier before earlier before
+  rests : {more : ℕ} {earlier before : Entry} → has_wave fabric earlier before ≡ false → EndsAt fabric (suc more) earlier before earlier before
+  goes_on : {more : ℕ} {earlier before prior last : Entry} (next : Entry) → has_wave fabric earlier before ≡ true
+      → IsWave fabric earlier before next → EndsAt fabric more before next prior last → EndsAt fabric (suc more) earlier before prior last
+
+-- an entry follows another by an event: the first step, and the waves after it
+pub record Follows (fabric : Fabric) (before : Entry) (event : Event) (after : Entry) : Type 0 where
+  pub first : Entry
+  pub prior : Entry
+  pub first_step : IsFirstStep fabric before event first
+  pub waves : EndsAt fabric (wave_bound fabric) before first prior after
+
+-- no wave is cut: none would come after the last one of an event
+abbrev pub IsUncut : (fabric : Fabric) (before : Entry) (event : Event) (after : Entry) → Follows fabric before event after → Type 0
+IsUncut fabric before event after follows = has_wave fabric follows.prior after ≡ false
 
 -- the state at the start, before it settles: all registers and read registers are 0, and the words are those of the image
 abbrev pub start_state : Fabric → State

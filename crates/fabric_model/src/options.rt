@@ -9,4 +9,6 @@ pub struct FabricOptions {
     pub lut_inputs: LutInputs,
     /// Whether pins of every kind are taken.
     pub all_pins: bool,
+    /// Whether registers may be clocks.
+    pub register_clocks: bool,
 }

@@ -19,7 +19,7 @@ use Rattle.fabric_model.specs.Fabric.{Fabric, numbered_from, numbered, inputs_of
 use Rattle.fabric_model.proofs.Apart.{apart-numbered}
 use Rattle.fabric_model.specs.Steps.{Entry, start_state, IsFirst}
 use Rattle.graph_order.specs.Wiring.{IsWriteOrder}
-use Rattle.fabric_model.specs.Wiring.{wiring_of}
+use Rattle.fabric_model.specs.Wiring.{clocked_wiring}
 use Rattle.fabric_model.proofs.OneValue.{IsWithin}
 use Rattle.fabric_module.specs.Names.{input_port_name, register_name, read_name, memory_name}
 use Rattle.fabric_module.specs.Written.{register_item, read_register, ram_memory, start_item, start_items, items_of, module_of}
@@ -226,8 +226,8 @@ each-started (words ∷ starts) all =
     rw (first, each-started starts (All-tail (λ w. length w ≡ 256) words starts all)) refl
 
 module _ (fabric : Fabric) (within : IsWithin fabric) (writable : IsWritable fabric) (sized : IsStarted fabric)
-    (order : List ℕ) (ordered : IsWriteOrder (wiring_of fabric) order) (name : List ℕ) where
-  start-registers : flat_map register_start (items_of fabric order) ≡ map (λ register. (register_name register, false)) fabric.registers
+    (order : List ℕ) (ordered : IsWriteOrder (clocked_wiring fabric) order) (name : List ℕ) where
+  pub start-registers : flat_map register_start (items_of fabric order) ≡ map (λ register. (register_name register, false)) fabric.registers
   start-registers =
       flat_map-section 2 register_start register-none (items_of fabric order)
       ∙ (ap (flat_map register_start) (registers-section fabric order) ∙ registers-start fabric.registers)

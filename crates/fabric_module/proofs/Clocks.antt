@@ -1,12 +1,12 @@
 -- The outputs and the items of registers and RAM ports of a written module may stand after its wires.
 use Rattle.std.proofs.Common.{◌≡◌, ℕ, ◌<◌, ◌≤◌, Bool, false, arith, List, [], ◌∷◌, ◌++◌, map, fold, refl, sym, ap, ◌∙◌, subst, append-nil}
-use Rattle.std.specs.Prelude.{All, Contains, Option, Some, None, flat_map, bytes_eq}
+use Rattle.std.specs.Prelude.{All, Contains, IsTrue, Option, Some, None, flat_map, bytes_eq}
 use Rattle.std.proofs.lemmas.List.Elements.{All-nil, All-cons, All-head, All-tail, All-append, All-contains_itself}
 use Rattle.shared_lemmas.proofs.Lists.{All-both}
 use Rattle.vlog_module.specs.declared.sort.Sort.{Sort}
 use Rattle.vlog_module.specs.declared.sort.Sort.TheVariants as sort
 use Rattle.vlog_module.specs.declared.item.Item.{Item}
-use Rattle.vlog_module.specs.WellFormed.{is_read_unless, Scope, IsAllowed}
+use Rattle.vlog_module.specs.WellFormed.{sort_in, is_clock, is_read_unless, Scope, IsAllowed}
 use Rattle.fabric_model.specs.declared.register.Register.{Register}
 use Rattle.fabric_model.specs.declared.ram.RamCell.{RamCell}
 use Rattle.fabric_model.specs.Joins.{class_of}
@@ -15,25 +15,25 @@ use Rattle.fabric_model.specs.Outputs.{Output, outputs_of}
 use Rattle.fabric_model.proofs.Apart.{All-every}
 use Rattle.fabric_model.specs.Drivers.{is_driven}
 use Rattle.fabric_model.specs.Clocks.{ClockEnd, LeadsTo, clock_end}
-use Rattle.fabric_model.specs.Clocks.ClockEnd.{at_pin, still, logic}
+use Rattle.fabric_model.specs.Clocks.ClockEnd.{at_pin, at_register, still, logic}
 use Rattle.graph_order.specs.Wiring.{IsWriteOrder}
-use Rattle.fabric_model.specs.Wiring.{wiring_of}
-use Rattle.fabric_model.proofs.Chains.{clock_end-leads}
+use Rattle.fabric_model.specs.Wiring.{clocked_wiring}
+use Rattle.fabric_model.proofs.Chains.{clock_end-leads_clocked}
 use Rattle.fabric_model.specs.Within.{IsClosed}
-use Rattle.fabric_model.proofs.Signals.{IsSignalThere, HasSignals}
+use Rattle.fabric_model.proofs.Signals.{IsSignalThere, HasSignals, item-at}
 use Rattle.fabric_model.proofs.Settling.{outputs-have}
 use Rattle.fabric_model.proofs.OneValue.{IsWithin}
 use Rattle.fabric_module.specs.Names.{output_name, register_name, read_name, memory_name}
-use Rattle.fabric_module.specs.Rights.{input_name, setting_wire}
+use Rattle.fabric_module.specs.Rights.{input_name, register_at, setting_wire}
 use Rattle.fabric_module.specs.Written.{end_name, clock_name, clocked, output_assign, register_items, read_item, read_items, write_item, write_items}
 use Rattle.fabric_module.proofs.Lists.{Apart, flat_map-every, names-absent}
 use Rattle.fabric_module.proofs.Apart.{output-no_register, output-no_read, output-no_memory, register-no_read, register-no_memory, read-no_memory}
 use Rattle.fabric_module.proofs.Ports.{outputs-apart}
 use Rattle.fabric_module.proofs.Settled.{IsWritable}
 use Rattle.fabric_module.proofs.Beginning.{IsPorted, IsStarted}
-use Rattle.fabric_module.proofs.Ticks.{leads-place}
+use Rattle.fabric_module.proofs.Ticks.{leads-place, leads-index}
 use Rattle.fabric_module.proofs.Grown.{grown, Grows}
-use Rattle.fabric_module.proofs.Used.{IsThere, Knows, there-more, setting-class}
+use Rattle.fabric_module.proofs.Used.{IsThere, IsClockThere, input-clock, register-clock, Knows, there-more, setting-class}
 use Rattle.fabric_module.proofs.Readings.{IsReadWell, read-unless}
 use Rattle.fabric_module.proofs.Known.{Stands, stands-more}
 use Rattle.fabric_module.proofs.Assigned.{Assigned, AssignsOne, grows-assigned, output-one, output-allowed}
@@ -98,20 +98,25 @@ clocked-optional (Some name) item = refl
 
 -- ---- clocks are declared
 
-module _ (fabric : Fabric) (within : IsWithin fabric) (writable : IsWritable fabric) (order : List ℕ) (ordered : IsWriteOrder (wiring_of fabric) order)
+module _ (fabric : Fabric) (within : IsWithin fabric) (writable : IsWritable fabric) (order : List ℕ) (ordered : IsWriteOrder (clocked_wiring fabric) order)
     (scope : Scope) (knows : Knows fabric scope (is_driven fabric)) where
-  end-there : (class : ℕ) (end : ClockEnd) (name : List ℕ) → LeadsTo fabric class end → end_name fabric end ≡ Some name → IsThere scope name sort.Input
+  end-there : (class : ℕ) (end : ClockEnd) (name : List ℕ) → LeadsTo fabric class end → end_name fabric end ≡ Some name → IsClockThere scope name
   end-there class (at_pin place turned) name leads is =
       let same : Some (input_name fabric place) ≡ Some name = is in
       let named : input_name fabric place ≡ name = cc in
-      subst (λ n. IsThere scope n sort.Input) named (knows.input place (leads-place fabric writable leads place turned refl))
+      subst (IsClockThere scope) named (input-clock scope (input_name fabric place) (knows.input place (leads-place fabric writable leads place turned refl)))
+  end-there class (at_register at_class place turned) name leads is =
+      let same : Some (register_at fabric place) ≡ Some name = is in
+      let named : register_at fabric place ≡ name = cc in
+      let at = item-at fabric.registers place (leads-index fabric within class at_class place turned leads) in
+      subst (IsClockThere scope) (sym (at.1.named register_name) ∙ named) (register-clock scope (register_name at.0) (knows.register at.0 at.1.there))
   end-there class (still bit) name leads is = absurd cc
   end-there class logic name leads is = absurd cc
 
-  pub clock-there : (clock : Option ℕ) (name : List ℕ) → clock_name fabric clock ≡ Some name → IsThere scope name sort.Input
+  pub clock-there : (clock : Option ℕ) (name : List ℕ) → clock_name fabric clock ≡ Some name → IsClockThere scope name
   unfolding clock_name
   clock-there None name is = absurd cc
-  clock-there (Some net) name is = end-there (class_of fabric.joins net) (clock_end fabric net) name (clock_end-leads fabric within order ordered net) is
+  clock-there (Some net) name is = end-there (class_of fabric.joins net) (clock_end fabric net) name (clock_end-leads_clocked fabric within order ordered net) is
 
 -- ---- what stands before outputs and clocked items
 
@@ -134,6 +139,10 @@ knows-same fabric old new wired same knows =
 
 there-same : (old new : Scope) (name : List ℕ) (as_sort : Sort) → new.declared ≡ old.declared → IsThere old name as_sort → IsThere new name as_sort
 there-same old new name as_sort same there = there-more old new [] name as_sort (same ∙ sym (append-nil old.declared)) there
+
+-- a clock stays one
+clock-same : (old new : Scope) (name : List ℕ) → new.declared ≡ old.declared → IsClockThere old name → IsClockThere new name
+clock-same old new name same there = record { named = there.named; known = subst (λ declared. IsTrue (is_clock (sort_in declared name))) (sym same) there.known }
 
 -- it stays if names are assigned
 standing-after : (fabric : Fabric) (j k : ℕ) (assigned names : List (List ℕ)) (before after : Scope) → Standing fabric j assigned before → Assigned before after k names
@@ -228,7 +237,7 @@ abbrev IsTabled : Fabric → Register → Type 0
 IsTabled fabric register = (register.table.word < 65536) × HasSignals fabric register
 
 module _ (fabric : Fabric) (within : IsWithin fabric) (writable : IsWritable fabric) (sized : IsStarted fabric) (few : All (λ register. register.table.word < 65536) fabric.registers)
-    (order : List ℕ) (ordered : IsWriteOrder (wiring_of fabric) order) where
+    (order : List ℕ) (ordered : IsWriteOrder (clocked_wiring fabric) order) where
   module _ (scope : Scope) (standing : Standing fabric 6 (map output_name (outputs_of fabric)) scope) where
     -- the wire that sets a register at once is there
     setting-there : (register : Register) (wire : List ℕ) → setting_wire fabric register ≡ Some wire → IsThere scope wire sort.Wire
@@ -268,9 +277,9 @@ module _ (fabric : Fabric) (within : IsWithin fabric) (writable : IsWritable fab
         standing.stands.registers (All-contains_itself fabric.registers))
 
     way-same : (next : Scope) (register : Register) → next.declared ≡ scope.declared → next.read ≡ scope.read → (way : Way) → IsWay scope register way → IsWay next register way
-    way-same next register same same_read (waits clock) is = there-same scope next clock sort.Input same is
+    way-same next register same same_read (waits clock) is = clock-same scope next clock same is
     way-same next register same same_read (acts wire clock) is = (
-      there-same scope next clock sort.Input same is.0,
+      clock-same scope next clock same is.0,
       there-same scope next wire sort.Wire same is.1,
       ap (λ readings. is_read_unless readings wire register.«set» (register_name register)) same_read ∙ is.2,
     )
@@ -297,7 +306,7 @@ module _ (fabric : Fabric) (within : IsWithin fabric) (writable : IsWritable fab
 
   module _ (scope : Scope) (standing : Standing fabric 7 (after_registers fabric) scope) where
     abbrev IsRead : RamCell × List ℕ → Type 0
-    IsRead pair = IsPorted pair.0 × IsThere scope pair.1 sort.Input × IsThere scope (read_name pair.0) sort.Word × IsThere scope (memory_name pair.0) sort.Memory
+    IsRead pair = IsPorted pair.0 × IsClockThere scope pair.1 × IsThere scope (read_name pair.0) sort.Word × IsThere scope (memory_name pair.0) sort.Memory
 
     reads-there : All (λ ram. IsPorted ram × IsThere scope (read_name ram) sort.Word × IsThere scope (memory_name ram) sort.Memory) fabric.rams
     reads-there =
@@ -310,7 +319,7 @@ module _ (fabric : Fabric) (within : IsWithin fabric) (writable : IsWritable fab
         → All (λ n. bytes_eq n (read_name pair.0) ≡ false) next.assigned → IsAllowed next (read_item fabric pair.0 pair.1)
     reads-next next pair is low same same_read away =
         read-allowed fabric next (knows-same fabric scope next (is_driven fabric) same standing.knows) pair.0 pair.1 is.0
-        (there-same scope next pair.1 sort.Input same is.1) (there-same scope next (read_name pair.0) sort.Word same is.2) (there-same scope next (memory_name pair.0) sort.Memory same is.3) low away
+        (clock-same scope next pair.1 same is.1) (there-same scope next (read_name pair.0) sort.Word same is.2) (there-same scope next (memory_name pair.0) sort.Memory same is.3) low away
 
     reads-away : (ram : RamCell) → All (λ n. bytes_eq n (read_name ram) ≡ false) (after_registers fabric)
     unfolding after_registers
@@ -329,7 +338,7 @@ module _ (fabric : Fabric) (within : IsWithin fabric) (writable : IsWritable fab
 
   module _ (scope : Scope) (standing : Standing fabric 8 (after_reads fabric) scope) where
     abbrev IsWrite : RamCell × List ℕ → Type 0
-    IsWrite pair = IsPorted pair.0 × IsThere scope pair.1 sort.Input × IsThere scope (memory_name pair.0) sort.Memory
+    IsWrite pair = IsPorted pair.0 × IsClockThere scope pair.1 × IsThere scope (memory_name pair.0) sort.Memory
 
     writes-there : All (λ ram. IsPorted ram × IsThere scope (memory_name ram) sort.Memory) fabric.rams
     writes-there =
@@ -340,7 +349,7 @@ module _ (fabric : Fabric) (within : IsWithin fabric) (writable : IsWritable fab
         → All (λ n. bytes_eq n (memory_name pair.0) ≡ false) next.assigned → IsAllowed next (write_item fabric pair.0 pair.1)
     writes-next next pair is low same same_read away =
         write-allowed fabric next (knows-same fabric scope next (is_driven fabric) same standing.knows) pair.0 pair.1 is.0
-        (there-same scope next pair.1 sort.Input same is.1) (there-same scope next (memory_name pair.0) sort.Memory same is.2) low away
+        (clock-same scope next pair.1 same is.1) (there-same scope next (memory_name pair.0) sort.Memory same is.2) low away
 
     writes-away : (ram : RamCell) → All (λ n. bytes_eq n (memory_name ram) ≡ false) (after_reads fabric)
     unfolding after_reads

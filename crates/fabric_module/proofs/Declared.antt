@@ -1,10 +1,9 @@
 -- The state that a written module declares may stand after its ports.
 use Rattle.std.proofs.Common.{◌≡◌, ℕ, ◌≤◌, false, List, [], ◌∷◌, ◌++◌, map, fold, refl, sym, ap, ◌∙◌, subst, arith, append_assoc, append-nil}
-use Rattle.std.specs.Prelude.{All, None, bytes_eq, IsTrue}
+use Rattle.std.specs.Prelude.{All, bytes_eq, IsTrue}
 use Rattle.std.proofs.lemmas.List.{map-append}
 use Rattle.std.proofs.lemmas.List.Sums.{fold-append}
 use Rattle.std.proofs.lemmas.List.Elements.{All-nil, All-cons, All-head, All-tail, All-append}
-use Rattle.vlog_module.specs.Maps.{value_in}
 use Rattle.vlog_module.specs.declared.sort.Sort.{Sort}
 use Rattle.vlog_module.specs.declared.sort.Sort.TheVariants as sort
 use Rattle.vlog_module.specs.declared.item.Item.{Item}
@@ -18,17 +17,11 @@ use Rattle.fabric_model.specs.Fabric.{Fabric}
 use Rattle.fabric_model.proofs.Apart.{All-every}
 use Rattle.fabric_module.specs.Names.{register_name, read_name, memory_name}
 use Rattle.fabric_module.specs.Written.{register_item, read_register, ram_memory}
-use Rattle.fabric_module.proofs.Lists.{Apart, names-absent, map-map}
+use Rattle.fabric_module.proofs.Lists.{Apart, value_in-none, names-absent, map-map}
 use Rattle.fabric_module.proofs.Apart.{io-no_register, pll-no_register, io-no_read, pll-no_read, io-no_memory, pll-no_memory, register-no_read, register-no_memory, read-no_memory}
 use Rattle.fabric_module.proofs.Ports.{ports_of, port_label, ports-absent}
 use Rattle.fabric_module.proofs.Settled.{IsWritable}
 use Rattle.fabric_module.proofs.Grown.{grown, grown-section, grown-declared, grown-assigned, grown-started, Grows, Grows-append}
-
-pub value_in-none : {A : Type 0} (entries : List (List ℕ × A)) (q : List ℕ) → All (λ name. bytes_eq name q ≡ false) (names_of entries) → value_in entries q ≡ None
-value_in-none [] q absent = refl
-value_in-none (entry ∷ entries) q absent =
-    rw (All-head (λ name. bytes_eq name q ≡ false) entry.0 (names_of entries) absent)
-    (value_in-none entries q (All-tail (λ name. bytes_eq name q ≡ false) entry.0 (names_of entries) absent))
 
 -- what some items leave, that declare names of one sort and do nothing else
 pub record Declared (before after : Scope) (k : ℕ) (declared : List (List ℕ × Sort)) : Type 0 where

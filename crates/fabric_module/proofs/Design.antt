@@ -20,7 +20,7 @@ use Rattle.fabric_model.specs.Fabric.{inputs_of, fabric_with, reading_all}
 use Rattle.fabric_model.specs.declared.options.FabricOptions.{FabricOptions}
 use Rattle.fabric_model.specs.Steps.{Event, Entry, IsRun}
 use Rattle.graph_order.specs.Wiring.{IsWriteOrder}
-use Rattle.fabric_model.specs.Wiring.{wiring_of}
+use Rattle.fabric_model.specs.Wiring.{clocked_wiring}
 use Rattle.fabric_model.specs.Faults.{design_fault}
 use Rattle.fabric_model.proofs.Within.{fabric-in, fabric-within}
 use Rattle.fabric_model.proofs.Signals.{registers-signals}
@@ -60,7 +60,7 @@ module _ (options : FabricOptions) (db : Database) (image : Configuration) (fit 
   }
 
   -- For each list of events, the fabric's run and the run of the written module match at the start and after each event.
-  with-is-module : (order : List ℕ) → IsWriteOrder (wiring_of (fabric_with options db image)) order → (name : List ℕ) (events : List Event) (entries : List Entry)
+  with-is-module : (order : List ℕ) → IsWriteOrder (clocked_wiring (fabric_with options db image)) order → (name : List ℕ) (events : List Event) (entries : List Entry)
       → IsRun (fabric_with options db image) events entries
       → AllZip (Matches (fabric_with options db image)) entries (module_run (module_of (fabric_with options db image) order name) (map module_event events))
   with-is-module order ordered name =
@@ -113,7 +113,7 @@ module _ (options : FabricOptions) (db : Database) (image : Configuration) (fit 
   each-matches (entry ∷ entries) [] match = absurd match
   each-matches (entry ∷ entries) (other ∷ others) match = (matches-all entry other match.0, each-matches entries others match.1)
 
-  pub design-is-module : (order : List ℕ) → IsWriteOrder (wiring_of (fabric_with options db image)) order → (name : List ℕ) (events : List Event) (entries : List Entry)
+  pub design-is-module : (order : List ℕ) → IsWriteOrder (clocked_wiring (fabric_with options db image)) order → (name : List ℕ) (events : List Event) (entries : List Entry)
       → IsRun (fabric_with (reading_all options) db image) events entries
       → AllZip (Matches (fabric_with (reading_all options) db image)) entries (module_run (module_of (fabric_with options db image) order name) (map module_event events))
   design-is-module order ordered name events entries run =
@@ -121,7 +121,7 @@ module _ (options : FabricOptions) (db : Database) (image : Configuration) (fit 
       (with-is-module order ordered name events entries (run-with options db image events entries run))
 
   -- The written module is well-formed.
-  pub design-well_formed : (order : List ℕ) → IsWriteOrder (wiring_of (fabric_with options db image)) order → (name : List ℕ) → IsName name
+  pub design-well_formed : (order : List ℕ) → IsWriteOrder (clocked_wiring (fabric_with options db image)) order → (name : List ℕ) → IsName name
       → IsModule (module_of (fabric_with options db image) order name)
   design-well_formed order ordered =
       module-well_formed (fabric_with options db image) (fabric-within db image fit options) fabric-writable (fabric-started db image options) (fabric-shapely db image options fit) order ordered

@@ -21,10 +21,15 @@ pub mod Rights
 pub mod Settled
 -- the start of a written module: registers are 0, and memories have the words of the image
 pub mod Beginning
--- an event is an edge for a clocked item of the module exactly if it is an edge of the fabric's clock
+-- a clocked item of the module has its edge exactly if the fabric's user of the clock has one: at an event, and in a wave
 pub mod Ticks
--- what registers and RAM ports become in the module at an event, before registers settle, is what they become in the fabric
+-- what registers and RAM ports become in the module, before registers settle, is what they become in the fabric, if items and users
+-- have their edges together
 pub mod Clocked
+-- so an entry of the module after the items have taken effect holds the values of the fabric's entry after the users have taken theirs
+pub mod Acted
+-- the items on a clock are one to one with the fabric's users of it: as many have an edge, and as many are on a register
+pub mod Waves
 -- the run of the written module and the run of the fabric match after the start and after each event of each list
 pub mod Headline
 -- names with other numbers are apart, and those of parts of several kinds

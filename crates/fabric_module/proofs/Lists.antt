@@ -1,6 +1,6 @@
 -- Lists of names with their values.
 use Rattle.std.proofs.Common.{◌≡◌, ℕ, zero, suc, ◌+◌, ◌<◌, true, false, List, [], ◌∷◌, ◌++◌, length, map, get_or, refl, sym, ap, ◌∙◌, subst, arith, inl, inr, append_assoc}
-use Rattle.std.specs.Prelude.{All, Contains, Some, flat_map, bytes_eq}
+use Rattle.std.specs.Prelude.{All, Contains, Some, None, flat_map, bytes_eq}
 use Rattle.std.proofs.lemmas.Bool.{cases_Bool}
 use Rattle.std.proofs.lemmas.List.{length_push}
 use Rattle.std.proofs.lemmas.List.Elements.{All-nil, All-cons, All-head, All-tail, All-contains, All-contains_itself}
@@ -128,6 +128,13 @@ value_in-after [] second q absent = refl
 value_in-after (entry ∷ first) second q absent =
     rw (All-head (λ name. bytes_eq name q ≡ false) entry.0 (names_of first) absent)
     (value_in-after first second q (All-tail (λ name. bytes_eq name q ≡ false) entry.0 (names_of first) absent))
+
+-- a name that none of the names is has no value
+pub value_in-none : {A : Type 0} (entries : List (List ℕ × A)) (q : List ℕ) → All (λ name. bytes_eq name q ≡ false) (names_of entries) → value_in entries q ≡ None
+value_in-none [] q absent = refl
+value_in-none (entry ∷ entries) q absent =
+    rw (All-head (λ name. bytes_eq name q ≡ false) entry.0 (names_of entries) absent)
+    (value_in-none entries q (All-tail (λ name. bytes_eq name q ≡ false) entry.0 (names_of entries) absent))
 
 -- none of the names of items is that name
 pub names-absent : {X : Type 0} (name : X → List ℕ) (xs : List X) (q : List ℕ) → ((x : X) → bytes_eq (name x) q ≡ false) → All (λ n. bytes_eq n q ≡ false) (map name xs)

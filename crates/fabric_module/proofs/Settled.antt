@@ -26,13 +26,14 @@ use Rattle.fabric_model.specs.Drivers.{Drive, drives_of, is_driven}
 use Rattle.fabric_model.specs.Values.{State, settled_bit, signal_value, bit_in, is_connected, IsConsistent}
 use Rattle.fabric_model.specs.Steps.{Entry, settled_bits, settled_state, output_values, IsEntry}
 use Rattle.graph_order.specs.Wiring.{has, IsWriteOrder}
-use Rattle.fabric_model.specs.Wiring.{wiring_of}
+use Rattle.fabric_model.specs.Wiring.{clocked_wiring}
 use Rattle.graph_order.proofs.OneOrder.{has-none, has-first, has-cases, Continues, order-continues}
 use Rattle.graph_order.proofs.OneOrder.Continues.{whole, next}
 use Rattle.fabric_model.proofs.Facts.{has-left, has-right}
 use Rattle.fabric_model.proofs.Signals.{IsSignalThere, HasSignals}
 use Rattle.fabric_model.proofs.Settling.{outputs-have, consistent-unsettled}
-use Rattle.fabric_model.proofs.OneValue.{IsWithin, driven-is, count-is, driven-below}
+use Rattle.fabric_model.proofs.OneValue.{IsWithin, driven-is, driven-below}
+use Rattle.fabric_model.proofs.Clocking.{clocked-count, clocked-driven, clocked-ready}
 use Rattle.fabric_module.specs.Names.{input_port_name, output_name, register_name, read_name, memory_name, wire_name}
 use Rattle.fabric_module.specs.Rights.{signal_atom, input_name, read_at, setting_wire, class_right}
 use Rattle.fabric_module.specs.Written.{class_wire, output_assign, items_by, register_items, items_of, module_of}
@@ -261,16 +262,17 @@ module _ (fabric : Fabric) (within : IsWithin fabric) (writable : IsWritable fab
 
   -- ---- wires in their order
 
-  wires-from : {before order : List ℕ} → Continues (wiring_of fabric) before order → (front : List ℕ) → All (λ c. c < 2 ^ 64) front
+  wires-from : {before order : List ℕ} → Continues (clocked_wiring fabric) before order → (front : List ℕ) → All (λ c. c < 2 ^ 64) front
       → ((k : ℕ) → has before k ≡ true → (has front k ≡ true) × (k < 2 ^ 64))
       → fold (wire_step (inputs ++ registers) words) (map (wire_of v) front) (map (class_wire fabric) order) ≡ map (wire_of v) (front ++ order)
   wires-from (whole all) front small listed = ap (map (wire_of v)) (sym (append-nil front))
   wires-from {before} (next {node = class} {rest} least more) front small listed =
-      let driven : is_driven fabric class ≡ true = sym (driven-is fabric class) ∙ least.ready.driven in
+      let ready = clocked-ready fabric (has before) class least.ready in
+      let driven : is_driven fabric class ≡ true = sym (driven-is fabric class) ∙ ready.driven in
       let low : class < 2 ^ 64 = class-small class driven in
       let value = class-written fabric within state pins v is (has before) (record { bits = (inputs ++ registers) ++ map (wire_of v) front; words = words })
       (gives-with front (has before) small listed) class writable.places driven
-      (λ other reads drives. least.ready.inputs other reads (driven-is fabric other ∙ drives)) in
+      (λ other reads drives. ready.inputs other reads (driven-is fabric other ∙ drives)) in
       let step : map (wire_of v) front ++ (wire_name class, right_value (record { bits = (inputs ++ registers) ++ map (wire_of v) front; words = words }) (class_right fabric class)) ∷ []
       ≡ map (wire_of v) (front ++ class ∷ []) =
       ap (λ bit. map (wire_of v) front ++ (wire_name class, bit) ∷ []) value ∙ sym (map-append (wire_of v) front (class ∷ [])) in
@@ -278,29 +280,29 @@ module _ (fabric : Fabric) (within : IsWithin fabric) (writable : IsWritable fab
       ∙ (wires-from more (front ++ class ∷ []) (All-push (λ c. c < 2 ^ 64) front class small low) (more-listed before front class listed low)
       ∙ ap (map (wire_of v)) (append_assoc front (class ∷ []) rest))
 
-  module _ (order : List ℕ) (ordered : IsWriteOrder (wiring_of fabric) order) where
+  module _ (order : List ℕ) (ordered : IsWriteOrder (clocked_wiring fabric) order) where
     -- the wires of the module
     wires-are : fold (wire_step (inputs ++ registers) words) [] (items_of fabric order) ≡ map (wire_of v) order
     wires-are =
         fold-section 5 (wire_step (inputs ++ registers) words) (wire-skips (inputs ++ registers) words) [] (items_of fabric order)
         ∙ (ap (fold (wire_step (inputs ++ registers) words) []) (wires-section fabric order)
-        ∙ wires-from (order-continues (wiring_of fabric) order ordered) [] (All-nil (λ c. c < 2 ^ 64)) (λ k listed. absurd (has-none k listed)))
+        ∙ wires-from (order-continues (clocked_wiring fabric) order ordered) [] (All-nil (λ c. c < 2 ^ 64)) (λ k listed. absurd (has-none k listed)))
 
     -- each class in the order has a driver
-    order-driven : {before rest : List ℕ} → Continues (wiring_of fabric) before rest → All (λ c. is_driven fabric c ≡ true) rest
+    order-driven : {before rest : List ℕ} → Continues (clocked_wiring fabric) before rest → All (λ c. is_driven fabric c ≡ true) rest
     order-driven (whole all) = All-nil (λ c. is_driven fabric c ≡ true)
     order-driven (next {node = class} {rest} least more) =
-        All-cons (λ c. is_driven fabric c ≡ true) class rest (sym (driven-is fabric class) ∙ least.ready.driven) (order-driven more)
+        All-cons (λ c. is_driven fabric c ≡ true) class rest (sym (clocked-driven fabric class) ∙ least.ready.driven) (order-driven more)
 
     all-driven : All (λ c. is_driven fabric c ≡ true) order
-    all-driven = order-driven (order-continues (wiring_of fabric) order ordered)
+    all-driven = order-driven (order-continues (clocked_wiring fabric) order ordered)
 
     all-small : All (λ c. c < 2 ^ 64) order
     all-small = All-weaker (λ c. is_driven fabric c ≡ true) (λ c. c < 2 ^ 64) class-small order all-driven
 
     listed-all : (class : ℕ) → is_driven fabric class ≡ true → (has order class ≡ true) × (class < 2 ^ 64)
     listed-all class driven = (
-      ordered.whole class (subst (λ n. class < n) (sym (count-is fabric)) (driven-below fabric within class driven)) (driven-is fabric class ∙ driven),
+      ordered.whole class (subst (λ n. class < n) (sym (clocked-count fabric)) (driven-below fabric within class driven)) (clocked-driven fabric class ∙ driven),
       class-small class driven,
     )
 
@@ -380,7 +382,7 @@ module _ (fabric : Fabric) (within : IsWithin fabric) (writable : IsWritable fab
 
 -- ---- the whole entry
 
-module _ (fabric : Fabric) (within : IsWithin fabric) (writable : IsWritable fabric) (order : List ℕ) (ordered : IsWriteOrder (wiring_of fabric) order) (name : List ℕ)
+module _ (fabric : Fabric) (within : IsWithin fabric) (writable : IsWritable fabric) (order : List ℕ) (ordered : IsWriteOrder (clocked_wiring fabric) order) (name : List ℕ)
     (entry : Entry) (is : IsEntry fabric entry) (next : State) (settles : entry.state ≡ settled_state fabric (bit_in entry.v) next)
     (inputs registers : List (List ℕ × Bool)) (words : List (List ℕ × ℕ)) (holding : Holding fabric next entry.pins inputs registers words) where
   before : IsConsistent fabric next entry.pins entry.v

@@ -17,7 +17,7 @@ use Rattle.vlog_module.specs.declared.atoms.Atom.{Atom}
 use Rattle.vlog_module.specs.declared.item.Item.{Item}
 use Rattle.vlog_module.specs.declared.item.Item.TheVariants.{AsyncReset, Read, ReadNarrow, Write, WriteNarrow}
 use Rattle.vlog_module.specs.Uses.{Use, atom_uses, atoms_uses, lut_uses, uses_of}
-use Rattle.vlog_module.specs.Uses.Use.{Reads, ReadsBit, Takes, Assigns, AssignsAsync}
+use Rattle.vlog_module.specs.Uses.Use.{Reads, ReadsBit, Clocks, Takes, Assigns, AssignsAsync}
 use Rattle.vlog_module.specs.WellFormed.{section_of, declared_by, wire_readings, assigned_by, started_by, sort_in, is_sort, is_read_unless, Scope, IsAllowed}
 use Rattle.fabric_model.specs.declared.register.Register.{Register}
 use Rattle.fabric_model.specs.declared.ram.RamCell.{RamCell}
@@ -29,7 +29,7 @@ use Rattle.fabric_module.specs.Written.{is_falling, flip_item, at_once_item, ite
 use Rattle.fabric_module.proofs.Narrow.{pattern-small}
 use Rattle.fabric_module.proofs.Sections.{read-section, write-section}
 use Rattle.fabric_module.proofs.Beginning.{IsPorted}
-use Rattle.fabric_module.proofs.Used.{IsFine, fine-allowed, IsThere, Knows, knows-allows, atom-fine, signal-fine, atoms-fine, ports-fine, table-fine}
+use Rattle.fabric_module.proofs.Used.{IsFine, fine-allowed, IsThere, IsClockThere, Knows, knows-allows, atom-fine, signal-fine, atoms-fine, ports-fine, table-fine}
 use Rattle.fabric_module.proofs.Assigned.{AssignsOne, unassigned}
 use Rattle.fabric_module.proofs.Wired.{atom-none, atoms-none}
 
@@ -63,18 +63,18 @@ items_by-way fabric register (Some wire) None = refl
 items_by-way fabric register None (Some clock) = refl
 items_by-way fabric register None None = refl
 
--- what a way needs: its clock is an input, its wire is there, and wires read the register but for the time in which that is 1
+-- what a way needs: its clock is an input or a register, its wire is there, and wires read the register but for the time in which that is 1
 abbrev pub IsWay : Scope → Register → Way → Type 0
-IsWay scope register (waits clock) = IsThere scope clock sort.Input
+IsWay scope register (waits clock) = IsClockThere scope clock
 IsWay scope register (acts wire clock) =
-    IsThere scope clock sort.Input × IsThere scope wire sort.Wire × (is_read_unless scope.read wire register.«set» (register_name register) ≡ true)
+    IsClockThere scope clock × IsThere scope wire sort.Wire × (is_read_unless scope.read wire register.«set» (register_name register) ≡ true)
 IsWay scope register (sets wire) = IsThere scope wire sort.Wire × (is_read_unless scope.read wire register.«set» (register_name register) ≡ true)
 
 -- ---- what may come
 
 module _ (fabric : Fabric) (scope : Scope) (knows : Knows fabric scope (is_driven fabric)) where
-  takes-fine : (name : List ℕ) → IsThere scope name sort.Input → IsFine scope (Takes sort.Input name)
-  takes-fine name there = record { named = there.named; in_range = tt; known = rw (there.declared) refl; first = refl }
+  clock-fine : (name : List ℕ) → IsClockThere scope name → IsFine scope (Clocks name)
+  clock-fine name there = record { named = there.named; in_range = tt; known = there.known; first = refl }
 
   takes-memory : (name : List ℕ) → IsThere scope name sort.Memory → IsFine scope (Takes sort.Memory name)
   takes-memory name there = record { named = there.named; in_range = tt; known = rw (there.declared) refl; first = refl }
@@ -111,12 +111,12 @@ module _ (fabric : Fabric) (scope : Scope) (knows : Knows fabric scope (is_drive
       first = unassigned scope.assigned (register_name register) away;
     }
 
-    flip-allowed : (clock : List ℕ) → IsThere scope clock sort.Input → IsAllowed scope (flip_item fabric register clock)
+    flip-allowed : (clock : List ℕ) → IsClockThere scope clock → IsAllowed scope (flip_item fabric register clock)
     flip-allowed clock of_clock =
         let enable = atom_uses (signal_atom fabric register.enable) in
         let reset = atom_uses (atom_or_0 fabric register.sr) in
         fine-allowed scope (flip_item fabric register clock) (few, refl) low
-        (All-cons (IsFine scope) (Takes sort.Input clock) ((enable ++ reset) ++ (Assigns sort.Register (register_name register) ∷ lut_uses (lut_of fabric register.table))) (takes-fine clock of_clock)
+        (All-cons (IsFine scope) (Clocks clock) ((enable ++ reset) ++ (Assigns sort.Register (register_name register) ∷ lut_uses (lut_of fabric register.table))) (clock-fine clock of_clock)
         (All-append (IsFine scope) (enable ++ reset) (Assigns sort.Register (register_name register) ∷ lut_uses (lut_of fabric register.table))
         (All-append (IsFine scope) enable reset (enable-fine) (input-fine false register.sr))
         (All-cons (IsFine scope) (Assigns sort.Register (register_name register)) (lut_uses (lut_of fabric register.table)) assigns-fine of_table)))
@@ -127,7 +127,7 @@ module _ (fabric : Fabric) (scope : Scope) (knows : Knows fabric scope (is_drive
         let assigns = AssignsAsync wire register.«set» (register_name register) in
         let rest = enable ++ lut_uses (lut_of fabric register.table) in
         fine-allowed scope (at_once_item fabric register wire clock) (few, refl) low
-        (All-cons (IsFine scope) (Takes sort.Input clock) (Takes sort.Wire wire ∷ assigns ∷ rest) (takes-fine clock is.0)
+        (All-cons (IsFine scope) (Clocks clock) (Takes sort.Wire wire ∷ assigns ∷ rest) (clock-fine clock is.0)
         (All-cons (IsFine scope) (Takes sort.Wire wire) (assigns ∷ rest) (takes-wire wire is.1)
         (All-cons (IsFine scope) assigns rest (is_async-fine wire is.2)
         (All-append (IsFine scope) enable (lut_uses (lut_of fabric register.table)) (enable-fine) of_table))))
@@ -177,7 +177,7 @@ module _ (fabric : Fabric) (scope : Scope) (knows : Knows fabric scope (is_drive
   -- ---- ports of RAMs
 
   -- a read port, in each mode
-  pub read-allowed : (ram : RamCell) (clock : List ℕ) → IsPorted ram → IsThere scope clock sort.Input → IsThere scope (read_name ram) sort.Word → IsThere scope (memory_name ram) sort.Memory
+  pub read-allowed : (ram : RamCell) (clock : List ℕ) → IsPorted ram → IsClockThere scope clock → IsThere scope (read_name ram) sort.Word → IsThere scope (memory_name ram) sort.Memory
       → scope.section ≤ 8 → All (λ n. bytes_eq n (read_name ram) ≡ false) scope.assigned → IsAllowed scope (read_item fabric ram clock)
   read-allowed ram clock ported of_clock there of_memory low away =
       let first = atom_uses (atom_or_1 fabric ram.rclke) in
@@ -195,18 +195,18 @@ module _ (fabric : Fabric) (scope : Scope) (knows : Knows fabric scope (is_drive
             rw here
             (fine-allowed scope
             (Read (is_falling fabric ram.rneg ram.rclk) clock (atom_or_1 fabric ram.rclke) (atom_or_0 fabric ram.re) (read_name ram) (memory_name ram) address) (eight-ports ram.raddr ported.read_address) low
-            (All-cons (IsFine scope) (Takes sort.Input clock) ((first ++ second) ++ rest) (takes-fine clock of_clock) fine))
+            (All-cons (IsFine scope) (Clocks clock) ((first ++ second) ++ rest) (clock-fine clock of_clock) fine))
         | inr narrow ↦
             rw narrow
             (fine-allowed scope
             (ReadNarrow (is_falling fabric ram.rneg ram.rclk) clock (atom_or_1 fabric ram.rclke) (atom_or_0 fabric ram.re) (read_name ram) (memory_name ram) address shift (pattern_of ram.read))
             (eight-ports ram.raddr ported.read_address, refl, pattern-small ram.read) low
-            (All-cons (IsFine scope) (Takes sort.Input clock) (((first ++ second) ++ rest) ++ atoms_uses shift) (takes-fine clock of_clock)
+            (All-cons (IsFine scope) (Clocks clock) (((first ++ second) ++ rest) ++ atoms_uses shift) (clock-fine clock of_clock)
             (All-append (IsFine scope) ((first ++ second) ++ rest) (atoms_uses shift) fine (shifts-fine ram.read ram.raddr))))
       ]
 
   -- a write port, in each mode
-  pub write-allowed : (ram : RamCell) (clock : List ℕ) → IsPorted ram → IsThere scope clock sort.Input → IsThere scope (memory_name ram) sort.Memory
+  pub write-allowed : (ram : RamCell) (clock : List ℕ) → IsPorted ram → IsClockThere scope clock → IsThere scope (memory_name ram) sort.Memory
       → scope.section ≤ 9 → All (λ n. bytes_eq n (memory_name ram) ≡ false) scope.assigned → IsAllowed scope (write_item fabric ram clock)
   write-allowed ram clock ported of_clock there low away =
       let first = atom_uses (atom_or_1 fabric ram.wclke) in
@@ -228,7 +228,7 @@ module _ (fabric : Fabric) (scope : Scope) (knows : Knows fabric scope (is_drive
             (fine-allowed scope
             (Write (is_falling fabric ram.wneg ram.wclk) clock (atom_or_1 fabric ram.wclke) (atom_or_0 fabric ram.we) (memory_name ram) address mask bits)
             (eight-ports ram.waddr ported.write_address, length-map ram.mask (atom_or_0 fabric) ∙ ported.mask, length-map ram.wdata (atom_or_0 fabric) ∙ ported.written) low
-            (All-cons (IsFine scope) (Takes sort.Input clock) ((front ++ atoms_uses mask) ++ atoms_uses bits) (takes-fine clock of_clock)
+            (All-cons (IsFine scope) (Clocks clock) ((front ++ atoms_uses mask) ++ atoms_uses bits) (clock-fine clock of_clock)
             (All-append (IsFine scope) (front ++ atoms_uses mask) (atoms_uses bits)
             (All-append (IsFine scope) front (atoms_uses mask) fine (list-fine ram.mask)) (list-fine ram.wdata))))
         | inr narrow ↦
@@ -236,7 +236,7 @@ module _ (fabric : Fabric) (scope : Scope) (knows : Knows fabric scope (is_drive
             (fine-allowed scope
             (WriteNarrow (is_falling fabric ram.wneg ram.wclk) clock (atom_or_1 fabric ram.wclke) (atom_or_0 fabric ram.we) (memory_name ram) address (pattern_of ram.write) shift data_bits)
             (eight-ports ram.waddr ported.write_address, pattern-small ram.write, refl, each_below-length 16 (λ j. atom_or_0 fabric (get_or ram.wdata (data_bit ram.write (j / share ram.write)) None))) low
-            (All-cons (IsFine scope) (Takes sort.Input clock) ((front ++ atoms_uses shift) ++ atoms_uses data_bits) (takes-fine clock of_clock)
+            (All-cons (IsFine scope) (Clocks clock) ((front ++ atoms_uses shift) ++ atoms_uses data_bits) (clock-fine clock of_clock)
             (All-append (IsFine scope) (front ++ atoms_uses shift) (atoms_uses data_bits)
             (All-append (IsFine scope) front (atoms_uses shift) fine (shifts-fine ram.write ram.waddr)) (data-fine ram.write ram.wdata))))
       ]
@@ -322,9 +322,9 @@ module _ (fabric : Fabric) where
 
   -- ports of RAMs use and read what is theirs, in each mode
   module _ {A : Type 0} (each : Use → List A) (of_whole : (name : List ℕ) → each (Reads name) ≡ []) (of_bit : (name : List ℕ) (k : ℕ) → each (ReadsBit name k) ≡ [])
-      (of_takes : (as_sort : Sort) (name : List ℕ) → each (Takes as_sort name) ≡ []) where
-    takes-then : (name : List ℕ) (uses : List Use) (rest : List A) → flat_map each uses ≡ rest → flat_map each (Takes sort.Input name ∷ uses) ≡ rest
-    takes-then name uses rest is = ap (λ list. list ++ flat_map each uses) (of_takes sort.Input name) ∙ is
+      (of_clock : (name : List ℕ) → each (Clocks name) ≡ []) (of_takes : (as_sort : Sort) (name : List ℕ) → each (Takes as_sort name) ≡ []) where
+    clock-then : (name : List ℕ) (uses : List Use) (rest : List A) → flat_map each uses ≡ rest → flat_map each (Clocks name ∷ uses) ≡ rest
+    clock-then name uses rest is = ap (λ list. list ++ flat_map each uses) (of_clock name) ∙ is
 
     read-uses : (ram : RamCell) (clock : List ℕ) → flat_map each (uses_of (read_item fabric ram clock)) ≡ each (Assigns sort.Word (read_name ram))
     read-uses ram clock =
@@ -335,10 +335,10 @@ module _ (fabric : Fabric) where
         let rest = (atom_uses first ++ atom_uses second) ++ (Assigns sort.Word (read_name ram) ∷ Takes sort.Memory (memory_name ram) ∷ atoms_uses address) in
         let plain = read-then each of_whole of_bit first second (Assigns sort.Word (read_name ram)) (Takes sort.Memory (memory_name ram)) address (of_takes sort.Memory (memory_name ram)) in
         elim (cases_Bool (ram.read == 0)) [
-          | inl here ↦ rw here (takes-then clock rest (each (Assigns sort.Word (read_name ram))) plain)
+          | inl here ↦ rw here (clock-then clock rest (each (Assigns sort.Word (read_name ram))) plain)
           | inr narrow ↦
               rw narrow
-              (takes-then clock (rest ++ atoms_uses shift) (each (Assigns sort.Word (read_name ram))) (joined-front each rest (atoms_uses shift) (atoms-none each of_whole of_bit shift) ∙ plain))
+              (clock-then clock (rest ++ atoms_uses shift) (each (Assigns sort.Word (read_name ram))) (joined-front each rest (atoms_uses shift) (atoms-none each of_whole of_bit shift) ∙ plain))
         ]
 
     write-uses : (ram : RamCell) (clock : List ℕ) → flat_map each (uses_of (write_item fabric ram clock)) ≡ each (Assigns sort.Memory (memory_name ram))
@@ -353,8 +353,8 @@ module _ (fabric : Fabric) where
         let data_bits = data_atoms fabric ram.write ram.wdata in
         let front = (atom_uses first ++ atom_uses second) ++ (used ∷ atoms_uses address) in
         elim (cases_Bool (ram.write == 0)) [
-          | inl here ↦ rw here (takes-then clock ((front ++ atoms_uses mask) ++ atoms_uses bits) (each used) (write-then each of_whole of_bit first second used address mask bits))
-          | inr narrow ↦ rw narrow (takes-then clock ((front ++ atoms_uses shift) ++ atoms_uses data_bits) (each used) (write-then each of_whole of_bit first second used address shift data_bits))
+          | inl here ↦ rw here (clock-then clock ((front ++ atoms_uses mask) ++ atoms_uses bits) (each used) (write-then each of_whole of_bit first second used address mask bits))
+          | inr narrow ↦ rw narrow (clock-then clock ((front ++ atoms_uses shift) ++ atoms_uses data_bits) (each used) (write-then each of_whole of_bit first second used address shift data_bits))
         ]
 
   read-still : (ram : RamCell) (clock : List ℕ) → wire_readings (read_item fabric ram clock) ≡ []
@@ -366,17 +366,17 @@ module _ (fabric : Fabric) where
   pub read-one : AssignsOne {X = RamCell × List ℕ} 8 (λ pair. read_name pair.0) (λ pair. read_item fabric pair.0 pair.1)
   read-one = record {
     section = λ pair. read-section fabric pair.0 pair.1;
-    declares = λ pair. read-uses declared_by (λ name. refl) (λ name k. refl) (λ as_sort name. refl) pair.0 pair.1;
+    declares = λ pair. read-uses declared_by (λ name. refl) (λ name k. refl) (λ name. refl) (λ as_sort name. refl) pair.0 pair.1;
     reads = λ pair. read-still pair.0 pair.1;
-    assigns = λ pair. read-uses assigned_by (λ name. refl) (λ name k. refl) (λ as_sort name. refl) pair.0 pair.1;
-    starts = λ pair. read-uses started_by (λ name. refl) (λ name k. refl) (λ as_sort name. refl) pair.0 pair.1;
+    assigns = λ pair. read-uses assigned_by (λ name. refl) (λ name k. refl) (λ name. refl) (λ as_sort name. refl) pair.0 pair.1;
+    starts = λ pair. read-uses started_by (λ name. refl) (λ name k. refl) (λ name. refl) (λ as_sort name. refl) pair.0 pair.1;
   }
 
   pub write-one : AssignsOne {X = RamCell × List ℕ} 9 (λ pair. memory_name pair.0) (λ pair. write_item fabric pair.0 pair.1)
   write-one = record {
     section = λ pair. write-section fabric pair.0 pair.1;
-    declares = λ pair. write-uses declared_by (λ name. refl) (λ name k. refl) (λ as_sort name. refl) pair.0 pair.1;
+    declares = λ pair. write-uses declared_by (λ name. refl) (λ name k. refl) (λ name. refl) (λ as_sort name. refl) pair.0 pair.1;
     reads = λ pair. write-still pair.0 pair.1;
-    assigns = λ pair. write-uses assigned_by (λ name. refl) (λ name k. refl) (λ as_sort name. refl) pair.0 pair.1;
-    starts = λ pair. write-uses started_by (λ name. refl) (λ name k. refl) (λ as_sort name. refl) pair.0 pair.1;
+    assigns = λ pair. write-uses assigned_by (λ name. refl) (λ name k. refl) (λ name. refl) (λ as_sort name. refl) pair.0 pair.1;
+    starts = λ pair. write-uses started_by (λ name. refl) (λ name k. refl) (λ name. refl) (λ as_sort name. refl) pair.0 pair.1;
   }

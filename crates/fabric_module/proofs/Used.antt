@@ -12,7 +12,7 @@ use Rattle.vlog_module.specs.declared.item.Item.{Item}
 use Rattle.vlog_module.specs.Names.{IsName}
 use Rattle.vlog_module.specs.Uses.{Use, used_name, atom_uses, atoms_uses, lut_uses, right_uses, uses_of}
 use Rattle.vlog_module.specs.Uses.Use.{Reads, ReadsBit, Takes, Chooses}
-use Rattle.vlog_module.specs.WellFormed.{section_of, Scope, is_known, is_first, IsInRange, IsShaped, IsAllowed}
+use Rattle.vlog_module.specs.WellFormed.{section_of, sort_in, is_clock, Scope, is_known, is_first, IsInRange, IsShaped, IsAllowed}
 use Rattle.fabric_model.specs.declared.signal.Signal.{Signal}
 use Rattle.fabric_model.specs.declared.signal.Signal.TheVariants as signal
 use Rattle.fabric_model.specs.declared.register.LutTable.{LutTable}
@@ -54,6 +54,18 @@ fine-allowed scope item shaped ordered fine = record {
 pub record IsThere (scope : Scope) (name : List ℕ) (as_sort : Sort) : Type 0 where
   pub named : IsName name
   pub declared : value_in scope.declared name ≡ Some as_sort
+
+-- a name that is a name, and that can be a clock
+pub record IsClockThere (scope : Scope) (name : List ℕ) : Type 0 where
+  pub named : IsName name
+  pub known : IsTrue (is_clock (sort_in scope.declared name))
+
+-- an input can be a clock, and so can a register of one bit
+pub input-clock : (scope : Scope) (name : List ℕ) → IsThere scope name sort.Input → IsClockThere scope name
+input-clock scope name there = record { named = there.named; known = rw (there.declared) refl }
+
+pub register-clock : (scope : Scope) (name : List ℕ) → IsThere scope name sort.Register → IsClockThere scope name
+register-clock scope name there = record { named = there.named; known = rw (there.declared) refl }
 
 -- what is declared: inputs and read registers by their places, registers, and the wires of some classes
 pub record Knows (fabric : Fabric) (scope : Scope) (wired : ℕ → Bool) : Type 0 where

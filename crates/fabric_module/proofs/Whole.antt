@@ -15,9 +15,10 @@ use Rattle.fabric_model.specs.Outputs.{outputs_of}
 use Rattle.fabric_model.proofs.Apart.{apart-numbered, All-every}
 use Rattle.fabric_model.specs.Drivers.{is_driven}
 use Rattle.graph_order.specs.Wiring.{has, IsWriteOrder}
-use Rattle.fabric_model.specs.Wiring.{wiring_of}
+use Rattle.fabric_model.specs.Wiring.{clocked_wiring}
 use Rattle.graph_order.proofs.OneOrder.{order-continues}
-use Rattle.fabric_model.proofs.OneValue.{IsWithin, driven-is, count-is, driven-below}
+use Rattle.fabric_model.proofs.OneValue.{IsWithin, driven-below}
+use Rattle.fabric_model.proofs.Clocking.{clocked-count, clocked-driven}
 use Rattle.fabric_model.proofs.Within.{All-numbered}
 use Rattle.fabric_module.specs.Names.{output_name, memory_name, wire_name}
 use Rattle.fabric_module.specs.Rights.{class_right}
@@ -45,19 +46,19 @@ pub record IsShapely (fabric : Fabric) : Type 0 where
   pub words : (place k : ℕ) → word_of (get_or (get_or fabric.start place []) k []) < 65536
 
 module _ (fabric : Fabric) (within : IsWithin fabric) (writable : IsWritable fabric) (sized : IsStarted fabric) (shapely : IsShapely fabric)
-    (order : List ℕ) (ordered : IsWriteOrder (wiring_of fabric) order) where
+    (order : List ℕ) (ordered : IsWriteOrder (clocked_wiring fabric) order) where
   -- ---- the wires after the state
 
   module _ (scope : Scope) (left : StateLeft fabric scope) (reads : scope.read ≡ []) where
     wires-after : Grows scope (map (class_wire fabric) order) × Declared scope (fold grown scope (map (class_wire fabric) order)) 5 (map (λ c. (wire_name c, sort.Wire)) order)
     wires-after =
-        wires-grow fabric within writable shapely.rights (order-continues (wiring_of fabric) order ordered) scope (omega (arith, left.section))
+        wires-grow fabric within writable shapely.rights (order-continues (clocked_wiring fabric) order ordered) scope (omega (arith, left.section))
         (state-knows fabric writable shapely.named scope left) (λ class driven fresh. state-no_wire fabric writable shapely.named scope left class)
 
     wire-after : (after : Scope) → Declared scope after 5 (map (λ c. (wire_name c, sort.Wire)) order) → (class : ℕ) → is_driven fabric class ≡ true → IsThere after (wire_name class) sort.Wire
     wire-after after more class driven =
         let below : class < fabric.nets = driven-below fabric within class driven in
-        let listed : has order class ≡ true = ordered.whole class (subst (λ n. class < n) (sym (count-is fabric)) below) (driven-is fabric class ∙ driven) in
+        let listed : has order class ≡ true = ordered.whole class (subst (λ n. class < n) (sym (clocked-count fabric)) below) (clocked-driven fabric class ∙ driven) in
         record {
           named = wire-named class (omega (arith, below, writable.few));
           declared = ap (λ list. value_in list (wire_name class)) more.declared_is

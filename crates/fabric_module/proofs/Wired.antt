@@ -21,19 +21,20 @@ use Rattle.fabric_model.specs.Fabric.{Fabric}
 use Rattle.fabric_model.specs.Joins.{class_of}
 use Rattle.fabric_model.specs.Drivers.{is_driven}
 use Rattle.graph_order.specs.Wiring.{has, IsReady}
-use Rattle.fabric_model.specs.Wiring.{wiring_of}
+use Rattle.fabric_model.specs.Wiring.{wiring_of, clocked_wiring}
 use Rattle.graph_order.proofs.OneOrder.{has-first, has-cases, has-other, Continues}
 use Rattle.graph_order.proofs.OneOrder.Continues.{whole, next}
+use Rattle.fabric_model.proofs.Clocking.{clocked-ready}
 use Rattle.fabric_model.proofs.OneValue.{IsWithin, first-driver, first-is, first-reads, driven-is, driven-below}
 use Rattle.fabric_model.proofs.Within.{All-single}
 use Rattle.fabric_module.specs.Names.{wire_name}
 use Rattle.fabric_module.specs.Rights.{right_by, class_right}
 use Rattle.fabric_module.specs.Written.{class_wire}
-use Rattle.fabric_module.proofs.Lists.{value_in-after}
+use Rattle.fabric_module.proofs.Lists.{value_in-none, value_in-after}
 use Rattle.fabric_module.proofs.Settled.{IsWritable, wire-one}
 use Rattle.fabric_module.proofs.Named.{wire-named}
 use Rattle.fabric_module.proofs.Grown.{grown, grown-section, grown-declared, grown-assigned, grown-started, Grows}
-use Rattle.fabric_module.proofs.Declared.{Declared, value_in-none}
+use Rattle.fabric_module.proofs.Declared.{Declared}
 use Rattle.fabric_module.proofs.Used.{IsFine, fine-allowed, IsThere, Knows, there-more, knows-allows, right-fine}
 
 -- ---- reading declares and assigns nothing
@@ -142,17 +143,18 @@ module _ (fabric : Fabric) (within : IsWithin fabric) (writable : IsWritable fab
       ]
 
   -- all wires, in their order
-  pub wires-grow : {before order : List ℕ} → Continues (wiring_of fabric) before order → (scope : Scope) → scope.section ≤ 5 → Knows fabric scope (has before)
+  pub wires-grow : {before order : List ℕ} → Continues (clocked_wiring fabric) before order → (scope : Scope) → scope.section ≤ 5 → Knows fabric scope (has before)
       → ((class : ℕ) → is_driven fabric class ≡ true → has before class ≡ false → Absent scope class)
       → Grows scope (map (class_wire fabric) order) × Declared scope (fold grown scope (map (class_wire fabric) order)) 5 (map (λ c. (wire_name c, sort.Wire)) order)
   wires-grow (whole all) scope low knows absent = (tt, record { section = low; declared_is = sym (append-nil scope.declared); assigned_is = refl; started_is = refl })
   wires-grow {before} (next {node = class} {rest} least more) scope low knows absent =
-      let of_class : is_driven fabric class ≡ true = sym (driven-is fabric class) ∙ least.ready.driven in
-      let away = absent class of_class least.ready.unlisted in
-      let first = wire-declared before class least.ready scope low knows away in
-      let following = wires-grow more (grown scope (class_wire fabric class)) first.section (knows-more before class least.ready scope low knows away) (λ other drives fresh.
-      absent-more before class least.ready scope low knows away other drives fresh (absent other drives (fresh-after class before other fresh))) in (
-        (wire-allowed before class least.ready scope low knows away, following.0),
+      let ready = clocked-ready fabric (has before) class least.ready in
+      let of_class : is_driven fabric class ≡ true = sym (driven-is fabric class) ∙ ready.driven in
+      let away = absent class of_class ready.unlisted in
+      let first = wire-declared before class ready scope low knows away in
+      let following = wires-grow more (grown scope (class_wire fabric class)) first.section (knows-more before class ready scope low knows away) (λ other drives fresh.
+      absent-more before class ready scope low knows away other drives fresh (absent other drives (fresh-after class before other fresh))) in (
+        (wire-allowed before class ready scope low knows away, following.0),
         record {
           section = following.1.section;
           declared_is = following.1.declared_is ∙ (ap (λ list. list ++ map (λ c. (wire_name c, sort.Wire)) rest) first.declared_is ∙ append_assoc scope.declared ((wire_name class, sort.Wire) ∷ []) (map (λ c. (wire_name c, sort.Wire)) rest));

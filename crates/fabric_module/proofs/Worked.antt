@@ -85,6 +85,7 @@ inverting = record {
   plls = [];
   globals = [];
   lut_inputs = read.All;
+  register_clocks = false;
   lcs = inverter ∷ [];
   registers = [];
   sets = [];
@@ -180,6 +181,34 @@ undriven_items : register_items resetting (register_of read.All (record setting 
     (record { word = 21845; ins = Whole (codes "n_2") ∷ Bit false ∷ Bit false ∷ Bit false ∷ [] }) ∷ []
 unfolding outputs_of digits any_below least_below gathered_below word_of register_of numbered_from is_joined class_of drives_of drivers_of is_driven turn_at pass_of is_at_open end_within clock_end two_numbers three_numbers pad_name register_name read_name memory_name wire_name input_atom right_of class_right clock_name is_falling items_of module_of
 undriven_items = refl
+
+-- ---- a toggle whose clock is the first one, by a buffer or by an inverter
+
+abbrev divider : LogicCell
+divider = record toggle { x = 2; ins = Some 1 ∷ None ∷ None ∷ None ∷ []; out = None; clk = Some 3 }
+
+abbrev turner : LogicCell
+turner = record inverter { x = 3; ins = Some 2 ∷ None ∷ None ∷ None ∷ []; out = Some 4 }
+
+abbrev dividing : Fabric
+dividing = record inverting {
+  nets = 5;
+  register_clocks = true;
+  lcs = toggle ∷ divider ∷ turner ∷ [];
+  registers = register_of read.All toggle ∷ register_of read.All divider ∷ [];
+}
+
+divider_items : register_items dividing (register_of read.All divider) ≡
+    FlipFlop true (codes "ff_1_1_0") (Bit true) (Bit false) false (codes "ff_2_1_0")
+    (record { word = 21845; ins = Whole (codes "n_1") ∷ Bit false ∷ Bit false ∷ Bit false ∷ [] }) ∷ []
+unfolding outputs_of digits any_below least_below gathered_below word_of register_of numbered_from is_joined class_of drives_of drivers_of is_driven turn_at pass_of is_at_open end_within clock_end two_numbers three_numbers pad_name register_name read_name memory_name wire_name input_atom right_of class_right clock_name is_falling items_of module_of
+divider_items = refl
+
+turned_items : register_items dividing (register_of read.All (record divider { clk = Some 4 })) ≡
+    FlipFlop false (codes "ff_1_1_0") (Bit true) (Bit false) false (codes "ff_2_1_0")
+    (record { word = 21845; ins = Whole (codes "n_1") ∷ Bit false ∷ Bit false ∷ Bit false ∷ [] }) ∷ []
+unfolding outputs_of digits any_below least_below gathered_below word_of register_of numbered_from is_joined class_of drives_of drivers_of is_driven turn_at pass_of is_at_open end_within clock_end two_numbers three_numbers pad_name register_name read_name memory_name wire_name input_atom right_of class_right clock_name is_falling items_of module_of word_bits
+turned_items = refl
 
 -- ---- a RAM
 

@@ -16,25 +16,26 @@ use Rattle.fabric_model.specs.Fabric.{Fabric, numbered}
 use Rattle.fabric_model.specs.Outputs.{Output, outputs_of}
 use Rattle.fabric_model.specs.ClockLuts.{turned_bit}
 use Rattle.fabric_model.specs.Clocks.{ClockEnd, is_turned, clock_end}
-use Rattle.fabric_model.specs.Clocks.ClockEnd.{at_pin, still, logic}
+use Rattle.fabric_model.specs.Clocks.ClockEnd.{at_pin, at_register, still, logic}
 use Rattle.fabric_module.specs.Names.{port_name, enable_name, input_port_name, output_name, register_name, read_name, memory_name, wire_name}
-use Rattle.fabric_module.specs.Rights.{atom_or_0, atom_or_1, port_atoms, lut_of, input_name, setting_wire, pattern_of, shift_atoms, data_atoms, signal_atom, class_right}
+use Rattle.fabric_module.specs.Rights.{atom_or_0, atom_or_1, port_atoms, lut_of, input_name, setting_wire, pattern_of, shift_atoms, data_atoms, signal_atom, register_at, class_right}
 
 -- ---- clocks
 
--- the input port at which a clock chain ends, if it ends at one
+-- the input port or the register at which a clock chain ends, if it ends at one
 abbrev pub end_name : Fabric → ClockEnd → Option (List ℕ)
 end_name fabric (at_pin place turned) = Some (input_name fabric place)
+end_name fabric (at_register class place turned) = Some (register_at fabric place)
 end_name fabric (still bit) = None
 end_name fabric logic = None
 
--- the port at which the clock chain of a clock net ends, if it ends at a pin
+-- the input port or the register at which the clock chain of a clock net ends, if it ends at one
 unfoldable pub clock_name : Fabric → Option ℕ → Option (List ℕ)
 clock_name fabric None = None
 clock_name fabric (Some net) = end_name fabric (clock_end fabric net)
 
--- whether the item of a user is written for falling edges of the port: if either the user takes its value at falling edges of its clock net,
--- or the clock chain is turned, but not if both hold
+-- whether the item of a user is written for falling edges of the port or the register: if either the user takes its value at falling edges
+-- of its clock net, or the clock chain is turned, but not if both hold
 unfoldable pub is_falling : Fabric → Bool → Option ℕ → Bool
 is_falling fabric inverted None = inverted
 is_falling fabric inverted (Some net) = turned_bit (is_turned (clock_end fabric net)) inverted

@@ -6,6 +6,7 @@ ghost use Rattle.ice_image.specs.Either.{configuration_of};
 ghost use Rattle.chipdb_reader.specs.Kept.{database_in};
 ghost use Rattle.fabric_model.specs.Links.{AreLinks};
 
+mod clocks;
 mod counts;
 mod databases;
 mod designs;
@@ -43,15 +44,16 @@ struct Case<'a> {
     more: &'a [SampleBit],
     /// Whether the pad of global network 2 drives it.
     pad: bool,
-    /// Which inputs LUTs read, and whether pins of every kind are taken.
+    /// Which inputs LUTs read, whether pins of every kind are taken, and whether registers may be clocks.
     options: FabricOptions,
     gives: Gives<'a>,
 }
 
-/// No options: LUTs read all of their inputs, and not pins of every kind are taken.
+/// No options: LUTs read all of their inputs, not pins of every kind are taken, and no register is a clock.
 const NO_OPTIONS: FabricOptions = FabricOptions {
     lut_inputs: LutInputs::All,
     all_pins: false,
+    register_clocks: false,
 };
 
 impl<'a> Case<'a> {
@@ -89,8 +91,16 @@ enum Gives<'a> {
     Calls,
     /// A design whose module has this text.
     Module(&'a str),
-    /// No design, since the class of joined nets of this net is on this combinational cycle.
+    /// A design whose classes of joined nets are written in this order. The register of the class is the clock of the net.
+    Clocked {
+        order: &'a [u32],
+        net: u32,
+        class: u32,
+    },
+    /// No design, since the class of joined nets of this net is on this cycle.
     Loop(u32, &'a [u32]),
+    /// No design, since the clock on this net comes from logic.
+    Clock(u32),
     /// No design, since the PLLs aren't taken at this tile.
     Pll(u32, u32),
     /// No design, since this pin isn't taken, which has this type.
@@ -168,6 +178,15 @@ fn are_rams(rams: &[RamCell], wneg: bool, rneg: bool) -> bool {
     }
 }
 
+/// Whether the register of a class of joined nets is the clock of a net.
+fn is_clocked(design: &Design, net: u32, class: u32) -> bool {
+    (net as usize) < design.net_count()
+        && design.clock_class(net) == Some(class)
+        && design.clock(net) == None
+        && design.clock_input(net) == None
+        && !design.turned(net)
+}
+
 fn has_parts(alloc: Global, design: &Design, gives: Gives) -> bool {
     match gives {
         Gives::Pins(pins, globals) => design.pins() == pins && design.globals() == globals,
@@ -175,6 +194,9 @@ fn has_parts(alloc: Global, design: &Design, gives: Gives) -> bool {
         Gives::Outputs(outputs) => design.outputs() == outputs,
         Gives::Registers(registers, order) => {
             design.registers() == registers && design.order() == order
+        }
+        Gives::Clocked { order, net, class } => {
+            design.order() == order && is_clocked(design, net, class)
         }
         Gives::Module(text) => is_printed(alloc, design, text) == Ok(true),
         _ => false,
@@ -185,6 +207,14 @@ fn has_parts(alloc: Global, design: &Design, gives: Gives) -> bool {
 fn is_cycle(fault: &FabricFault, net: u32, nets: &[u32]) -> bool {
     match fault {
         FabricFault::Loop { net: found, cycle } => *found == net && cycle.nets() == nets,
+        _ => false,
+    }
+}
+
+/// Whether a fault is that of a clock on this net.
+fn is_clock(fault: &FabricFault, net: u32) -> bool {
+    match fault {
+        FabricFault::Clock { net: found, .. } => *found == net,
         _ => false,
     }
 }
@@ -210,6 +240,7 @@ fn is_pin_mode(fault: &FabricFault, pin: PinXy, type_bits: u8) -> bool {
 fn is_refused(fault: &FabricFault, gives: Gives) -> bool {
     match gives {
         Gives::Loop(net, nets) => is_cycle(fault, net, nets),
+        Gives::Clock(net) => is_clock(fault, net),
         Gives::Pll(x, y) => is_pll(fault, (x, y)),
         Gives::PinMode(pin, pintype) => is_pin_mode(fault, pin, pintype),
         _ => false,
@@ -227,6 +258,7 @@ fn design_by(
         FabricOptions {
             lut_inputs: LutInputs::All,
             all_pins: false,
+            register_clocks: false,
         } => design(alloc, db, image),
         _ => design_with(alloc, db, image, options),
     }
@@ -283,6 +315,7 @@ fn has_clock(design: &Design, net: u32, clock: PinXy) -> bool {
     (net as usize) < design.net_count()
         && design.class_of(net) == net
         && design.clock(net) == Some(clock)
+        && design.clock_class(net) == None
         && !design.turned(net)
         && design.clock_end(net)
             == (ClockEnd::Pin {

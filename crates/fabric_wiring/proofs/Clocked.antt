@@ -17,7 +17,7 @@ use Rattle.fabric_model.specs.Fabric.{Fabric}
 use Rattle.fabric_model.specs.Tiles.{over_grid, item_if, first_of}
 use Rattle.fabric_model.specs.Within.{IsNetIn}
 use Rattle.fabric_model.specs.Clocks.{ClockEnd, User, register_user, ram_users, users_at, users_of, clock_end}
-use Rattle.fabric_model.specs.Clocks.ClockEnd.{at_pin, still, logic}
+use Rattle.fabric_model.specs.Clocks.ClockEnd.{at_pin, at_register, still, logic}
 use Rattle.fabric_model.specs.Faults.{Fault, end_fault, user_fault, clock_faults}
 use Rattle.fabric_model.specs.Faults.Fault.{clock}
 use Rattle.fabric_model.specs.Links.{LinkSet, class_in}
@@ -82,6 +82,8 @@ module _ (x y : ℕ) where
   unfolding fault
   tile-end input net (at_pin place turned) true is = refl
   tile-end input net (at_pin place turned) false is = refl
+  tile-end input net (at_register class place turned) true is = refl
+  tile-end input net (at_register class place turned) false is = refl
   tile-end input net (still bit) true is = refl
   tile-end input net (still bit) false is = refl
   tile-end input net logic true is = rw is refl

@@ -84,8 +84,11 @@ module _ (fabric : Fabric) (parts : Parts) (are_parts : ArePartsOf fabric parts)
 
   -- what a chain does at a class, by the kept driver
   pub turn-kept : (class : ℕ) → class < fabric.nets
-      → turn_at fabric class ≡ turn_of (is_connected_in parts.links drivers) (map drive_of (option_to_list (driver_in drivers class)))
+      → turn_at fabric class
+      ≡ turn_of (is_connected_in parts.links drivers) parts.options.register_clocks class (map drive_of (option_to_list (driver_in drivers class)))
   unfolding turn_at
   turn-kept class within =
-      ap (turn_of (is_connected fabric)) (are.each class within)
-      ∙ ap (λ connected. turn_of connected (map drive_of (option_to_list (driver_in drivers class)))) (sym connected-kept)
+      let drives = map drive_of (option_to_list (driver_in drivers class)) in
+      ap (turn_of (is_connected fabric) fabric.register_clocks class) (are.each class within)
+      ∙ ap (λ connected. turn_of connected fabric.register_clocks class drives) (sym connected-kept)
+      ∙ ap (λ taken. turn_of (is_connected_in parts.links drivers) taken class drives) (sym are_parts.register_clocks)

@@ -6,6 +6,12 @@ pub mod Same
 pub mod Drives
 -- the ends of chains, found along the write order
 pub mod Following
+-- what lists have that are made of others
+pub mod Members
+-- a class at which a chain ends as at a register has a driver
+pub mod RegisterEnds
+-- the clock nets of what values are computed from
+pub mod ClockNets
 -- rows and marks of the classes of a fabric
 pub mod ReadRows
 -- what the first tile of a grid gives that gives something

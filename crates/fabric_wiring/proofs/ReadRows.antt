@@ -1,5 +1,5 @@
 -- Rows and marks of the classes of a fabric.
-use Rattle.std.proofs.Common.{◌≡◌, ℕ, ◌+◌, ◌<◌, ◌≤◌, true, false, List, [], ◌∷◌, ◌++◌, length, take, map, get_or, refl, sym, ◌∙◌, ap, subst, inl, inr, arith}
+use Rattle.std.proofs.Common.{◌≡◌, ℕ, ◌+◌, ◌<◌, ◌≤◌, true, false, List, [], ◌∷◌, ◌++◌, length, take, map, get_or, refl, sym, ◌∙◌, ap, ap₂, subst, inl, inr, arith}
 use Rattle.std.proofs.Math.Seq.{get_or-append_seam}
 use Rattle.std.specs.Prelude.{flat_map, option_to_list, Option, Some, None, is_some, IfSome}
 use Rattle.std.specs.declared.vec.Vec.{Vec}
@@ -11,13 +11,14 @@ use Rattle.fabric_model.specs.declared.signal.Signal.{Signal}
 use Rattle.fabric_model.specs.Signals.{signal_nets}
 use Rattle.fabric_model.specs.Joins.{class_of}
 use Rattle.fabric_model.specs.Fabric.{Fabric}
-use Rattle.fabric_model.specs.Drivers.{Drive, drivers_of, is_driven, nets_read}
+use Rattle.fabric_model.specs.Drivers.{Drive, drives_of, drivers_of, is_driven, nets_read}
 use Rattle.fabric_model.specs.Drivers.Rule.{input, majority_of}
-use Rattle.graph_order.specs.Wiring.{depends, has}
-use Rattle.fabric_model.specs.Wiring.{wiring_of as wiring_of_fabric}
+use Rattle.graph_order.specs.Wiring.{Wiring, depends, has}
+use Rattle.fabric_model.specs.Wiring.{wiring_of as wiring_of_fabric, classes_read, classes_clocking, clocks_of_value, clocked_wiring}
+use Rattle.fabric_model.proofs.Facts.{has-either}
 use Rattle.fabric_model.proofs.Joins.{class_of-le}
-use Rattle.graph_order.proofs.OneOrder.{has-none, has-first, has-after, has-cases}
-use Rattle.fabric_model.proofs.OneValue.{IsWithin, depends-driven, driven-below, none-driven, driven-is, count-is}
+use Rattle.graph_order.proofs.OneOrder.{has-none}
+use Rattle.fabric_model.proofs.OneValue.{IsWithin, driven-below, none-driven}
 use Rattle.graph_order.specs.Rows.{lists_of, row_at, is_marked, wiring_of}
 use Rattle.graph_order.proofs.Rows.{lists-length}
 use Rattle.fabric_model.specs.Links.{LinkSet, class_in}
@@ -28,9 +29,13 @@ use Rattle.fabric_wiring.specs.Parts.{ArePartsOf}
 use Rattle.fabric_wiring.specs.DriverLists.{DriverSet, driver_in, AreDriversOf}
 use Rattle.fabric_wiring.specs.declared.wires_type.Wires.{Wires}
 use Rattle.fabric_wiring.specs.Reading.{row_in}
+use Rattle.fabric_wiring.specs.Clocking.{clock_classes, clocking_row}
 use Rattle.graph_order.specs.Alike.{AreAlike}
 use Rattle.fabric_wiring.specs.Wires.{AreWiresOf}
-use Rattle.fabric_wiring.proofs.Drives.{driven-some, driven-none, first-within, kept-within}
+use Rattle.fabric_wiring.proofs.Drives.{driven-some, driven-none, kept-within}
+use Rattle.fabric_wiring.proofs.Members.{has-flat_map, has-changed, filter-there}
+use Rattle.fabric_wiring.proofs.RegisterEnds.{clock-driven}
+use Rattle.fabric_wiring.proofs.ClockNets.{clocking-found}
 
 -- what is known of a list's items, with one more
 pub known-more : {A : Type 0} (d : A) (list : List A) (item : A) (given : ℕ → A) → ((k : ℕ) → k < length list → get_or list k d ≡ given k)
@@ -68,50 +73,41 @@ pub read-majority : (a b c : Option ℕ) → option_to_list a ++ (option_to_list
 unfolding nets_read
 read-majority a b c = ap (λ l. option_to_list a ++ (option_to_list b ++ l)) (append-nil (option_to_list c))
 
--- ---- the wiring
+-- ---- wirings
 
--- a number in a changed list comes from one in the list
-has-changed : (change : ℕ → ℕ) (list : List ℕ) (n : ℕ) → has (map change list) n ≡ true → (m : ℕ) × (has list m ≡ true) × (change m ≡ n)
-has-changed change [] n found = absurd (has-none n found)
-has-changed change (first ∷ rest) n found =
-    elim (has-cases (change first) (map change rest) n found) [
-      | inl here ↦ (first, has-first first rest, here)
-      | inr after ↦ let more = has-changed change rest n after in (more.0, has-after first rest more.0 more.1, more.2)
-    ]
+-- a wiring of the classes of a fabric: those with a driver are driven, and only these read any, each of which is one of them
+pub record IsOfClasses (fabric : Fabric) (wiring : Wiring) : Type 0 where
+  pub count : wiring.count ≡ fabric.nets
+  pub driven : (class : ℕ) → wiring.driven class ≡ is_driven fabric class
+  pub none : (class : ℕ) → is_driven fabric class ≡ false → wiring.reads class ≡ []
+  pub below : (class other : ℕ) → depends wiring class other ≡ true → other < fabric.nets
 
 module _ (fabric : Fabric) where
-  -- what a class reads, by its drivers
+  -- what a class reads without a clock, by its drivers
   reads-drivers : (class : ℕ) (drives : List Drive) → drivers_of fabric class ≡ drives
-      → (wiring_of_fabric fabric).reads class ≡ flat_map (λ drive. map (class_of fabric.joins) (nets_read drive.rule)) drives
-  unfolding wiring_of_fabric
+      → classes_read fabric class ≡ flat_map (λ drive. map (class_of fabric.joins) (nets_read drive.rule)) drives
   reads-drivers class drives is = ap (flat_map (λ drive. map (class_of fabric.joins) (nets_read drive.rule))) is
-
-  reads-none : (class : ℕ) → is_driven fabric class ≡ false → (wiring_of_fabric fabric).reads class ≡ []
-  reads-none class away = reads-drivers class [] (none-driven fabric class away)
 
   -- by its kept driver
   row-kept : (links : LinkSet) → ((net : ℕ) → class_in links net ≡ class_of fabric.joins net) → (class : ℕ) (drive : Option KeptDrive)
-      → drivers_of fabric class ≡ map drive_of (option_to_list drive) → row_in links drive ≡ (wiring_of_fabric fabric).reads class
+      → drivers_of fabric class ≡ map drive_of (option_to_list drive) → row_in links drive ≡ classes_read fabric class
   row-kept links same class None is = sym (reads-drivers class [] is)
   row-kept links same class (Some drive) is =
       map-every (class_in links) (class_of fabric.joins) same (nets_read (drive_of drive).rule)
       ∙ sym (append-nil (map (class_of fabric.joins) (nets_read (drive_of drive).rule)))
       ∙ sym (reads-drivers class (drive_of drive ∷ []) is)
 
+  -- the registers that are clocks of what it is computed from, by its kept driver
+  clocking-kept : (class : ℕ) (drive : Option KeptDrive) → drivers_of fabric class ≡ map drive_of (option_to_list drive)
+      → clocking_row fabric drive ≡ classes_clocking fabric class
+  clocking-kept class None is = ap (flat_map (λ (d : Drive). clock_classes fabric (clocks_of_value fabric d.rule))) (sym is)
+  clocking-kept class (Some drive) is =
+      sym (append-nil (clock_classes fabric (clocks_of_value fabric (drive_of drive).rule)))
+      ∙ ap (flat_map (λ (d : Drive). clock_classes fabric (clocks_of_value fabric d.rule))) (sym is)
+
   mark-kept : (class : ℕ) (drive : Option KeptDrive) → drivers_of fabric class ≡ map drive_of (option_to_list drive) → is_some drive ≡ is_driven fabric class
   mark-kept class None is = sym (driven-none fabric class is)
   mark-kept class (Some drive) is = sym (driven-some fabric class (drive_of drive) [] is)
-
-  -- a class depends on classes of the fabric
-  depends-by : IsWithin fabric → (class other : ℕ) (drive : Option KeptDrive) → drivers_of fabric class ≡ map drive_of (option_to_list drive)
-      → depends (wiring_of_fabric fabric) class other ≡ true → other < fabric.nets
-  depends-by within class other None is reads = absurd (has-none other (ap (λ l. has l other) (sym (reads-drivers class [] is)) ∙ reads))
-  depends-by within class other (Some drive) is reads =
-      let list = map (class_of fabric.joins) (nets_read (drive_of drive).rule) in
-      let row : has list other ≡ true = ap (λ l. has l other) (sym (reads-drivers class (drive_of drive ∷ []) is ∙ append-nil list)) ∙ reads in
-      let found = has-changed (class_of fabric.joins) (nets_read (drive_of drive).rule) other row in
-      let less = first-within fabric class within (drive_of drive) [] is found.0 found.1 in
-      omega (arith, less, class_of-le fabric.joins found.0, found.2)
 
   -- the nets that the kept drivers read are those of the links
   pub reads-links : (within : IsWithin fabric) (parts : Parts) → ArePartsOf fabric parts → (drivers : DriverSet) → AreDriversOf fabric drivers → (class : ℕ) → class < length drivers.places
@@ -121,10 +117,64 @@ module _ (fabric : Fabric) where
       subst (λ n. IfSome (driver_in drivers class) (λ drive. (net : ℕ) → has (nets_read (drive_of drive).rule) net ≡ true → net < n)) (sym of_parts.nets)
       (kept-within fabric class within (driver_in drivers class) (of_drivers.each class below))
 
-  module _ (within : IsWithin fabric) (parts : Parts) (of_parts : ArePartsOf fabric parts) (drivers : DriverSet) (of_drivers : AreDriversOf fabric drivers)
+  -- ---- the two wirings
+
+  -- a class reads classes of the fabric
+  reads-below : IsWithin fabric → (class other : ℕ) → has (classes_read fabric class) other ≡ true → other < fabric.nets
+  unfolding drivers_of
+  reads-below within class other reads =
+      let drive = has-flat_map (λ (d : Drive). map (class_of fabric.joins) (nets_read d.rule)) (drivers_of fabric class) other reads in
+      let net = has-changed (class_of fabric.joins) (nets_read drive.0.rule) other drive.2 in
+      let less = within.reads drive.0 (filter-there _ (drives_of fabric) drive.0 drive.1) net.0 net.1 in
+      omega (arith, less, class_of-le fabric.joins net.0, net.2)
+
+  -- and so do the registers that are clocks
+  clocking-below : IsWithin fabric → (class other : ℕ) → has (classes_clocking fabric class) other ≡ true → other < fabric.nets
+  clocking-below within class other reads =
+      let clock = clocking-found fabric within.closed class other reads in
+      driven-below fabric within other (clock-driven fabric within clock.0 other clock.2)
+
+  pub logic-classes : IsWithin fabric → IsOfClasses fabric (wiring_of_fabric fabric)
+  unfolding wiring_of_fabric
+  logic-classes within = record {
+    count = refl;
+    driven = λ class. refl;
+    none = λ class away. reads-drivers class [] (none-driven fabric class away);
+    below = λ class other reads. reads-below within class other reads;
+  }
+
+  pub clocked-classes : IsWithin fabric → IsOfClasses fabric (clocked_wiring fabric)
+  unfolding clocked_wiring
+  clocked-classes within = record {
+    count = refl;
+    driven = λ class. refl;
+    none = λ class away.
+        let none = none-driven fabric class away in
+        ap₂ (λ one two. one ++ two) (reads-drivers class [] none) (sym (clocking-kept class None none));
+    below = λ class other reads.
+        elim (has-either (classes_read fabric class) (classes_clocking fabric class) other reads) [
+          | inl logic ↦ reads-below within class other logic
+          | inr clocks ↦ clocking-below within class other clocks
+        ];
+  }
+
+  -- what the kept driver of a class reads is what the class reads in each
+  pub logic-row : (links : LinkSet) → ((net : ℕ) → class_in links net ≡ class_of fabric.joins net) → (class : ℕ) (drive : Option KeptDrive)
+      → drivers_of fabric class ≡ map drive_of (option_to_list drive) → row_in links drive ≡ (wiring_of_fabric fabric).reads class
+  unfolding wiring_of_fabric
+  logic-row links same class drive is = row-kept links same class drive is
+
+  pub clocked-row : (links : LinkSet) → ((net : ℕ) → class_in links net ≡ class_of fabric.joins net) → (class : ℕ) (drive : Option KeptDrive)
+      → drivers_of fabric class ≡ map drive_of (option_to_list drive) → row_in links drive ++ clocking_row fabric drive ≡ (clocked_wiring fabric).reads class
+  unfolding clocked_wiring
+  clocked-row links same class drive is = ap₂ (λ one two. one ++ two) (row-kept links same class drive is) (clocking-kept class drive is)
+
+  -- ---- marks and rows
+
+  module _ (within : IsWithin fabric) (wiring : Wiring) (of_classes : IsOfClasses fabric wiring) (drivers : DriverSet) (of_drivers : AreDriversOf fabric drivers)
       (wires : Wires) (marks : length wires.driven.items ≡ fabric.nets) (rows : length wires.reads.items ≡ fabric.nets)
       (marked : (class : ℕ) → class < fabric.nets → is_marked wires.driven.items class ≡ is_some (driver_in drivers class))
-      (read : (class : ℕ) → class < fabric.nets → row_at wires.reads.items class ≡ row_in parts.links (driver_in drivers class)) where
+      (read : (class : ℕ) → class < fabric.nets → row_at wires.reads.items class ≡ wiring.reads class) where
     away-past : (class : ℕ) → fabric.nets ≤ class → is_driven fabric class ≡ false
     away-past class past =
         elim (cases_Bool (is_driven fabric class)) [
@@ -138,31 +188,34 @@ module _ (fabric : Fabric) where
       | inr more ↦ get_or_past wires.driven.items class false (omega (arith, more, marks)) ∙ sym (away-past class more)
     ]
 
-    row-same : (class : ℕ) → row_at wires.reads.items class ≡ (wiring_of_fabric fabric).reads class
+    row-same : (class : ℕ) → row_at wires.reads.items class ≡ wiring.reads class
     row-same class = elim (cases_lt class fabric.nets) [
-      | inl less ↦ read class less ∙ row-kept parts.links of_parts.classes class (driver_in drivers class) (of_drivers.each class less)
+      | inl less ↦ read class less
       | inr more ↦
           get_or_past (lists_of wires.reads.items) class [] (omega (arith, more, rows, lists-length wires.reads.items))
-          ∙ sym (reads-none class (away-past class more))
+          ∙ sym (of_classes.none class (away-past class more))
     ]
 
-    depends-within : (class other : ℕ) → depends (wiring_of_fabric fabric) class other ≡ true → other < fabric.nets
-    depends-within class other reads =
-        let below = driven-below fabric within class (depends-driven fabric class other _ refl reads) in
-        depends-by within class other (driver_in drivers class) (of_drivers.each class below) reads
-
-    alike : AreAlike (wiring_of wires.driven.items wires.reads.items) (wiring_of_fabric fabric)
+    alike : AreAlike (wiring_of wires.driven.items wires.reads.items) wiring
     alike = record {
-      count = marks ∙ sym (count-is fabric);
-      driven = λ class. mark-same class ∙ sym (driven-is fabric class);
+      count = marks ∙ sym of_classes.count;
+      driven = λ class. mark-same class ∙ sym (of_classes.driven class);
       reads = λ class other. ap (λ l. has l other) (row-same class);
     }
 
-    -- marks and rows of the kept drivers are those of the fabric
-    pub wires-kept : AreWiresOf fabric wires
+    -- a class that reads another has a driver
+    reader-driven : (class other : ℕ) → depends wiring class other ≡ true → is_driven fabric class ≡ true
+    reader-driven class other reads =
+        elim (cases_Bool (is_driven fabric class)) [
+          | inl driven ↦ driven
+          | inr away ↦ absurd (has-none other (ap (λ l. has l other) (sym (of_classes.none class away)) ∙ reads))
+        ]
+
+    -- marks and rows of the kept drivers are those of the wiring
+    pub wires-kept : AreWiresOf wiring wires
     wires-kept = record {
       rows = rows ∙ sym marks;
       alike = alike;
-      within = λ class other reads. let less = depends-within class other (sym (alike.reads class other) ∙ reads) in omega (arith, less, marks);
-      by_driven = λ class other reads. mark-same class ∙ depends-driven fabric class other _ refl (sym (alike.reads class other) ∙ reads);
+      within = λ class other reads. let less = of_classes.below class other (sym (alike.reads class other) ∙ reads) in omega (arith, less, marks);
+      by_driven = λ class other reads. mark-same class ∙ reader-driven class other (sym (alike.reads class other) ∙ reads);
     }

@@ -3,13 +3,14 @@ use Rattle.std.specs.Prelude.{◌≡◌, ℕ, ◌<◌, false, List, length, get_
 use Rattle.fabric_model.specs.Joins.{class_of}
 use Rattle.fabric_model.specs.Fabric.{Fabric}
 use Rattle.fabric_model.specs.Clocks.{ClockEnd, clock_end}
-use Rattle.fabric_model.specs.Clocks.ClockEnd.{at_pin, still, logic}
+use Rattle.fabric_model.specs.Clocks.ClockEnd.{at_pin, at_register, still, logic}
 use Rattle.fabric_wiring.specs.declared.ends.ClockEnd.{ClockEnd as KeptEnd}
-use Rattle.fabric_wiring.specs.declared.ends.ClockEnd.TheVariants.{Pin, Still, Logic}
+use Rattle.fabric_wiring.specs.declared.ends.ClockEnd.TheVariants.{Pin, Register, Still, Logic}
 
 -- what a kept end says
 abbrev pub end_of : KeptEnd → ClockEnd
 end_of (Pin place turned) = at_pin place turned
+end_of (Register class place turned) = at_register class place turned
 end_of (Still bit) = still bit
 end_of Logic = logic
 

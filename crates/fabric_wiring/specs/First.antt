@@ -8,7 +8,7 @@ use Rattle.fabric_model.specs.declared.driver.ClockUser.TheVariants.{Read, Write
 use Rattle.fabric_model.specs.Registers.{user_of}
 use Rattle.fabric_model.specs.Tiles.{over_grid, item_if, first_of}
 use Rattle.fabric_model.specs.Clocks.{ClockEnd}
-use Rattle.fabric_model.specs.Clocks.ClockEnd.{at_pin, still, logic}
+use Rattle.fabric_model.specs.Clocks.ClockEnd.{at_pin, at_register, still, logic}
 use Rattle.fabric_model.specs.Links.{LinkSet, class_in}
 use Rattle.fabric_wiring.specs.declared.ends.ClockEnd.{ClockEnd as KeptEnd}
 use Rattle.fabric_wiring.specs.declared.users.Unclocked.{Unclocked}
@@ -30,6 +30,7 @@ ram_inputs ram =
 -- whether a clock chain ends at logic
 abbrev pub is_other : ClockEnd → Bool
 is_other (at_pin place turned) = false
+is_other (at_register class place turned) = false
 is_other (still bit) = false
 is_other logic = true
 

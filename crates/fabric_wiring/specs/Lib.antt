@@ -8,4 +8,5 @@ pub mod Ends
 pub mod Users
 pub mod Wires
 pub mod Reading
+pub mod Clocking
 pub mod First

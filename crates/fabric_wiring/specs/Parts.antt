@@ -11,8 +11,9 @@ use Rattle.fabric_wiring.specs.declared.parts.Parts.{Parts}
 abbrev pub buffer_of : KeptBuffer → Buffer
 buffer_of buffer = record { line = buffer.line; src = buffer.src; dst = buffer.dst }
 
--- Parts are the parts of a fabric if each list is that of the fabric, the LUTs read the same inputs, and each net has the class of joined
--- nets that the routings of the fabric give it. All nets that such a fabric names are below the number of its nets.
+-- Parts are the parts of a fabric if each list is that of the fabric, the LUTs read the same inputs, registers may be clocks in both or in
+-- neither, and each net has the class of joined nets that the routings of the fabric give it. All nets that such a fabric names are below the
+-- number of its nets.
 pub record ArePartsOf (fabric : Fabric) (parts : Parts) : Type 0 where
   pub within : IsClosed fabric
   pub nets : length parts.links.classes ≡ fabric.nets
@@ -22,6 +23,7 @@ pub record ArePartsOf (fabric : Fabric) (parts : Parts) : Type 0 where
   pub plls : parts.plls.items ≡ fabric.plls
   pub globals : parts.globals.items ≡ fabric.globals
   pub lut_inputs : parts.options.lut_inputs ≡ fabric.lut_inputs
+  pub register_clocks : parts.options.register_clocks ≡ fabric.register_clocks
   pub lcs : parts.lcs.items ≡ fabric.lcs
   pub registers : parts.registers.items ≡ fabric.registers
   pub sets : parts.sets.items ≡ fabric.sets

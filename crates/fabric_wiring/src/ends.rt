@@ -1,12 +1,12 @@
 // Where the clocks of classes of joined nets come from.
-ghost use Rattle.std.specs.Prelude.{◌≡◌, ℕ, ◌<◌, Bool, true, false, length, map, flat_map, get_or, option_to_list, None, IfOk, IfSome};
+ghost use Rattle.std.specs.Prelude.{◌≡◌, ℕ, ◌<◌, Bool, true, false, length, map, flat_map, get_or, option_to_list, if◌then◌else◌, None, IfOk, IfSome};
 ghost use Rattle.fabric_model.specs.Fabric.{Fabric};
 ghost use Rattle.graph_order.specs.Wiring.{IsWriteOrder};
 ghost use Rattle.fabric_model.specs.Wiring.{wiring_of};
 ghost use Rattle.fabric_model.specs.declared.signal.Signal.TheVariants.{Net};
 ghost use Rattle.fabric_model.specs.ClockLuts.{can_be_1, pass_of};
-ghost use Rattle.fabric_model.specs.Clocks.{turned_end, turn_through, turn_by, turn_of, end_by};
-ghost use Rattle.fabric_model.specs.Clocks.ClockEnd.{still};
+ghost use Rattle.fabric_model.specs.Clocks.{turned_end, turn_through, turn_by, turn_of, end_by, register_class};
+ghost use Rattle.fabric_model.specs.Clocks.ClockEnd.{at_register, still, logic};
 ghost use Rattle.fabric_model.specs.Drivers.{nets_read};
 ghost use Rattle.fabric_model.specs.Signals.{net_or_0, signal_nets};
 ghost use Rattle.graph_order.specs.Wiring.{has};
@@ -26,11 +26,33 @@ use std::alloc::{AllocError, Global};
 #[derive(Clone, Copy, Debug, PartialEq, Eq)]
 pub enum ClockEnd {
     /// At the input port with that index among the input ports; turned if the chain inverts the clock on its way.
-    Pin { place: u32, turned: bool },
+    Pin {
+        place: u32,
+        turned: bool,
+    },
+    /// At a register, if registers may be clocks: its class of joined nets, and its index among the registers; turned if the chain inverts the
+    /// clock on its way.
+    Register {
+        class: u32,
+        place: u32,
+        turned: bool,
+    },
     /// At a bit that is always the same: at a class of joined nets without a driver, which is 0, or at a LUT whose value is always that bit.
     Still(bool),
     /// At logic: at any other driver.
     Logic,
+}
+
+impl ClockEnd {
+    /// The class of joined nets of the register at which a chain ends, or `None` if it ends elsewhere.
+    pub fn register_class(self) -> Option<u32>
+        ensures { result ≡ register_class (end_of self) }
+    {
+        match self {
+            ClockEnd::Register { class, .. } => Some(class),
+            ClockEnd::Pin { .. } | ClockEnd::Still(_) | ClockEnd::Logic => None,
+        }
+    }
 }
 
 /// Finds where the clock chain from each class of joined nets ends: an end for each class, in ascending order. It goes over the classes in
@@ -74,37 +96,62 @@ fn follow(parts: &Parts, drivers: &Drivers, order: &[u32], ends: &mut [ClockEnd]
     ensures { AreEndsOf fabric ends.new }
 {
     for class in order {
-        ends[*class as usize] = end_from(&parts.links, drivers, ends, *class);
+        ends[*class as usize] = end_from(parts, drivers, ends, *class);
     }
 }
 
 /// The end of the clock chain from a class of joined nets, if the end from the class that it goes on to is known.
-fn end_from(links: &Links, drivers: &Drivers, ends: &[ClockEnd], class: u32) -> ClockEnd
+fn end_from(parts: &Parts, drivers: &Drivers, ends: &[ClockEnd], class: u32) -> ClockEnd
     requires class { class < length drivers.now.places }
-    requires reads { IfSome (driver_in drivers.now class) (λ drive. (net : ℕ) → has (nets_read (rule_of drive.rule)) net ≡ true → net < length links.now.classes) }
-    ensures { end_of result ≡ end_by (λ net. end_in ends.now (class_in links.now net))
-        (turn_of (is_connected_in links.now drivers.now) (map drive_of (option_to_list (driver_in drivers.now class)))) }
+    requires reads { IfSome (driver_in drivers.now class) (λ drive. (net : ℕ) → has (nets_read (rule_of drive.rule)) net ≡ true → net < length parts.now.links.classes) }
+    ensures { end_of result ≡ end_by (λ net. end_in ends.now (class_in parts.now.links net))
+        (turn_of (is_connected_in parts.now.links drivers.now) parts.now.options.register_clocks class (map drive_of (option_to_list (driver_in drivers.now class)))) }
 {
     match drivers.of_class(class) {
         None => ClockEnd::Still(false),
-        Some(drive) => end_along(links, drivers, ends, drive.rule),
+        Some(drive) => end_along(parts, drivers, ends, class, drive.rule),
     }
 }
 
-/// The end of a clock chain at or after a driver with that rule.
+/// The end of a clock chain at or after the driver of a class of joined nets, which has that rule.
 #[tactic(auto, unfolding(fabric_model::specs::Drivers::nets_read))]
-fn end_along(links: &Links, drivers: &Drivers, ends: &[ClockEnd], rule: Rule) -> ClockEnd
-    requires { (net : ℕ) → has (nets_read (rule_of rule)) net ≡ true → net < length links.now.classes }
-    ensures { end_of result ≡ end_by (λ net. end_in ends.now (class_in links.now net)) (turn_by (is_connected_in links.now drivers.now) (rule_of rule)) }
+fn end_along(
+    parts: &Parts,
+    drivers: &Drivers,
+    ends: &[ClockEnd],
+    class: u32,
+    rule: Rule,
+) -> ClockEnd
+    requires { (net : ℕ) → has (nets_read (rule_of rule)) net ≡ true → net < length parts.now.links.classes }
+    ensures { end_of result ≡ end_by (λ net. end_in ends.now (class_in parts.now.links net)) (turn_by (is_connected_in parts.now.links drivers.now) parts.now.options.register_clocks class (rule_of rule)) }
 {
     match rule {
         Rule::PinBit(place) => ClockEnd::Pin {
             place,
             turned: false,
         },
-        Rule::Copied(net) => end_at(ends, links.class_of(net)),
-        Rule::TableEntry(table) => end_through(links, drivers, ends, &table),
+        Rule::Copied(net) => end_at(ends, parts.links.class_of(net)),
+        Rule::TableEntry(table) => end_through(&parts.links, drivers, ends, &table),
+        Rule::RegisterBit { place, .. } => {
+            end_at_register(parts.options.register_clocks, class, place)
+        }
         _ => ClockEnd::Logic,
+    }
+}
+
+/// The end of a clock chain at a register, given by its class of joined nets and its index: the register itself if registers may be clocks,
+/// else logic.
+fn end_at_register(taken: bool, class: u32, place: u32) -> ClockEnd
+    ensures { end_of result ≡ (if taken then at_register class place false else logic) }
+{
+    if taken {
+        ClockEnd::Register {
+            class,
+            place,
+            turned: false,
+        }
+    } else {
+        ClockEnd::Logic
     }
 }
 
@@ -167,6 +214,15 @@ fn turned_end(turned: bool, end: ClockEnd) -> ClockEnd
             place,
             turned: other,
         } => ClockEnd::Pin {
+            place,
+            turned: turned != other,
+        },
+        ClockEnd::Register {
+            class,
+            place,
+            turned: other,
+        } => ClockEnd::Register {
+            class,
             place,
             turned: turned != other,
         },

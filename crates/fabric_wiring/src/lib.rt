@@ -1,11 +1,13 @@
 //! The wiring of a fabric: what drives each class of joined nets, what each class reads, and where the clocks come from.
 //!
 //! [`registers_of`] makes the registers of cells, and [`drivers`] and [`outputs`] find the drivers and the outputs from the parts of a
-//! fabric. [`wires`] makes a mark and a row for each class, of which `graph_order` finds the topological order. [`wires`] and
-//! [`clock_ends`] go over the drivers, and [`first_unclocked`] over the registers and RAMs. The calls of [`Drivers`] take no memory.
+//! fabric. [`wires`] makes a mark and a row for each class, of which `graph_order` finds the topological order, and [`clocked_wires`] does so
+//! if registers that are clocks count. [`wires`], [`clocked_wires`] and [`clock_ends`] go over the drivers, and [`first_unclocked`] and
+//! [`has_register_clocks`] over the registers and RAMs. The calls of [`Drivers`] take no memory.
 #![tactic(auto)]
 
 mod cells;
+mod clocking;
 mod drive;
 mod drivers_type;
 mod ends;
@@ -25,6 +27,7 @@ mod twice;
 mod users;
 mod wires_type;
 
+pub use clocking::{clocked_wires, has_register_clocks};
 pub use drive::{Drive, Rule};
 pub use drivers_type::Drivers;
 pub use ends::{ClockEnd, clock_ends};

@@ -1,6 +1,7 @@
 // Which classes of joined nets have a driver, and which classes each reads.
 ghost use Rattle.std.specs.Prelude.{◌≡◌, ℕ, ◌<◌, ◌≤◌, true, is_some, length, map, flat_map, option_to_list, [], if◌then◌else◌, IfOk, IfSome};
 ghost use Rattle.fabric_model.specs.Fabric.{Fabric};
+ghost use Rattle.fabric_model.specs.Wiring.{wiring_of};
 ghost use Rattle.fabric_model.specs.Drivers.{nets_read};
 ghost use Rattle.fabric_model.specs.Signals.{signal_nets};
 ghost use Rattle.graph_order.specs.Wiring.{has};
@@ -26,7 +27,7 @@ pub fn wires(alloc: Global, parts: &Parts, drivers: &Drivers) -> Result<Wires, A
     ghost fabric: { Fabric }
     requires parts { ArePartsOf fabric parts.now }
     requires drivers { AreDriversOf fabric drivers.now }
-    ensures wires { IfOk result (AreWiresOf fabric) }
+    ensures wires { IfOk result (AreWiresOf (wiring_of fabric)) }
     ensures few { IfOk result (λ wires. length wires.driven.items ≤ u32.MAX) }
 {
     let count = count_of(drivers)?;
@@ -36,14 +37,18 @@ pub fn wires(alloc: Global, parts: &Parts, drivers: &Drivers) -> Result<Wires, A
 }
 
 /// How many classes of joined nets there are. It is an error if 32 bits can't count them.
-fn count_of(drivers: &Drivers) -> Result<u32, AllocError>
+pub(crate) fn count_of(drivers: &Drivers) -> Result<u32, AllocError>
     ensures { IfOk result (λ count. count ≡ length drivers.now.places) }
 {
     u32::try_from(drivers.len()).map_err(|_| AllocError)
 }
 
 /// For each class of joined nets, whether it has a driver.
-fn marks_of(alloc: Global, drivers: &Drivers, count: u32) -> Result<Vec<bool>, AllocError>
+pub(crate) fn marks_of(
+    alloc: Global,
+    drivers: &Drivers,
+    count: u32,
+) -> Result<Vec<bool>, AllocError>
     requires { count ≤ length drivers.now.places }
     ensures length { IfOk result (λ marks. length marks.items ≡ count) }
     ensures marks { IfOk result (λ marks. (class : ℕ) → class < count → is_marked marks.items class ≡ is_some (driver_in drivers.now class)) }
@@ -76,7 +81,11 @@ fn rows_of(
 }
 
 /// The classes of joined nets that a driver reads, and none if there is no driver.
-fn row_of(alloc: Global, links: &Links, drive: Option<Drive>) -> Result<Vec<u32>, AllocError>
+pub(crate) fn row_of(
+    alloc: Global,
+    links: &Links,
+    drive: Option<Drive>,
+) -> Result<Vec<u32>, AllocError>
     requires { IfSome drive (λ drive. (net : ℕ) → has (nets_read (rule_of drive.rule)) net ≡ true → net < length links.now.classes) }
     ensures { IfOk result (λ row. row.items ≡ row_in links.now drive) }
 {

@@ -141,14 +141,14 @@ fn or_input(
     requires { IsNetIn (length links.now.classes) input.net }
     ensures { (before : List Unclocked) → found ≡ first_on device before → result ≡ first_on device (before ++ unclocked_by links.now ends.now input) }
 {
-    match without_pin(links, ends, input) {
+    match on_logic(links, ends, input) {
         None => found,
         Some(next) => or_sooner(device, found, next),
     }
 }
 
-/// A user and the net of its clock, or `None` if the clock comes from a pin or is always the same bit.
-fn without_pin(links: &Links, ends: &[ClockEnd], input: ClockInput) -> Option<Unclocked>
+/// A user and the net of its clock, or `None` if the clock doesn't come from logic.
+fn on_logic(links: &Links, ends: &[ClockEnd], input: ClockInput) -> Option<Unclocked>
     requires { IsNetIn (length links.now.classes) input.net }
     ensures { option_to_list result ≡ unclocked_by links.now ends.now input }
 {

@@ -27,6 +27,8 @@ Each line of EVENTS is the name of an input, one space, and 0 or 1: that input
 gets that bit. At the start all inputs are 0. Where the bit is the old one
 nothing changes. Else all registers whose clock it is, and whose edge, take
 their new values at once, from the values before; then wires and outputs follow.
+A register that changed may be a clock itself. What it clocks then changes in the
+same way, in a further step of the event, and so on, until no clock has its edge.
 
 vlogrun writes a line at the start and one after each event: the bits of the
 outputs, in the order of the ports. With -s a space follows, the registers of

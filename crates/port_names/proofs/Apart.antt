@@ -1,6 +1,6 @@
 -- Functions of names that keep names apart, and values under the new names.
 use Rattle.std.proofs.Common.{◌≡◌, ℕ, zero, suc, ◌+◌, Bool, true, false, cond, List, [], ◌∷◌, ◌++◌, Some, flat_map, refl, sym, ap, ap₂, ◌∙◌}
-use Rattle.std.specs.Prelude.{bytes_eq, map, fold}
+use Rattle.std.specs.Prelude.{bytes_eq, filter, fold, length, map}
 use Rattle.std.proofs.lemmas.List.{map-append}
 use Rattle.vlog_module.specs.Maps.{value_in}
 use Rattle.vlog_semantics.specs.Entries.{put}
@@ -68,3 +68,15 @@ pub fold-renamed : {X S : Type 0} (rename : S → S) (change : X → X) (one two
 fold-renamed rename change one two each s [] = refl
 fold-renamed rename change one two each s (x ∷ xs) =
     ap (λ next. fold one next (map change xs)) (each s x) ∙ fold-renamed rename change one two each (two s x) xs
+
+-- as many changed parts pass a test as do before, if each passes where it did
+counted : {X : Type 0} (b : Bool) (one two : X) (xs ys : List X) → length xs ≡ length ys → length (cond b (one ∷ xs) xs) ≡ length (cond b (two ∷ ys) ys)
+counted true one two xs ys same = ap suc same
+counted false one two xs ys same = same
+
+pub count-renamed : {X : Type 0} (change : X → X) (one two : X → Bool) → ((x : X) → one (change x) ≡ two x) → (xs : List X)
+    → length (filter one (map change xs)) ≡ length (filter two xs)
+count-renamed change one two each [] = refl
+count-renamed change one two each (x ∷ xs) =
+    ap (λ b. length (cond b (change x ∷ filter one (map change xs)) (filter one (map change xs)))) (each x)
+    ∙ counted (two x) (change x) x (filter one (map change xs)) (filter two xs) (count-renamed change one two each xs)

@@ -15,8 +15,8 @@ use Rattle.vlog_module.specs.declared.sort.Sort.TheVariants.{Register, Word, Mem
 use Rattle.vlog_module.specs.Maps.{value_in}
 use Rattle.vlog_module.specs.Parts.{Parts}
 use Rattle.vlog_module.specs.Uses.{Use, uses_of, used_name}
-use Rattle.vlog_module.specs.Uses.Use.{Declares, Reads, ReadsBit, Takes, Assigns, Chooses, AssignsAsync, Starts}
-use Rattle.vlog_module.specs.WellFormed.{IsModule, Scope, declared_by, has_bit, is_first, is_known, is_read_unless, is_sort, port_sort, scope_of, sort_in}
+use Rattle.vlog_module.specs.Uses.Use.{Declares, Reads, ReadsBit, Clocks, Takes, Assigns, Chooses, AssignsAsync, Starts}
+use Rattle.vlog_module.specs.WellFormed.{IsModule, Scope, declared_by, has_bit, is_clock, is_first, is_known, is_read_unless, is_sort, port_sort, scope_of, sort_in}
 use Rattle.vlog_semantics.specs.Named.{has_name, names_of}
 use Rattle.port_names.specs.Fresh.{declared_names, port_names}
 use Rattle.port_names.proofs.Exchange.{itself}
@@ -53,6 +53,10 @@ bit-found : (found : Option Sort) → has_bit found ≡ true → is_some found �
 bit-found (Some other) is = refl
 bit-found None is = cc
 
+clock-found : (found : Option Sort) → is_clock found ≡ true → is_some found ≡ true
+clock-found (Some other) is = refl
+clock-found None is = cc
+
 -- what is used stands before or is declared by the use itself
 abbrev pub names_by : List Use → List (List ℕ)
 names_by uses = names_of (flat_map declared_by uses)
@@ -61,6 +65,7 @@ itself-or-before : (scope : Scope) (used : Use) → IsTrue (is_known scope used)
 itself-or-before scope (Declares sort name) known = in-second (names_of scope.declared) (name ∷ []) name (ap (λ b. b || false) (itself name))
 itself-or-before scope (Reads name) known = in-first (names_of scope.declared) [] name (sym (found-name scope.declared name) ∙ bit-found (sort_in scope.declared name) known)
 itself-or-before scope (ReadsBit name k) known = in-first (names_of scope.declared) [] name (sym (found-name scope.declared name) ∙ sort-found Word (sort_in scope.declared name) known)
+itself-or-before scope (Clocks name) known = in-first (names_of scope.declared) [] name (sym (found-name scope.declared name) ∙ clock-found (sort_in scope.declared name) known)
 itself-or-before scope (Takes sort name) known = in-first (names_of scope.declared) [] name (sym (found-name scope.declared name) ∙ sort-found sort (sort_in scope.declared name) known)
 itself-or-before scope (Assigns sort name) known = in-first (names_of scope.declared) [] name (sym (found-name scope.declared name) ∙ sort-found sort (sort_in scope.declared name) known)
 itself-or-before scope (Chooses reset set name) known = in-first (names_of scope.declared) [] name (sym (found-name scope.declared name) ∙ sort-found Register (sort_in scope.declared name) known)

@@ -13,7 +13,7 @@ use Rattle.vlog_module.specs.declared.item.Item.{Item}
 use Rattle.vlog_module.specs.declared.item.Item.TheVariants.{Register as RegisterItem, Word, Memory, Wire, Assign, FlipFlop, AsyncFlipFlop, AsyncReset, Read, ReadNarrow, Write, WriteNarrow, Start}
 use Rattle.vlog_module.specs.declared.modules.Port.{Port}
 use Rattle.vlog_module.specs.Uses.{Use, atom_uses, atoms_uses, right_uses, uses_of}
-use Rattle.vlog_module.specs.Uses.Use.{Declares, Reads, ReadsBit, Takes, Assigns, Chooses, AssignsAsync, Starts}
+use Rattle.vlog_module.specs.Uses.Use.{Declares, Reads, ReadsBit, Clocks, Takes, Assigns, Chooses, AssignsAsync, Starts}
 use Rattle.vlog_module.specs.WellFormed.{port_sort, declared_by}
 use Rattle.fabric_model.specs.declared.register.Register.{Register}
 use Rattle.fabric_model.specs.declared.ram.RamCell.{RamCell}
@@ -100,29 +100,29 @@ item-own (Memory name) own = All-single UseOwn (Declares sort.Memory name) (one-
 item-own (Wire name right) own = All-cons UseOwn (Declares sort.Wire name) (right_uses right) (one-own sort.Wire name own) (right-own right)
 item-own (Assign name value) own = All-cons UseOwn (Assigns sort.Output name) (atom_uses value) nothing (atom-own value)
 item-own (FlipFlop falling clock enable reset set target lut) own =
-    All-cons UseOwn (Takes sort.Input clock) (atom_uses enable ++ atom_uses reset ++ Assigns sort.Register target ∷ atoms_uses lut.ins) nothing
+    All-cons UseOwn (Clocks clock) (atom_uses enable ++ atom_uses reset ++ Assigns sort.Register target ∷ atoms_uses lut.ins) nothing
     (All-append UseOwn (atom_uses enable ++ atom_uses reset) (Assigns sort.Register target ∷ atoms_uses lut.ins) (both-own enable reset)
     (All-cons UseOwn (Assigns sort.Register target) (atoms_uses lut.ins) nothing (atoms-own lut.ins)))
 item-own (AsyncFlipFlop falling clock reset set target enable lut) own =
     let table = atom_uses enable ++ atoms_uses lut.ins in
-    All-cons UseOwn (Takes sort.Input clock) (Takes sort.Wire reset ∷ AssignsAsync reset set target ∷ table) nothing
+    All-cons UseOwn (Clocks clock) (Takes sort.Wire reset ∷ AssignsAsync reset set target ∷ table) nothing
     (All-cons UseOwn (Takes sort.Wire reset) (AssignsAsync reset set target ∷ table) nothing
     (All-cons UseOwn (AssignsAsync reset set target) table nothing (All-append UseOwn (atom_uses enable) (atoms_uses lut.ins) (atom-own enable) (atoms-own lut.ins))))
 item-own (AsyncReset reset set target) own =
     All-cons UseOwn (Takes sort.Wire reset) (AssignsAsync reset set target ∷ []) nothing (All-single UseOwn (AssignsAsync reset set target) nothing)
 item-own (Read falling clock clock_enable enable target memory address) own =
-    All-cons UseOwn (Takes sort.Input clock) (atom_uses clock_enable ++ atom_uses enable ++ Assigns sort.Word target ∷ Takes sort.Memory memory ∷ atoms_uses address) nothing
+    All-cons UseOwn (Clocks clock) (atom_uses clock_enable ++ atom_uses enable ++ Assigns sort.Word target ∷ Takes sort.Memory memory ∷ atoms_uses address) nothing
     (taken-own clock_enable enable target memory address)
 item-own (ReadNarrow falling clock clock_enable enable target memory address shift pattern) own =
     let taken = atom_uses clock_enable ++ atom_uses enable ++ Assigns sort.Word target ∷ Takes sort.Memory memory ∷ atoms_uses address in
-    All-cons UseOwn (Takes sort.Input clock) (taken ++ atoms_uses shift) nothing
+    All-cons UseOwn (Clocks clock) (taken ++ atoms_uses shift) nothing
     (All-append UseOwn taken (atoms_uses shift) (taken-own clock_enable enable target memory address) (atoms-own shift))
 item-own (Write falling clock clock_enable enable memory address mask bits) own =
-    All-cons UseOwn (Takes sort.Input clock)
+    All-cons UseOwn (Clocks clock)
     (atom_uses clock_enable ++ atom_uses enable ++ Assigns sort.Memory memory ∷ atoms_uses address ++ atoms_uses mask ++ atoms_uses bits) nothing
     (put-own clock_enable enable memory address mask bits)
 item-own (WriteNarrow falling clock clock_enable enable memory address pattern shift bits) own =
-    All-cons UseOwn (Takes sort.Input clock)
+    All-cons UseOwn (Clocks clock)
     (atom_uses clock_enable ++ atom_uses enable ++ Assigns sort.Memory memory ∷ atoms_uses address ++ atoms_uses shift ++ atoms_uses bits) nothing
     (put-own clock_enable enable memory address shift bits)
 item-own (Start memory k word) own = All-single UseOwn (Starts memory k) nothing

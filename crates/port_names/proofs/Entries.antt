@@ -1,6 +1,7 @@
 -- The names of what a module holds.
-use Rattle.std.proofs.Common.{◌≡◌, ℕ, Bool, true, false, cond, List, [], ◌∷◌, flat_map, refl, sym, subst, ◌∙◌}
+use Rattle.std.proofs.Common.{◌≡◌, ℕ, zero, suc, Bool, true, false, cond, List, [], ◌∷◌, flat_map, refl, sym, subst, ◌∙◌}
 use Rattle.std.specs.Prelude.{All, fold}
+use Rattle.std.specs.List.{list_any}
 use Rattle.std.proofs.lemmas.List.{map-append}
 use Rattle.std.proofs.lemmas.List.Elements.{All-nil, All-cons, All-head, All-tail, All-append}
 use Rattle.vlog_module.specs.declared.item.Item.{Item}
@@ -12,9 +13,9 @@ use Rattle.vlog_semantics.specs.declared.event.Event.{Event}
 use Rattle.vlog_semantics.specs.Entries.{Entry, put}
 use Rattle.vlog_semantics.specs.ModuleSlots.{IsNamed, wire_start}
 use Rattle.vlog_semantics.specs.Named.{names_of}
-use Rattle.vlog_semantics.specs.Run.{changed, followed, input_bit, input_start, is_same_bit, memory_start, memory_step, module_run, output_start, output_step, register_start, register_step, run_from, settled, start, start_step, with_input, word_start, word_step}
+use Rattle.vlog_semantics.specs.Run.{Edges, acted, changed, edges_between, edges_by, followed, has_its_edge, input_bit, input_start, is_same_bit, memory_start, memory_step, module_run, output_start, output_step, register_start, register_step, run_from, settled, start, start_step, wave_bound, waved, with_input, word_start, word_step}
 use Rattle.vlog_semantics.specs.Values.{Readable, atom_value}
-use Rattle.vlog_semantics.proofs.Entering.{AreNamed, changed-named, settled-named, start-named}
+use Rattle.vlog_semantics.proofs.Entering.{AreNamed, acted-named, names-input, settled-named, start-named}
 use Rattle.vlog_semantics.proofs.Lookups.{names-put}
 use Rattle.port_names.proofs.Declared.{names_by}
 
@@ -39,11 +40,29 @@ pub start-names : (m : Parts) → HasNames m (start m)
 unfolding start
 start-names m = settled-names m (flat_map input_start m.ports) (flat_map register_start m.items) (flat_map word_start m.items) (fold start_step (flat_map memory_start m.items) m.items) (start-named m)
 
+acted-names : (m : Parts) (edges : Edges) (inputs : List (List ℕ × Bool)) (entry : Entry) → names_of inputs ≡ names_of entry.inputs → HasNames m entry → HasNames m (acted m edges inputs entry)
+unfolding acted
+acted-names m edges inputs entry same names =
+    settled-names m inputs (fold (register_step edges entry) entry.registers m.items) (fold (word_step edges entry) entry.words m.items)
+    (fold (memory_step edges entry) entry.memories m.items) (acted-named m entry edges inputs same names.named)
+
+waved-names : (m : Parts) (most : ℕ) (before after : Entry) → HasNames m after → HasNames m (waved m most before after)
+unfolding waved
+waved-names m zero before after names = names
+waved-names m (suc most) before after names =
+    let edges : Edges = edges_between before after in
+    let next : Entry = acted m edges after.inputs after in
+    elim (list_any (has_its_edge edges) m.items) as (λ b. HasNames m (cond b (waved m most after next) after)) [
+      | true ↦ waved-names m most after next (acted-names m edges after.inputs after refl names)
+      | false ↦ names
+    ]
+
 changed-names : (m : Parts) (entry : Entry) (event : Event) → HasNames m entry → HasNames m (changed m entry event)
 unfolding changed
 changed-names m entry event names =
-    settled-names m (with_input entry.inputs event.pin event.bit) (fold (register_step m entry event) entry.registers m.items) (fold (word_step m entry event) entry.words m.items)
-    (fold (memory_step m entry event) entry.memories m.items) (changed-named m entry event names.named)
+    let inputs : List (List ℕ × Bool) = with_input entry.inputs event.pin event.bit in
+    waved-names m (wave_bound m) entry (acted m (edges_by m event) inputs entry)
+    (acted-names m (edges_by m event) inputs entry (names-input entry.inputs event.pin event.bit) names)
 
 pub followed-names : (m : Parts) (entry : Entry) (event : Event) → HasNames m entry → HasNames m (followed m entry event)
 unfolding followed

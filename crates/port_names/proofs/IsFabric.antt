@@ -14,7 +14,7 @@ use Rattle.fabric_model.specs.InputPorts.{pll_input}
 use Rattle.fabric_model.specs.Fabric.{numbered, fabric_with, reading_all}
 use Rattle.fabric_model.specs.Steps.{Event}
 use Rattle.graph_order.specs.Wiring.{IsWriteOrder}
-use Rattle.fabric_model.specs.Wiring.{wiring_of}
+use Rattle.fabric_model.specs.Wiring.{clocked_wiring}
 use Rattle.fabric_model.specs.Faults.{design_fault}
 use Rattle.fabric_model.specs.Pins.{is_port, pin_places, pin_with, port_at, pins_of}
 use Rattle.fabric_model.proofs.Apart.{AreApart, All-every}
@@ -106,6 +106,7 @@ module _ (options : FabricOptions) (db : Database) (image : Configuration) (orde
       runs-named = record {
         ports = ports-are;
         one_run = alike.one_run;
+        uncut = alike.uncut;
         alike = λ events entries run.
             subst (AllZip (MatchesNamed named (fabric_with (reading_all options) db image)) entries) (sym (named-run events))
             (each-named named (fabric_with (reading_all options) db image) ported-all apart-pins entries
@@ -119,7 +120,7 @@ accepted-safe pins named accepted =
 
 -- they can be given to the ports of the module
 pub names-fresh : (named : List PinName) (options : FabricOptions) (db : Database) (image : Configuration) → IsFit db → (fabric_with options db image).nets ≤ 2 ^ 64 → design_fault options db image ≡ None
-    → AreAccepted (fabric_with (reading_all options) db image).pins named → (order name : List ℕ) → IsWriteOrder (wiring_of (fabric_with options db image)) order → IsName name
+    → AreAccepted (fabric_with (reading_all options) db image).pins named → (order name : List ℕ) → IsWriteOrder (clocked_wiring (fabric_with options db image)) order → IsName name
     → IsFresh (port_renaming named (fabric_with options db image).pins) (module_of (fabric_with options db image) order name)
 names-fresh named options db image fit few none accepted order name ordered is_name =
     let own = module-is-fabric options db image fit few none order name ordered is_name in

@@ -1,6 +1,7 @@
 -- Runs under other names.
-use Rattle.std.proofs.Common.{◌≡◌, ℕ, ◌-◌, Bool, true, false, cond, ◌&&◌, ◌||◌, List, [], ◌∷◌, ◌++◌, Option, Some, None, flat_map, refl, sym, ap, ap₂, ◌∙◌, get_or}
-use Rattle.std.specs.Prelude.{map, fold, unwrap_or, slice_set}
+use Rattle.std.proofs.Common.{◌≡◌, ℕ, zero, suc, ◌-◌, Bool, true, false, cond, ◌&&◌, ◌||◌, List, [], ◌∷◌, ◌++◌, Option, Some, None, flat_map, refl, sym, ap, ap₂, ◌∙◌, get_or}
+use Rattle.std.specs.Prelude.{map, fold, is_some, unwrap_or, slice_set}
+use Rattle.std.specs.List.{list_any}
 use Rattle.std.specs.Option.{option_map, option_map_or}
 use Rattle.vlog_module.specs.declared.atoms.Atom.{Atom}
 use Rattle.vlog_module.specs.declared.atoms.Atom.TheVariants.{Bit, Whole, Part}
@@ -17,9 +18,9 @@ use Rattle.vlog_semantics.specs.Entries.{Entry, put}
 use Rattle.vlog_semantics.specs.Named.{names_of}
 use Rattle.vlog_semantics.specs.Numbered.{numbered}
 use Rattle.vlog_semantics.specs.Values.{Readable, atom_value, atoms_value, lut_value, right_value, number_of, bit_of}
-use Rattle.vlog_semantics.specs.Run.{Put, changed, followed, input_bit, input_names, input_start, is_clocked, is_edge, is_enabled, is_pin, is_same_bit, masked, memory_start, memory_step, module_run, moved_down, moved_up, next_bit, next_put, next_word, output_start, output_step, pin_of, put_at, put_given, put_given_word, put_word, readable, register_start, register_step, run_from, settle_step, settled, start, start_step, taken_from, wire_step, with_input, word_start, word_step, words_of}
+use Rattle.vlog_semantics.specs.Run.{Edges, Put, acted, changed, clock_of, edges_between, edges_by, followed, has_edge, has_its_edge, input_bit, input_names, input_start, is_at_edge, is_edge, is_enabled, is_on_register, is_pin, is_register_of, is_same_bit, masked, memory_start, memory_step, module_run, moved_down, moved_up, next_bit, next_put, next_word, output_start, output_step, pin_of, put_at, put_given, put_given_word, put_word, readable, register_bit, register_start, register_step, run_from, settle_step, settled, start, start_step, taken_from, wave_bound, waved, wire_step, with_input, word_start, word_step, words_of}
 use Rattle.port_names.specs.Renamed.{renamed_atom, renamed_atoms, renamed_lut, renamed_right, renamed_item, renamed_port, renamed_parts, renamed_values, renamed_entry}
-use Rattle.port_names.proofs.Apart.{KeepsApart, value_in-renamed, put-renamed, values-renamed, names-renamed, numbered-renamed, with_input-renamed, flat_map-renamed, fold-renamed}
+use Rattle.port_names.proofs.Apart.{KeepsApart, value_in-renamed, put-renamed, values-renamed, names-renamed, numbered-renamed, with_input-renamed, count-renamed, flat_map-renamed, fold-renamed}
 
 -- ---- what is read
 
@@ -194,9 +195,20 @@ pin_of-renamed to apart ports name =
     ∙ ap (λ entries. value_in entries (to name)) (numbered-renamed to 0 (input_names ports))
     ∙ value_in-renamed to apart (numbered 0 (input_names ports)) name
 
-clocked-renamed : (to : List ℕ → List ℕ) → KeepsApart to → (m : Parts) (event : Event) (falling : Bool) (clock : List ℕ)
-    → is_clocked (renamed_parts to m) event falling (to clock) ≡ is_clocked m event falling clock
-clocked-renamed to apart m event falling clock = ap (λ place. is_pin event.pin place && is_edge falling event.bit) (pin_of-renamed to apart m.ports clock)
+-- clocks have their edges alike under the new names
+abbrev pub EdgesRenamed : (List ℕ → List ℕ) → Edges → Edges → Type 0
+EdgesRenamed to others edges = (falling : Bool) (clock : List ℕ) → others falling (to clock) ≡ edges falling clock
+
+-- the edges of an event
+event-renamed : (to : List ℕ → List ℕ) → KeepsApart to → (m : Parts) (event : Event) → EdgesRenamed to (edges_by (renamed_parts to m) event) (edges_by m event)
+event-renamed to apart m event falling clock = ap (λ place. is_pin event.pin place && is_edge falling event.bit) (pin_of-renamed to apart m.ports clock)
+
+-- and those of a wave
+bit-renamed : (to : List ℕ → List ℕ) → KeepsApart to → (entry : Entry) (name : List ℕ) → register_bit (renamed_entry to entry) (to name) ≡ register_bit entry name
+bit-renamed to apart entry name = ap (λ found. unwrap_or found false) (value_in-renamed to apart entry.registers name)
+
+wave-renamed : (to : List ℕ → List ℕ) → KeepsApart to → (before after : Entry) → EdgesRenamed to (edges_between (renamed_entry to before) (renamed_entry to after)) (edges_between before after)
+wave-renamed to apart before after falling clock = ap₂ (has_edge falling) (bit-renamed to apart before clock) (bit-renamed to apart after clock)
 
 -- what is read of an entry
 entry-atom : (to : List ℕ → List ℕ) → KeepsApart to → (entry : Entry) (atom : Atom) → atom_value (readable (renamed_entry to entry)) (renamed_atom to atom) ≡ atom_value (readable entry) atom
@@ -220,24 +232,10 @@ given-renamed {A = A} one two to name other same is =
     ap₂ (λ b (x : A). cond b (Some x) None) same is
     ∙ (elim two as (λ b. cond b (Some (to other)) None ≡ option_map to (cond b (Some other) None)) [ true ↦ refl | false ↦ refl ])
 
-enabled-renamed : (to : List ℕ → List ℕ) → KeepsApart to → (m : Parts) (entry : Entry) (event : Event) (falling : Bool) (clock : List ℕ) (clock_enable enable : Atom)
-    → is_enabled (renamed_parts to m) (renamed_entry to entry) event falling (to clock) (renamed_atom to clock_enable) (renamed_atom to enable)
-    ≡ is_enabled m entry event falling clock clock_enable enable
-enabled-renamed to apart m entry event falling clock clock_enable enable =
-    ap₂ (λ a b. a && atom_value (readable (renamed_entry to entry)) (renamed_atom to clock_enable) && b) (clocked-renamed to apart m event falling clock) (entry-atom to apart entry enable)
-    ∙ ap (λ b. is_clocked m event falling clock && b && atom_value (readable entry) enable) (entry-atom to apart entry clock_enable)
-
-next_bit-renamed : (to : List ℕ → List ℕ) → KeepsApart to → (m : Parts) (entry : Entry) (event : Event) (item : Item)
-    → next_bit (renamed_parts to m) (renamed_entry to entry) event (renamed_item to item) ≡ option_map (named_so to) (next_bit m entry event item)
-next_bit-renamed to apart m entry event (FlipFlop falling clock enable reset set target lut) =
-    given-renamed _ _ (named_so to) _ (target, cond (atom_value (readable entry) reset) set (lut_value (readable entry) lut))
-    (ap₂ (λ a b. a && b) (clocked-renamed to apart m event falling clock) (entry-atom to apart entry enable))
-    (ap₂ (λ a b. let one : List ℕ × Bool = (to target, cond a set b) in one) (entry-atom to apart entry reset) (entry-lut to apart entry lut))
-next_bit-renamed to apart m entry event (AsyncFlipFlop falling clock reset set target enable lut) =
-    given-renamed _ _ (named_so to) _ (target, cond (atom_value (readable entry) (Whole reset)) set (lut_value (readable entry) lut))
-    (ap₂ (λ a b. a && b) (clocked-renamed to apart m event falling clock) (ap₂ (λ a b. a || b) (entry-atom to apart entry (Whole reset)) (entry-atom to apart entry enable)))
-    (ap₂ (λ a b. let one : List ℕ × Bool = (to target, cond a set b) in one) (entry-atom to apart entry (Whole reset)) (entry-lut to apart entry lut))
-next_bit-renamed to apart m entry event other = refl
+-- if something is given, it is what is given under the old names
+where-renamed : {A : Type 0} (one two : Bool) (to : A → A) (first second : Option A) → one ≡ two → first ≡ option_map to second → cond one first None ≡ option_map to (cond two second None)
+where-renamed one two to first second same is =
+    ap₂ (λ b x. cond b x None) same is ∙ (elim two as (λ b. cond b (option_map to second) None ≡ option_map to (cond b second None)) [ true ↦ refl | false ↦ refl ])
 
 taken-renamed : (to : List ℕ → List ℕ) → KeepsApart to → (entry : Entry) (target memory : List ℕ) (address : List Atom) (taken : ℕ → ℕ)
     → taken_from (renamed_entry to entry) (to target) (to memory) (renamed_atoms to address) taken ≡ option_map (named_so to) (taken_from entry target memory address taken)
@@ -245,23 +243,6 @@ taken-renamed to apart entry target memory address taken =
     ap₂ (λ at found. option_map (λ (words : List ℕ). let one : List ℕ × ℕ = (to target, taken (get_or words at 0)) in one) found) (entry-atoms to apart entry address) (value_in-renamed to apart entry.memories memory)
     ∙ (elim (value_in entry.memories memory) as (λ found. option_map (λ (words : List ℕ). let one : List ℕ × ℕ = (to target, taken (get_or words (atoms_value (readable entry) address) 0)) in one) found
     ≡ option_map (named_so to) (option_map (λ (words : List ℕ). let one : List ℕ × ℕ = (target, taken (get_or words (atoms_value (readable entry) address) 0)) in one) found)) [ Some words ↦ refl | None ↦ refl ])
-
--- if something is given, it is what is given under the old names
-where-renamed : {A : Type 0} (one two : Bool) (to : A → A) (first second : Option A) → one ≡ two → first ≡ option_map to second → cond one first None ≡ option_map to (cond two second None)
-where-renamed one two to first second same is =
-    ap₂ (λ b x. cond b x None) same is ∙ (elim two as (λ b. cond b (option_map to second) None ≡ option_map to (cond b second None)) [ true ↦ refl | false ↦ refl ])
-
-next_word-renamed : (to : List ℕ → List ℕ) → KeepsApart to → (m : Parts) (entry : Entry) (event : Event) (item : Item)
-    → next_word (renamed_parts to m) (renamed_entry to entry) event (renamed_item to item) ≡ option_map (named_so to) (next_word m entry event item)
-next_word-renamed to apart m entry event (Read falling clock clock_enable enable target memory address) =
-    where-renamed _ _ (named_so to) _ (taken_from entry target memory address (λ word. word)) (enabled-renamed to apart m entry event falling clock clock_enable enable)
-    (taken-renamed to apart entry target memory address (λ word. word))
-next_word-renamed to apart m entry event (ReadNarrow falling clock clock_enable enable target memory address shift pattern) =
-    where-renamed _ _ (named_so to) _ (taken_from entry target memory address (λ word. moved_down word (atoms_value (readable entry) shift) pattern))
-    (enabled-renamed to apart m entry event falling clock clock_enable enable)
-    (ap (λ s. taken_from (renamed_entry to entry) (to target) (to memory) (renamed_atoms to address) (λ word. moved_down word s pattern)) (entry-atoms to apart entry shift)
-    ∙ taken-renamed to apart entry target memory address (λ word. moved_down word (atoms_value (readable entry) shift) pattern))
-next_word-renamed to apart m entry event other = refl
 
 -- the word that is put
 put_at-renamed : (to : List ℕ → List ℕ) → KeepsApart to → (entry : Entry) (memory : List ℕ) (address : List Atom) (one mask : ℕ) (bits : List Atom) → one ≡ mask
@@ -271,18 +252,6 @@ put_at-renamed to apart entry memory address one mask bits same =
     let at : atoms_value (readable (renamed_entry to entry)) (renamed_atoms to address) ≡ atoms_value (readable entry) address = entry-atoms to apart entry address in
     let number : atoms_value (readable (renamed_entry to entry)) (renamed_atoms to bits) ≡ atoms_value (readable entry) bits = entry-atoms to apart entry bits in
     λ i. record { memory = to memory; address = at i; word = masked (get_or (words i) (at i) 0) (same i) (number i) }
-
-next_put-renamed : (to : List ℕ → List ℕ) → KeepsApart to → (m : Parts) (entry : Entry) (event : Event) (item : Item)
-    → next_put (renamed_parts to m) (renamed_entry to entry) event (renamed_item to item) ≡ option_map (put_so to) (next_put m entry event item)
-next_put-renamed to apart m entry event (Write falling clock clock_enable enable memory address mask bits) =
-    given-renamed _ _ (put_so to) _ (put_at entry memory address (atoms_value (readable entry) mask) bits) (enabled-renamed to apart m entry event falling clock clock_enable enable)
-    (put_at-renamed to apart entry memory address (atoms_value (readable (renamed_entry to entry)) (renamed_atoms to mask)) (atoms_value (readable entry) mask) bits (entry-atoms to apart entry mask))
-next_put-renamed to apart m entry event (WriteNarrow falling clock clock_enable enable memory address pattern shift bits) =
-    given-renamed _ _ (put_so to) _ (put_at entry memory address (65535 - moved_up pattern (atoms_value (readable entry) shift)) bits)
-    (enabled-renamed to apart m entry event falling clock clock_enable enable)
-    (put_at-renamed to apart entry memory address (65535 - moved_up pattern (atoms_value (readable (renamed_entry to entry)) (renamed_atoms to shift))) (65535 - moved_up pattern (atoms_value (readable entry) shift)) bits
-    (ap (λ s. 65535 - moved_up pattern s) (entry-atoms to apart entry shift)))
-next_put-renamed to apart m entry event other = refl
 
 -- what is given is put under the new names
 put_given-renamed : {A : Type 0} (to : List ℕ → List ℕ) → KeepsApart to → (entries : List (List ℕ × A)) (given : Option (List ℕ × A))
@@ -295,38 +264,140 @@ put_given_word-renamed : (to : List ℕ → List ℕ) → KeepsApart to → (mem
 put_given_word-renamed to apart memories (Some given) = put_word-renamed to apart memories given.memory given.address given.word
 put_given_word-renamed to apart memories None = refl
 
-register-step-renamed : (to : List ℕ → List ℕ) → KeepsApart to → (m : Parts) (entry : Entry) (event : Event) (registers : List (List ℕ × Bool)) (item : Item)
-    → register_step (renamed_parts to m) (renamed_entry to entry) event (renamed_values to registers) (renamed_item to item) ≡ renamed_values to (register_step m entry event registers item)
-register-step-renamed to apart m entry event registers item =
-    ap (put_given (renamed_values to registers)) (next_bit-renamed to apart m entry event item) ∙ put_given-renamed to apart registers (next_bit m entry event item)
+-- what items assign at their edges
+module _ (to : List ℕ → List ℕ) (apart : KeepsApart to) (others edges : Edges) (alike : EdgesRenamed to others edges) (entry : Entry) where
+  enabled-renamed : (falling : Bool) (clock : List ℕ) (clock_enable enable : Atom)
+      → is_enabled others (renamed_entry to entry) falling (to clock) (renamed_atom to clock_enable) (renamed_atom to enable) ≡ is_enabled edges entry falling clock clock_enable enable
+  enabled-renamed falling clock clock_enable enable =
+      ap₂ (λ a b. a && atom_value (readable (renamed_entry to entry)) (renamed_atom to clock_enable) && b) (alike falling clock) (entry-atom to apart entry enable)
+      ∙ ap (λ b. edges falling clock && b && atom_value (readable entry) enable) (entry-atom to apart entry clock_enable)
 
-word-step-renamed : (to : List ℕ → List ℕ) → KeepsApart to → (m : Parts) (entry : Entry) (event : Event) (words : List (List ℕ × ℕ)) (item : Item)
-    → word_step (renamed_parts to m) (renamed_entry to entry) event (renamed_values to words) (renamed_item to item) ≡ renamed_values to (word_step m entry event words item)
-word-step-renamed to apart m entry event words item =
-    ap (put_given (renamed_values to words)) (next_word-renamed to apart m entry event item) ∙ put_given-renamed to apart words (next_word m entry event item)
+  next_bit-renamed : (item : Item) → next_bit others (renamed_entry to entry) (renamed_item to item) ≡ option_map (named_so to) (next_bit edges entry item)
+  next_bit-renamed (FlipFlop falling clock enable reset set target lut) =
+      given-renamed _ _ (named_so to) _ (target, cond (atom_value (readable entry) reset) set (lut_value (readable entry) lut))
+      (ap₂ (λ a b. a && b) (alike falling clock) (entry-atom to apart entry enable))
+      (ap₂ (λ a b. let one : List ℕ × Bool = (to target, cond a set b) in one) (entry-atom to apart entry reset) (entry-lut to apart entry lut))
+  next_bit-renamed (AsyncFlipFlop falling clock reset set target enable lut) =
+      given-renamed _ _ (named_so to) _ (target, cond (atom_value (readable entry) (Whole reset)) set (lut_value (readable entry) lut))
+      (ap₂ (λ a b. a && b) (alike falling clock) (ap₂ (λ a b. a || b) (entry-atom to apart entry (Whole reset)) (entry-atom to apart entry enable)))
+      (ap₂ (λ a b. let one : List ℕ × Bool = (to target, cond a set b) in one) (entry-atom to apart entry (Whole reset)) (entry-lut to apart entry lut))
+  next_bit-renamed other = refl
 
-memory-step-renamed : (to : List ℕ → List ℕ) → KeepsApart to → (m : Parts) (entry : Entry) (event : Event) (memories : List (List ℕ × List ℕ)) (item : Item)
-    → memory_step (renamed_parts to m) (renamed_entry to entry) event (renamed_values to memories) (renamed_item to item) ≡ renamed_values to (memory_step m entry event memories item)
-memory-step-renamed to apart m entry event memories item =
-    ap (put_given_word (renamed_values to memories)) (next_put-renamed to apart m entry event item) ∙ put_given_word-renamed to apart memories (next_put m entry event item)
+  next_word-renamed : (item : Item) → next_word others (renamed_entry to entry) (renamed_item to item) ≡ option_map (named_so to) (next_word edges entry item)
+  next_word-renamed (Read falling clock clock_enable enable target memory address) =
+      where-renamed _ _ (named_so to) _ (taken_from entry target memory address (λ word. word)) (enabled-renamed falling clock clock_enable enable)
+      (taken-renamed to apart entry target memory address (λ word. word))
+  next_word-renamed (ReadNarrow falling clock clock_enable enable target memory address shift pattern) =
+      where-renamed _ _ (named_so to) _ (taken_from entry target memory address (λ word. moved_down word (atoms_value (readable entry) shift) pattern))
+      (enabled-renamed falling clock clock_enable enable)
+      (ap (λ s. taken_from (renamed_entry to entry) (to target) (to memory) (renamed_atoms to address) (λ word. moved_down word s pattern)) (entry-atoms to apart entry shift)
+      ∙ taken-renamed to apart entry target memory address (λ word. moved_down word (atoms_value (readable entry) shift) pattern))
+  next_word-renamed other = refl
+
+  next_put-renamed : (item : Item) → next_put others (renamed_entry to entry) (renamed_item to item) ≡ option_map (put_so to) (next_put edges entry item)
+  next_put-renamed (Write falling clock clock_enable enable memory address mask bits) =
+      given-renamed _ _ (put_so to) _ (put_at entry memory address (atoms_value (readable entry) mask) bits) (enabled-renamed falling clock clock_enable enable)
+      (put_at-renamed to apart entry memory address (atoms_value (readable (renamed_entry to entry)) (renamed_atoms to mask)) (atoms_value (readable entry) mask) bits (entry-atoms to apart entry mask))
+  next_put-renamed (WriteNarrow falling clock clock_enable enable memory address pattern shift bits) =
+      given-renamed _ _ (put_so to) _ (put_at entry memory address (65535 - moved_up pattern (atoms_value (readable entry) shift)) bits)
+      (enabled-renamed falling clock clock_enable enable)
+      (put_at-renamed to apart entry memory address (65535 - moved_up pattern (atoms_value (readable (renamed_entry to entry)) (renamed_atoms to shift))) (65535 - moved_up pattern (atoms_value (readable entry) shift)) bits
+      (ap (λ s. 65535 - moved_up pattern s) (entry-atoms to apart entry shift)))
+  next_put-renamed other = refl
+
+  register-step-renamed : (registers : List (List ℕ × Bool)) (item : Item)
+      → register_step others (renamed_entry to entry) (renamed_values to registers) (renamed_item to item) ≡ renamed_values to (register_step edges entry registers item)
+  register-step-renamed registers item =
+      ap (put_given (renamed_values to registers)) (next_bit-renamed item) ∙ put_given-renamed to apart registers (next_bit edges entry item)
+
+  word-step-renamed : (words : List (List ℕ × ℕ)) (item : Item)
+      → word_step others (renamed_entry to entry) (renamed_values to words) (renamed_item to item) ≡ renamed_values to (word_step edges entry words item)
+  word-step-renamed words item =
+      ap (put_given (renamed_values to words)) (next_word-renamed item) ∙ put_given-renamed to apart words (next_word edges entry item)
+
+  memory-step-renamed : (memories : List (List ℕ × List ℕ)) (item : Item)
+      → memory_step others (renamed_entry to entry) (renamed_values to memories) (renamed_item to item) ≡ renamed_values to (memory_step edges entry memories item)
+  memory-step-renamed memories item =
+      ap (put_given_word (renamed_values to memories)) (next_put-renamed item) ∙ put_given_word-renamed to apart memories (next_put edges entry item)
+
+  -- after all items with an edge have taken effect
+  acted-renamed : (m : Parts) (inputs : List (List ℕ × Bool)) → acted (renamed_parts to m) others (renamed_values to inputs) (renamed_entry to entry) ≡ renamed_entry to (acted m edges inputs entry)
+  unfolding acted
+  acted-renamed m inputs =
+      let registers : List (List ℕ × Bool) = fold (register_step edges entry) entry.registers m.items in
+      let words : List (List ℕ × ℕ) = fold (word_step edges entry) entry.words m.items in
+      let memories : List (List ℕ × List ℕ) = fold (memory_step edges entry) entry.memories m.items in
+      let other : Parts = renamed_parts to m in
+      let before : Entry = renamed_entry to entry in
+      ap (λ r. settled other (renamed_values to inputs) r (fold (word_step others before) before.words other.items) (fold (memory_step others before) before.memories other.items))
+      (fold-renamed (renamed_values to) (renamed_item to) (register_step others before) (register_step edges entry) register-step-renamed entry.registers m.items)
+      ∙ ap₂ (λ w k. settled other (renamed_values to inputs) (renamed_values to registers) w k)
+      (fold-renamed (renamed_values to) (renamed_item to) (word_step others before) (word_step edges entry) word-step-renamed entry.words m.items)
+      (fold-renamed (renamed_values to) (renamed_item to) (memory_step others before) (memory_step edges entry) memory-step-renamed entry.memories m.items)
+      ∙ settled-renamed to apart m inputs registers words memories
+
+-- ---- waves
+
+-- a clock has its new name
+abbrev clock_so : (List ℕ → List ℕ) → Bool × List ℕ → Bool × List ℕ
+clock_so to clock = (clock.0, to clock.1)
+
+clock-renamed : (to : List ℕ → List ℕ) (item : Item) → clock_of (renamed_item to item) ≡ option_map (clock_so to) (clock_of item)
+clock-renamed to (Start memory k word) = refl
+clock-renamed to other = refl
+
+-- whether an item has its edge
+module _ (to : List ℕ → List ℕ) (others edges : Edges) (alike : EdgesRenamed to others edges) where
+  at-edge : (clock : Option (Bool × List ℕ)) → is_at_edge others (option_map (clock_so to) clock) ≡ is_at_edge edges clock
+  at-edge (Some clock) = alike clock.0 clock.1
+  at-edge None = refl
+
+  any-edge : (items : List Item) → list_any (has_its_edge others) (map (renamed_item to) items) ≡ list_any (has_its_edge edges) items
+  any-edge [] = refl
+  any-edge (item ∷ items) = ap₂ (λ a b. a || b) (ap (is_at_edge others) (clock-renamed to item) ∙ at-edge (clock_of item)) (any-edge items)
+
+-- whether its clock is a register
+register-clock : (to : List ℕ → List ℕ) → KeepsApart to → (m : Parts) (clock : Option (Bool × List ℕ)) → is_register_of (renamed_parts to m) (option_map (clock_so to) clock) ≡ is_register_of m clock
+register-clock to apart m (Some clock) =
+    ap (λ entries. is_some (value_in entries (to clock.1))) (flat_map-renamed to (renamed_item to) register_start (register-start-renamed to) m.items)
+    ∙ ap is_some (value_in-renamed to apart (flat_map register_start m.items) clock.1)
+register-clock to apart m None = refl
+
+on-register : (to : List ℕ → List ℕ) → KeepsApart to → (m : Parts) (item : Item) → is_on_register (renamed_parts to m) (renamed_item to item) ≡ is_on_register m item
+on-register to apart m item = ap (is_register_of (renamed_parts to m)) (clock-renamed to item) ∙ register-clock to apart m (clock_of item)
+
+-- an event has as many waves at most
+bound-renamed : (to : List ℕ → List ℕ) → KeepsApart to → (m : Parts) → wave_bound (renamed_parts to m) ≡ wave_bound m
+bound-renamed to apart m = count-renamed (renamed_item to) (is_on_register (renamed_parts to m)) (is_on_register m) (on-register to apart m) m.items
+
+-- after the waves
+waved-renamed : (to : List ℕ → List ℕ) → KeepsApart to → (m : Parts) (most : ℕ) (before after : Entry)
+    → waved (renamed_parts to m) most (renamed_entry to before) (renamed_entry to after) ≡ renamed_entry to (waved m most before after)
+unfolding waved
+waved-renamed to apart m zero before after = refl
+waved-renamed to apart m (suc most) before after =
+    let edges : Edges = edges_between before after in
+    let others : Edges = edges_between (renamed_entry to before) (renamed_entry to after) in
+    let alike : EdgesRenamed to others edges = wave-renamed to apart before after in
+    let next : Entry = acted m edges after.inputs after in
+    ap₂ (λ b last. cond b last (renamed_entry to after)) (any-edge to others edges alike m.items)
+    (ap (waved (renamed_parts to m) most (renamed_entry to after)) (acted-renamed to apart others edges alike after m after.inputs) ∙ waved-renamed to apart m most after next)
+    ∙ (elim (list_any (has_its_edge edges) m.items) as (λ b. cond b (renamed_entry to (waved m most after next)) (renamed_entry to after) ≡ renamed_entry to (cond b (waved m most after next) after)) [ true ↦ refl | false ↦ refl ])
+
+-- ---- an event as a whole
 
 -- after an event that changes its input
 pub changed-renamed : (to : List ℕ → List ℕ) → KeepsApart to → (m : Parts) (entry : Entry) (event : Event) → changed (renamed_parts to m) (renamed_entry to entry) event ≡ renamed_entry to (changed m entry event)
 unfolding changed
 changed-renamed to apart m entry event =
     let inputs : List (List ℕ × Bool) = with_input entry.inputs event.pin event.bit in
-    let registers : List (List ℕ × Bool) = fold (register_step m entry event) entry.registers m.items in
-    let words : List (List ℕ × ℕ) = fold (word_step m entry event) entry.words m.items in
-    let memories : List (List ℕ × List ℕ) = fold (memory_step m entry event) entry.memories m.items in
+    let edges : Edges = edges_by m event in
     let other : Parts = renamed_parts to m in
     let before : Entry = renamed_entry to entry in
-    ap₂ (λ i r. settled other i r (fold (word_step other before event) before.words other.items) (fold (memory_step other before event) before.memories other.items))
-    (with_input-renamed to entry.inputs event.pin event.bit)
-    (fold-renamed (renamed_values to) (renamed_item to) (register_step other before event) (register_step m entry event) (register-step-renamed to apart m entry event) entry.registers m.items)
-    ∙ ap₂ (λ w k. settled other (renamed_values to inputs) (renamed_values to registers) w k)
-    (fold-renamed (renamed_values to) (renamed_item to) (word_step other before event) (word_step m entry event) (word-step-renamed to apart m entry event) entry.words m.items)
-    (fold-renamed (renamed_values to) (renamed_item to) (memory_step other before event) (memory_step m entry event) (memory-step-renamed to apart m entry event) entry.memories m.items)
-    ∙ settled-renamed to apart m inputs registers words memories
+    ap₂ (λ most after. waved other most before after) (bound-renamed to apart m)
+    (ap (λ list. acted other (edges_by other event) list before) (with_input-renamed to entry.inputs event.pin event.bit)
+    ∙ acted-renamed to apart (edges_by other event) edges (event-renamed to apart m event) entry m inputs)
+    ∙ waved-renamed to apart m (wave_bound m) entry (acted m edges inputs entry)
 
 -- after an event
 pub followed-renamed : (to : List ℕ → List ℕ) → KeepsApart to → (m : Parts) (entry : Entry) (event : Event) → followed (renamed_parts to m) (renamed_entry to entry) event ≡ renamed_entry to (followed m entry event)

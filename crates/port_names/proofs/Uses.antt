@@ -13,8 +13,8 @@ use Rattle.vlog_module.specs.declared.modules.Port.{Port}
 use Rattle.vlog_module.specs.declared.sort.Sort.{Sort}
 use Rattle.vlog_module.specs.declared.sort.Sort.TheVariants.{Register, Word, Memory, Wire}
 use Rattle.vlog_module.specs.Uses.{Use, atom_uses, atoms_uses, right_uses, uses_of}
-use Rattle.vlog_module.specs.Uses.Use.{Declares, Reads, ReadsBit, Takes, Assigns, Chooses, AssignsAsync, Starts}
-use Rattle.vlog_module.specs.WellFormed.{Reading, Scope, assigned_by, declared_by, is_first, is_known, is_read_unless, is_sort, is_unless, has_bit, port_sort, read_by, scope_of, section_of, started_by, wire_readings}
+use Rattle.vlog_module.specs.Uses.Use.{Declares, Reads, ReadsBit, Clocks, Takes, Assigns, Chooses, AssignsAsync, Starts}
+use Rattle.vlog_module.specs.WellFormed.{Reading, Scope, assigned_by, declared_by, is_clock, is_first, is_known, is_read_unless, is_sort, is_unless, has_bit, port_sort, read_by, scope_of, section_of, started_by, wire_readings}
 use Rattle.vlog_module.specs.WellFormed.Reading.{plainly, unless}
 use Rattle.port_names.specs.Renamed.{renamed_atom, renamed_atoms, renamed_right, renamed_item, renamed_port, renamed_values}
 use Rattle.port_names.proofs.Apart.{KeepsApart, value_in-renamed, flat_map-changed, flat_map-renamed}
@@ -26,6 +26,7 @@ abbrev pub renamed_use : (List ℕ → List ℕ) → Use → Use
 renamed_use to (Declares sort name) = Declares sort (to name)
 renamed_use to (Reads name) = Reads (to name)
 renamed_use to (ReadsBit name k) = ReadsBit (to name) k
+renamed_use to (Clocks name) = Clocks (to name)
 renamed_use to (Takes sort name) = Takes sort (to name)
 renamed_use to (Assigns sort name) = Assigns sort (to name)
 renamed_use to (Chooses reset set name) = Chooses (to reset) set (to name)
@@ -170,6 +171,7 @@ pub known-renamed : (to : List ℕ → List ℕ) → KeepsApart to → (scope : 
 known-renamed to apart scope (Declares sort name) = refl
 known-renamed to apart scope (Reads name) = ap has_bit (value_in-renamed to apart scope.declared name)
 known-renamed to apart scope (ReadsBit name k) = ap (is_sort Word) (value_in-renamed to apart scope.declared name)
+known-renamed to apart scope (Clocks name) = ap is_clock (value_in-renamed to apart scope.declared name)
 known-renamed to apart scope (Takes sort name) = ap (is_sort sort) (value_in-renamed to apart scope.declared name)
 known-renamed to apart scope (Assigns sort name) = ap (is_sort sort) (value_in-renamed to apart scope.declared name)
 known-renamed to apart scope (Chooses reset set name) = ap (is_sort Register) (value_in-renamed to apart scope.declared name)

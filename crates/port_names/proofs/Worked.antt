@@ -9,7 +9,7 @@ use Rattle.vlog_module.specs.declared.modules.Port.{Port}
 use Rattle.vlog_module.specs.Parts.{Parts}
 use Rattle.vlog_semantics.specs.declared.event.Event.{Event}
 use Rattle.vlog_semantics.specs.Entries.{Entry}
-use Rattle.vlog_semantics.specs.Run.{changed, followed, module_run, run_from, settled, start}
+use Rattle.vlog_semantics.specs.Run.{acted, changed, followed, module_run, run_from, settled, start, waved}
 use Rattle.port_names.specs.Renamed.{entry_renamed, new_name, renamed, renamed_item}
 
 port : List ℕ → Bool → Port
@@ -79,7 +79,7 @@ held clock light bit register = record {
 
 runs : module_run (renamed names (chip (codes "io_0_1_0") (codes "io_0_2_0"))) (up ∷ down ∷ [])
     ≡ held (codes "clk") (codes "led_3") false false ∷ held (codes "clk") (codes "led_3") true false ∷ held (codes "clk") (codes "led_3") false true ∷ []
-unfolding module_run run_from followed changed start settled names chip inverter port up down held
+unfolding module_run run_from followed changed acted waved start settled names chip inverter port up down held
 runs = refl
 
 renames_entry : entry_renamed names (held (codes "io_0_1_0") (codes "io_0_2_0") true false) ≡ held (codes "clk") (codes "led_3") true false

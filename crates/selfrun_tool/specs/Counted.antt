@@ -15,7 +15,7 @@ use Rattle.fabric_model.specs.declared.input_port.InputPort.TheVariants.{Pad, Ou
 use Rattle.fabric_model.specs.Fabric.{fabric_of}
 use Rattle.fabric_model.specs.Cells.{cells_of}
 use Rattle.fabric_model.specs.Rams.{rams_of}
-use Rattle.fabric_model.specs.Wiring.{wiring_of}
+use Rattle.fabric_model.specs.Wiring.{clocked_wiring}
 use Rattle.fabric_model.specs.Steps.{Event, Entry}
 use Rattle.design_answers.specs.Order.{write_order}
 use Rattle.selfrun_tool.specs.declared.counts.Counts.{Counts}
@@ -61,7 +61,7 @@ counts_of db image events entries = record {
   nets = db.chip.nets;
   cells = length (cells_of db image);
   rams = length (rams_of db image);
-  wires = length (write_order (wiring_of (fabric_of db image)));
+  wires = length (write_order (clocked_wiring (fabric_of db image)));
   events = length events;
   explained = length (lines_of (explained db image None));
   ones = ones_in (output_bits entries);

@@ -12,16 +12,18 @@ use Rattle.fabric_model.specs.Within.{IsNetIn, IsPinIn, IsRamIn, IsSignalIn as I
 use Rattle.fabric_model.specs.Drivers.{drivers_of, drives_of, is_driven, nets_read}
 use Rattle.fabric_model.specs.Outputs.{Output, outputs_of}
 use Rattle.fabric_model.specs.Signals.{net_or_0, signal_nets}
-use Rattle.fabric_model.specs.Clocks.{clock_end}
-use Rattle.fabric_model.specs.Clocks.ClockEnd.{at_pin}
+use Rattle.fabric_model.specs.Clocks.{LeadsTo, clock_end}
+use Rattle.fabric_model.specs.Clocks.ClockEnd.{at_pin, at_register}
 use Rattle.graph_order.specs.Wiring.{has}
 use Rattle.fabric_model.proofs.Signals.{IsSignalThere, HasSignals, signal-there}
 use Rattle.fabric_model.proofs.Settling.{outputs-have}
 use Rattle.fabric_model.proofs.Facts.{has-some, has-source, has-left, has-right}
 use Rattle.graph_order.proofs.OneOrder.{has-first}
-use Rattle.fabric_model.proofs.OneValue.{first-driver, first-is, none-driven, count-is}
+use Rattle.fabric_model.proofs.OneValue.{first-driver, first-is, none-driven}
+use Rattle.fabric_model.proofs.Clocking.{clocked-count}
 use Rattle.fabric_model.proofs.Within.{fabric-within, outputs-within as read-by-outputs}
-use Rattle.fabric_model.proofs.Chains.{clock_end-leads}
+use Rattle.fabric_model.proofs.Chains.{clock_end-leads_clocked}
+use Rattle.fabric_model.specs.Joins.{class_of}
 use Rattle.fabric_model.specs.Links.{class_in}
 use Rattle.fabric_wiring.specs.declared.drive.Rule.{Rule as KeptRule}
 use Rattle.fabric_wiring.specs.declared.drive.Rule.TheVariants.{PinBit, Constant, Input, TableEntry, MajorityOf, RegisterBit, ReadBit, Copied}
@@ -37,7 +39,7 @@ use Rattle.fabric_module.proofs.Rights.{IsPlaceIn}
 use Rattle.fabric_module.proofs.Beginning.{IsPorted}
 use Rattle.fabric_module.proofs.Configured.{fabric-started}
 use Rattle.fabric_module.proofs.Settled.{IsWritable}
-use Rattle.fabric_module.proofs.Ticks.{leads-place}
+use Rattle.fabric_module.proofs.Ticks.{leads-place, leads-index}
 use Rattle.fabric_module.proofs.Design.{fabric-writable}
 use Rattle.vlog_emit.specs.Each.{nets_in, IsSignalIn, IsRegisterIn, IsRuleIn}
 use Rattle.vlog_emit.proofs.Kept.{end-is}
@@ -119,7 +121,7 @@ module _ (design : Kept) (is : IsDesign design) where
   pub order-within : All (λ class. class < nets_in design) design.order
   order-within = All-from_get_or (λ class. class < nets_in design) design.order 0 (λ place less.
       let below = (is.2.kept.order.each place less).ready.within in
-      let same = count-is fabric in
+      let same = clocked-count fabric in
       let nets = count in
       omega arith)
 
@@ -194,4 +196,14 @@ module _ (design : Kept) (is : IsDesign design) where
       let ends : clock_end fabric net ≡ at_pin place turned = sym (end-is fabric design is.2.kept net below) ∙ at in
       subst (λ pins. place < length pins) (sym is.2.kept.inputs)
       (leads-place fabric writable
-      (clock_end-leads fabric (fabric-within is.0 is.1 is.2.fit design.parts.options) design.order is.2.kept.order net) place turned ends)
+      (clock_end-leads_clocked fabric (fabric-within is.0 is.1 is.2.fit design.parts.options) design.order is.2.kept.order net) place turned ends)
+
+  -- or at a register that is there
+  pub register-within : (net : ℕ) → net < nets_in design → (class place : ℕ) (turned : Bool) → end_in design.ends (class_in design.parts.links net) ≡ at_register class place turned
+      → place < length design.parts.registers.items
+  register-within net below class place turned at =
+      let within = fabric-within is.0 is.1 is.2.fit design.parts.options in
+      let ends : clock_end fabric net ≡ at_register class place turned = sym (end-is fabric design is.2.kept net below) ∙ at in
+      subst (λ registers. place < length registers) (sym is.2.kept.parts.registers)
+      (leads-index fabric within (class_of fabric.joins net) class place turned
+      (subst (LeadsTo fabric (class_of fabric.joins net)) ends (clock_end-leads_clocked fabric within design.order is.2.kept.order net)))

@@ -171,7 +171,7 @@ pub(crate) fn input_name(alloc: Global, design: &Design, place: usize) -> Result
 }
 
 /// The name of the register with an index.
-fn register_at(alloc: Global, design: &Design, place: usize) -> Result<Name, AllocError>
+pub(crate) fn register_at(alloc: Global, design: &Design, place: usize) -> Result<Name, AllocError>
     requires { place < length design.now.parts.registers.items }
     ensures { IfOk result (λ name. EachFabric design.now (λ fabric. name ≡ register_at fabric place)) }
 {

@@ -11,8 +11,8 @@ ghost use Rattle.fabric_module.specs.Written.{clock_name, is_falling, output_por
 ghost use Rattle.vlog_emit.specs.Each.{EachFabric, IsRegisterIn, IsSignalIn, nets_in};
 
 use crate::atoms::{
-    data_atoms, input_atom, input_name, lut_of, pattern_of, port_atoms, setting_wire, shift_atoms,
-    signal_atom,
+    data_atoms, input_atom, input_name, lut_of, pattern_of, port_atoms, register_at, setting_wire,
+    shift_atoms, signal_atom,
 };
 use crate::rights::class_right;
 use fabric::Design;
@@ -151,7 +151,7 @@ pub(crate) fn output_assign(
     Ok(Item::Assign { name, value })
 }
 
-/// The port at which the clock chain from a clock net ends, or `None` if there is no net or the chain ends elsewhere.
+/// The port or the register at which the clock chain from a clock net ends, or `None` if there is no net or the chain ends elsewhere.
 #[tactic(auto, unfolding(fabric_module::specs::Written::clock_name))]
 fn clock_name(alloc: Global, design: &Design, net: Option<u32>) -> Result<Option<Name>, AllocError>
     requires design { IsDesign design.now }
@@ -164,7 +164,7 @@ fn clock_name(alloc: Global, design: &Design, net: Option<u32>) -> Result<Option
     }
 }
 
-/// The port at which the clock chain from a clock net ends, or `None` if it ends elsewhere.
+/// The port or the register at which the clock chain from a clock net ends, or `None` if it ends elsewhere.
 fn end_name(alloc: Global, design: &Design, net: u32) -> Result<Option<Name>, AllocError>
     requires design { IsDesign design.now }
     requires within { net < nets_in design.now }
@@ -175,12 +175,16 @@ fn end_name(alloc: Global, design: &Design, net: u32) -> Result<Option<Name>, Al
             let name = input_name(alloc, design, place as usize)?;
             Ok(Some(name))
         }
+        ClockEnd::Register { place, .. } => {
+            let name = register_at(alloc, design, place as usize)?;
+            Ok(Some(name))
+        }
         ClockEnd::Still(_) => Ok(None),
         ClockEnd::Logic => Ok(None),
     }
 }
 
-/// Whether the item of a user is written for falling edges of the port at which its clock chain ends.
+/// Whether the item of a user is written for falling edges of the port or the register at which its clock chain ends.
 #[tactic(auto, unfolding(fabric_module::specs::Written::is_falling))]
 fn is_falling(design: &Design, inverted: bool, clock: Option<u32>) -> bool
     requires { IsNetIn (nets_in design.now) clock }

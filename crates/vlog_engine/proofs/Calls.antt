@@ -1,7 +1,6 @@
 -- What a call leaves in a lane, half by half.
 use Rattle.std.proofs.Common.{◌≡◌, ℕ, Bool, true, false, List, [], ap, ap₂, arith, cond, length, refl, subst, sym, ◌∙◌}
 use Rattle.std.specs.Prelude.{map}
-use Rattle.vlog_semantics.specs.declared.event.Event.{Event}
 use Rattle.vlog_semantics.specs.declared.layout.SlotLayout.{SlotLayout}
 use Rattle.vlog_semantics.specs.Steps.{operand_value}
 use Rattle.vlog_engine.specs.declared.board.Board.{Board}
@@ -11,6 +10,7 @@ use Rattle.vlog_engine.specs.Boards.{IsChangedIn, IsClockedIn, IsIdleIn, IsSettl
 use Rattle.vlog_engine.specs.Groups.{IsGroup}
 use Rattle.vlog_engine.specs.Marks.{AreRising, IsTracked}
 use Rattle.vlog_engine.specs.Passing.{IsClocked, IsSettled}
+use Rattle.vlog_engine.specs.StepKinds.{Step}
 use Rattle.vlog_engine.proofs.Lanes.{lane-length}
 use Rattle.vlog_engine.proofs.Stored.{clocked-like}
 
@@ -54,28 +54,28 @@ shown-idle active lane a b same known off = record {
 
 -- ---- lanes whose input changes
 
-pub clocked-then-idle : {V : Type 0} {g : Ghosts V} (event : Event) (lane : ℕ) (a b c : Board V g) → StaysLaidOut a b → IsClockedIn event lane a b → IsIdleIn lane b c
-    → length (cells_in b lane) ≡ length (cells_in a lane) → IsClockedIn event lane a c
-clocked-then-idle event lane a b c same one two size = record {
+pub clocked-then-idle : {V : Type 0} {g : Ghosts V} (step : Step) (lane : ℕ) (a b c : Board V g) → StaysLaidOut a b → IsClockedIn step lane a b → IsIdleIn lane b c
+    → length (cells_in b lane) ≡ length (cells_in a lane) → IsClockedIn step lane a c
+clocked-then-idle step lane a b c same one two size = record {
   group = one.group;
   grouped = one.grouped;
-  clocked = clocked-like a.circuit.bits event one.group (words_in a lane) (words_in a lane) (words_in b lane) (words_in c lane) (memories_in a lane) (memories_in a lane) (memories_in b lane) (memories_in c lane)
+  clocked = clocked-like a.circuit.bits step one.group (words_in a lane) (words_in a lane) (words_in b lane) (words_in c lane) (memories_in a lane) (memories_in a lane) (memories_in b lane) (memories_in c lane)
       (cells_in a lane) (cells_in a lane) (cells_in b lane) (cells_in c lane) one.clocked refl (sym two.words) refl (sym two.memories) refl (sym two.cells);
   tracked = λ first count rising room tracked.
       two.tracked first count (subst (λ (k : Circuit). AreRising first count k.gates.items) (sym same.circuit) rising) (omega (arith, room, size)) (one.tracked first count rising room tracked);
 }
 
-pub idle-then-clocked : {V : Type 0} {g : Ghosts V} (event : Event) (lane : ℕ) (a b c : Board V g) → StaysLaidOut a b → IsIdleIn lane a b → IsClockedIn event lane b c → IsClockedIn event lane a c
-idle-then-clocked event lane a b c same one two = record {
+pub idle-then-clocked : {V : Type 0} {g : Ghosts V} (step : Step) (lane : ℕ) (a b c : Board V g) → StaysLaidOut a b → IsIdleIn lane a b → IsClockedIn step lane b c → IsClockedIn step lane a c
+idle-then-clocked step lane a b c same one two = record {
   group = two.group;
   grouped =
-      subst (λ n. IsGroup event a.layout.first_wire a.circuit.bits n a.circuit.roots.items a.layout.plan two.group) same.words_room
-      (subst (λ (k : SlotLayout). IsGroup event k.first_wire a.circuit.bits b.next_words.len a.circuit.roots.items k.plan two.group) same.layout
-      (subst (λ (k : Circuit). IsGroup event b.layout.first_wire k.bits b.next_words.len k.roots.items b.layout.plan two.group) same.circuit two.grouped));
+      subst (λ n. IsGroup step a.layout.first_wire a.circuit.bits n a.circuit.roots.items a.layout.plan two.group) same.words_room
+      (subst (λ (k : SlotLayout). IsGroup step k.first_wire a.circuit.bits b.next_words.len a.circuit.roots.items k.plan two.group) same.layout
+      (subst (λ (k : Circuit). IsGroup step b.layout.first_wire k.bits b.next_words.len k.roots.items b.layout.plan two.group) same.circuit two.grouped));
   clocked =
-      clocked-like a.circuit.bits event two.group (words_in a lane) (words_in b lane) (words_in c lane) (words_in c lane) (memories_in a lane) (memories_in b lane) (memories_in c lane) (memories_in c lane)
+      clocked-like a.circuit.bits step two.group (words_in a lane) (words_in b lane) (words_in c lane) (words_in c lane) (memories_in a lane) (memories_in b lane) (memories_in c lane) (memories_in c lane)
       (cells_in a lane) (cells_in b lane) (cells_in c lane) (cells_in c lane)
-      (subst (λ (k : Circuit). IsClocked true k.bits event two.group (words_in b lane) (words_in c lane) (memories_in b lane) (memories_in c lane) (cells_in b lane) (cells_in c lane)) same.circuit two.clocked)
+      (subst (λ (k : Circuit). IsClocked true k.bits step two.group (words_in b lane) (words_in c lane) (memories_in b lane) (memories_in c lane) (cells_in b lane) (cells_in c lane)) same.circuit two.clocked)
       one.words refl one.memories refl one.cells refl;
   tracked = λ first count rising room tracked.
       two.tracked first count (subst (λ (k : Circuit). AreRising first count k.gates.items) (sym same.circuit) rising) (omega (arith, room, ap (λ (list : List Bool). length list) one.cells))
@@ -97,9 +97,9 @@ same-size {g = g} lane a b same =
       ap (λ (k : Circuit). k.bits) same.circuit,
     )
 
-pub changed-in : {V : Type 0} {g : Ghosts V} (event : Event) (lane : ℕ) (settling showing : Bool) (a b c d : Board V g) → StaysLaidOut a b → StaysLaidOut b c → IsClockedIn event lane a b
-    → IsSettledIn settling lane b c → settling ≡ true → IsShownIn showing lane c d → showing ≡ true → IsChangedIn event lane a d
-changed-in event lane settling showing a b c d same same_two clocked settled on shown on_two =
+pub changed-in : {V : Type 0} {g : Ghosts V} (step : Step) (lane : ℕ) (settling showing : Bool) (a b c d : Board V g) → StaysLaidOut a b → StaysLaidOut b c → IsClockedIn step lane a b
+    → IsSettledIn settling lane b c → settling ≡ true → IsShownIn showing lane c d → showing ≡ true → IsChangedIn step lane a d
+changed-in step lane settling showing a b c d same same_two clocked settled on shown on_two =
     let size = same-size lane a b same in
     let circuits : c.circuit ≡ a.circuit = same_two.circuit ∙ same.circuit in
     record {
@@ -107,7 +107,7 @@ changed-in event lane settling showing a b c d same same_two clocked settled on 
       grouped = clocked.grouped;
       between = cells_in b lane;
       size = size;
-      clocked = clocked-like a.circuit.bits event clocked.group (words_in a lane) (words_in a lane) (words_in b lane) (words_in d lane) (memories_in a lane) (memories_in a lane) (memories_in b lane) (memories_in d lane)
+      clocked = clocked-like a.circuit.bits step clocked.group (words_in a lane) (words_in a lane) (words_in b lane) (words_in d lane) (memories_in a lane) (memories_in a lane) (memories_in b lane) (memories_in d lane)
           (cells_in a lane) (cells_in a lane) (cells_in b lane) (cells_in b lane) clocked.clocked refl (sym (shown.words ∙ settled.words)) refl (sym (shown.memories ∙ settled.memories)) refl refl;
       settled = λ first count rising room tracked.
           let rising_now = subst (λ (k : Circuit). AreRising first count k.gates.items) (sym same.circuit) rising in

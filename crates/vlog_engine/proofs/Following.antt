@@ -1,8 +1,7 @@
 -- What cells show after an event, and at the start.
-use Rattle.std.proofs.Common.{◌≡◌, ℕ, ◌+◌, ◌<◌, ◌≤◌, Bool, true, false, List, [], ap, ap₂, arith, fold, get_or, length, length-set, refl, set, ◌∙◌}
+use Rattle.std.proofs.Common.{◌≡◌, ℕ, ◌+◌, ◌≤◌, Bool, true, false, List, [], ap, ap₂, arith, fold, get_or, length, refl, ◌∙◌}
 use Rattle.std.specs.Prelude.{map}
 use Rattle.vlog_module.specs.Parts.{Parts}
-use Rattle.vlog_semantics.specs.declared.event.Event.{Event}
 use Rattle.vlog_semantics.specs.declared.layout.SlotLayout.{SlotLayout}
 use Rattle.vlog_semantics.specs.declared.layout.Start.{Start}
 use Rattle.vlog_semantics.specs.declared.plan.Plan.{Plan}
@@ -12,15 +11,17 @@ use Rattle.vlog_semantics.specs.Entries.{Entry}
 use Rattle.vlog_semantics.specs.Laying.{Begins, IsLaidOut, ShowsEntry, bit_count, word_count}
 use Rattle.vlog_semantics.specs.ModuleSlots.{module_wires}
 use Rattle.vlog_semantics.specs.Named.{values_of}
-use Rattle.vlog_semantics.specs.Run.{followed, input_names, is_same_bit, readable, start}
-use Rattle.vlog_semantics.specs.Steps.{bits_after, flip_slot, memories_after, operand_value, put_written, read_slot, settled_slots, words_after, written_by}
+use Rattle.vlog_semantics.specs.Run.{readable, start}
+use Rattle.vlog_semantics.specs.Steps.{flips_after, memories_after, operand_value, put_written, read_slot, settled_slots, words_after, written_by}
 use Rattle.vlog_semantics.proofs.Cells.{AreWords}
-use Rattle.vlog_semantics.proofs.Showing.{bits-count, shown-changed, shown-start, start-bits, start-words, words-count}
+use Rattle.vlog_semantics.proofs.Showing.{ShowsStep, bits-count, shown-start, start-bits, start-words, words-count}
 use Rattle.vlog_engine.specs.declared.circuit.Circuit.{Circuit}
 use Rattle.vlog_engine.specs.declared.groups.Group.{Group}
 use Rattle.vlog_engine.specs.Circuits.{AreSources, IsCircuit, shown_by}
 use Rattle.vlog_engine.specs.Groups.{IsGroup}
+use Rattle.vlog_engine.specs.StepKinds.{IsPinnedBelow, Step, pinned, slots_of}
 use Rattle.vlog_engine.specs.Passing.{IsClocked, IsSettled}
+use Rattle.vlog_engine.proofs.StepKinds.{length-pinned}
 use Rattle.vlog_engine.proofs.Operands.{Show, outputs-shown, reads-shown, writes-shown}
 use Rattle.vlog_engine.proofs.Passed.{clocked-sources, first-within, settled-shown, size}
 use Rattle.vlog_engine.proofs.Sources.{rest-cells, length-flips}
@@ -41,49 +42,50 @@ module _ (m : Parts) (layout : SlotLayout) (circuit : Circuit) (laid : IsLaidOut
     are = shows.cells_are;
   }
 
-  pub followed-shown : (entry : Entry) (event : Event) (group : Group) (words words_now : List ℕ) (memories memories_now : List (List ℕ)) (outputs outputs_now before between after : List Bool) (marks : List ℕ)
-      → ShowsCells m circuit entry before words memories outputs → event.pin < length (input_names m.ports) → event.pin < layout.first_wire
-      → is_same_bit event.bit (get_or (values_of (readable entry).bits) event.pin false) ≡ false
+  -- a step whose items give what the items of the module give
+  pub stepped-shown : (entry next : Entry) (step : Step) (group : Group) (words words_now : List ℕ) (memories memories_now : List (List ℕ)) (outputs outputs_now before between after : List Bool) (marks : List ℕ)
+      → ShowsCells m circuit entry before words memories outputs → IsPinnedBelow layout.first_wire step
       → AreWords words → AreWords words_now → length words_now ≡ length words → bit_count m ≤ length before → bit_count m ≤ length between
-      → IsGroup event layout.first_wire (bit_count m) (word_count m) circuit.roots.items layout.plan group
-      → IsClocked true (bit_count m) event group words words_now memories memories_now before between
+      → IsGroup step layout.first_wire (bit_count m) (word_count m) circuit.roots.items layout.plan group
+      → IsClocked true (bit_count m) step group words words_now memories memories_now before between
       → IsSettled true layout.first_wire (bit_count m) circuit.gates.items circuit.settles.items between after marks
       → outputs_now ≡ map (operand_value after []) circuit.outputs.items
-      → ShowsCells m circuit (followed m entry event) after words_now memories_now outputs_now
-  followed-shown entry event group words words_now memories memories_now outputs outputs_now before between after marks shows within pinned differs small small_now same_words room room_between grouped clocked settled outputs_is =
+      → ShowsStep m layout.plan next (pinned step (flips_after layout.plan (slots_of step) (values_of (readable entry).bits) words))
+      (words_after layout.plan (slots_of step) (values_of (readable entry).bits) words memories) (memories_after layout.plan (slots_of step) (values_of (readable entry).bits) words memories)
+      → ShowsCells m circuit next after words_now memories_now outputs_now
+  stepped-shown entry next step group words words_now memories memories_now outputs outputs_now before between after marks shows below small small_now same_words room room_between grouped clocked settled outputs_is next_shows =
       let plan : Plan = layout.plan in
       let roots : List ℕ = circuit.roots.items in
       let bits : List Bool = values_of (readable entry).bits in
       let show = shown-show entry before words memories outputs shows small in
-      let words_are : words_now ≡ words_after plan event bits words memories =
-      clocked.known.words_are ∙ ap (fold (read_slot event before [] memories) words) grouped.reads
-      ∙ reads-shown (bit_count m) (word_count m) roots bits words before show event memories words plan.reads.items in
-      let memories_are : memories_now ≡ memories_after plan event bits words memories =
-      clocked.known.memories_are ∙ ap (λ list. fold put_written memories (map (written_by event before [] memories) list)) grouped.writes
-      ∙ writes-shown (bit_count m) (word_count m) roots bits words before show event memories memories plan.writes.items in
+      let words_are : words_now ≡ words_after plan (slots_of step) bits words memories =
+      clocked.known.words_are ∙ ap (fold (read_slot (slots_of step) before [] memories) words) grouped.reads
+      ∙ reads-shown (bit_count m) (word_count m) roots bits words before show step memories words plan.reads.items in
+      let memories_are : memories_now ≡ memories_after plan (slots_of step) bits words memories =
+      clocked.known.memories_are ∙ ap (λ list. fold put_written memories (map (written_by (slots_of step) before [] memories) list)) grouped.writes
+      ∙ writes-shown (bit_count m) (word_count m) roots bits words before show step memories memories plan.writes.items in
       let count_now : length words_now ≡ word_count m = same_words ∙ show.words_count in
-      let changed : List Bool = set (fold (flip_slot event bits words) bits plan.flips.items) event.pin event.bit in
+      let flipped : List Bool = flips_after plan (slots_of step) bits words in
+      let changed : List Bool = pinned step flipped in
       let changed_size : length changed ≡ bit_count m =
-      length-set (fold (flip_slot event bits words) bits plan.flips.items) event.pin event.bit
-      ∙ length-flips event layout.first_wire (bit_count m) (word_count m) roots bits words before show bits plan.flips.items ∙ show.bits_count in
+      length-pinned step flipped ∙ length-flips step layout.first_wire (bit_count m) (word_count m) roots bits words before show bits plan.flips.items ∙ show.bits_count in
       let sources : AreSources layout.first_wire changed words_now between =
-      clocked-sources m layout circuit laid made event group bits words words_now memories memories_now before between pinned grouped show room count_now clocked in
+      clocked-sources m layout circuit laid made step group bits words words_now memories memories_now before between below grouped show room count_now clocked in
       let last : Show (bit_count m) (word_count m) roots (settled_slots plan (module_wires m) words_now changed) words_now after =
       settled-shown m layout circuit laid made changed words_now between after marks changed_size count_now small_now room_between sources settled in
-      let bits_are : settled_slots plan (module_wires m) words_now changed ≡ bits_after plan (module_wires m) event bits words memories =
+      let bits_are : settled_slots plan (module_wires m) words_now changed ≡ settled_slots plan (module_wires m) (words_after plan (slots_of step) bits words memories) changed =
       ap (λ w. settled_slots plan (module_wires m) w changed) words_are in
-      let next = shown-changed m plan entry event bits words memories outputs laid.plan shows.shown within differs in
       record {
-        cells_are = last.are ∙ ap (λ b. cells_of b words_now) (bits_are ∙ next.bits_are);
+        cells_are = last.are ∙ ap (λ b. cells_of b words_now) (bits_are ∙ next_shows.bits_are);
         shown = record {
-          named = next.named;
+          named = next_shows.named;
           bits_are = refl;
-          words_are = words_are ∙ next.words_are;
-          memories_are = memories_are ∙ next.memories_are;
+          words_are = words_are ∙ next_shows.words_are;
+          memories_are = memories_are ∙ next_shows.memories_are;
           outputs_are = outputs_is ∙ ap (map (operand_value after [])) made.outputs
               ∙ outputs-shown (bit_count m) (word_count m) roots (settled_slots plan (module_wires m) words_now changed) words_now after last plan.outputs.items
               ∙ ap₂ (λ b w. map (operand_value b w) plan.outputs.items) bits_are words_are
-              ∙ next.outputs_are;
+              ∙ next_shows.outputs_are;
         };
       }
 

@@ -1,3 +1,5 @@
+-- the two kinds of steps
+pub mod StepKinds
 -- bits of words with a bit for each of sixty-four lanes
 pub mod Bits
 -- marks on wires, and what writes and sweeps leave
@@ -42,5 +44,9 @@ pub mod Rooms
 pub mod Steps
 -- what a call leaves in a lane, half by half
 pub mod Calls
+-- the inputs and registers of a module have names of their own
+pub mod Apart
+-- what a lane shows after waves
+pub mod Waves
 -- what a board has at the start
 pub mod First

@@ -1,10 +1,9 @@
--- Cells show what bits and words become at an event.
+-- Cells show what bits and words become in a step.
 use Rattle.std.proofs.Common.{◌≡◌, ℕ, zero, suc, ◌+◌, ◌-◌, ◌*◌, ◌<◌, ◌≤◌, Bool, true, false, cond, List, [], ◌∷◌, ◌++◌, ap, arith, drop, flat_map, fold, get_or, inl, inr, length, refl, replicate, set, subst, sym, take, ◌∙◌}
 use Rattle.std.specs.Prelude.{map}
 use Rattle.std.proofs.lemmas.Bool.{cases_eq, cases_lt}
 use Rattle.std.proofs.lemmas.List.{ext_get_or, get_or-drop, get_or-set_other, get_or-set_same, get_or-take, get_or_append_left, length-append, length-drop, length-map, length-replicate, length-set, length-take-le, set-append_left, take-append-drop}
 use Rattle.vlog_module.specs.Parts.{Parts}
-use Rattle.vlog_semantics.specs.declared.event.Event.{Event}
 use Rattle.vlog_semantics.specs.declared.gates.Gate.{Gate}
 use Rattle.vlog_semantics.specs.declared.layout.SlotLayout.{SlotLayout}
 use Rattle.vlog_semantics.specs.declared.plan.Operand.TheVariants.{Slot}
@@ -18,14 +17,16 @@ use Rattle.vlog_engine.specs.declared.circuit.Circuit.{Circuit}
 use Rattle.vlog_engine.specs.declared.groups.Group.{Group}
 use Rattle.vlog_engine.specs.Circuits.{AreSources, IsCircuit, kept_gate, shown_by}
 use Rattle.vlog_engine.specs.Groups.{IsGroup, flip_at}
+use Rattle.vlog_engine.specs.StepKinds.{IsPinnedBelow, Step, pinned, slots_of}
 use Rattle.vlog_engine.specs.Marks.{AreRising, IsEven, gate_at}
 use Rattle.vlog_engine.specs.Passing.{IsClocked, IsSettled}
 use Rattle.vlog_engine.specs.Resolved.{resolved_settle}
 use Rattle.vlog_engine.specs.Roots.{first_roots, held_by, root, root_step}
+use Rattle.vlog_engine.proofs.StepKinds.{length-pinned, pinned-past}
 use Rattle.vlog_engine.proofs.Joining.{AreBelow, AreNumbered, AreRoots, held-targets, numbered-end, roots-known, roots-own}
 use Rattle.vlog_engine.proofs.Modules.{module-numbered, module-settles}
 use Rattle.vlog_engine.proofs.Operands.{Show, operand-shown, shown-at}
-use Rattle.vlog_engine.proofs.Sources.{Agree, agree-set, rest-cells, flips-agree, flips-stay, length-flips, tail-end, tail-part}
+use Rattle.vlog_engine.proofs.Sources.{Agree, agree-pinned, rest-cells, flips-agree, flips-stay, length-flips, tail-end, tail-part}
 use Rattle.vlog_engine.proofs.Wired.{kept-at, kept-rise, settled-is, shown-cell, wire-shown}
 
 numbered-parts : (from count total : ℕ) (gates : List Gate) (place : ℕ) → AreNumbered from count total gates → place < length gates
@@ -237,18 +238,18 @@ module _ (m : Parts) (layout : SlotLayout) (circuit : Circuit) (laid : IsLaidOut
 
   -- ---- clocked items
 
-  pub clocked-sources : (event : Event) (group : Group) (bits : List Bool) (words next_words : List ℕ) (memories next_memories : List (List ℕ)) (before after : List Bool) → event.pin < first
-      → IsGroup event first count (word_count m) roots layout.plan group → Show count (word_count m) roots bits words before → count ≤ length before → length next_words ≡ word_count m
-      → IsClocked true count event group words next_words memories next_memories before after
-      → AreSources first (set (fold (flip_slot event bits words) bits layout.plan.flips.items) event.pin event.bit) next_words after
-  clocked-sources event group bits words next_words memories next_memories before after pinned grouped show room same_words clocked =
+  pub clocked-sources : (step : Step) (group : Group) (bits : List Bool) (words next_words : List ℕ) (memories next_memories : List (List ℕ)) (before after : List Bool) → IsPinnedBelow first step
+      → IsGroup step first count (word_count m) roots layout.plan group → Show count (word_count m) roots bits words before → count ≤ length before → length next_words ≡ word_count m
+      → IsClocked true count step group words next_words memories next_memories before after
+      → AreSources first (pinned step (fold (flip_slot (slots_of step) bits words) bits layout.plan.flips.items)) next_words after
+  clocked-sources step group bits words next_words memories next_memories before after below grouped show room same_words clocked =
       let stored : List Bool = clocked.stored in
       let flips = layout.plan.flips.items in
-      let flipped : List Bool = fold (flip_slot event bits words) bits flips in
+      let flipped : List Bool = fold (flip_slot (slots_of step) bits words) bits flips in
       let at_root : (cell : ℕ) → (cell < count → cell < first) → cell < total → cell_at before cell ≡ cell_at (cells_of bits words) cell =
       λ cell source inside. sym (ap (cell_at before) (own cell source inside)) ∙ shown-at count (word_count m) roots bits words before cell show inside in
-      let runs : fold (flip_slot event before []) stored group.flips.items ≡ fold (flip_slot event before []) stored (flat_map (flip_at event first count (word_count m) roots) flips) =
-      ap (fold (flip_slot event before []) stored) grouped.flips in
+      let runs : fold (flip_slot (slots_of step) before []) stored group.flips.items ≡ fold (flip_slot (slots_of step) before []) stored (flat_map (flip_at step first count (word_count m) roots) flips) =
+      ap (fold (flip_slot (slots_of step) before []) stored) grouped.flips in
       let begun : Agree first stored bits = record {
         some_room = omega (arith, first-within, room, clocked.known.size);
         other_room = omega (arith, first-within, show.bits_count);
@@ -256,18 +257,18 @@ module _ (m : Parts) (layout : SlotLayout) (circuit : Circuit) (laid : IsLaidOut
             clocked.known.same cell (λ less. omega (arith, inside, first-within)) ∙ at_root cell (λ name. inside) (omega (arith, inside, first-within))
             ∙ get_or_append_left bits (tail_of words) false cell (omega (arith, inside, first-within, show.bits_count));
       } in
-      let agreed = agree-set first _ flipped event.pin event.bit (flips-agree event first count (word_count m) roots bits words before show stored bits flips begun) in
-      let size_now : length (set flipped event.pin event.bit) ≡ count =
-      length-set flipped event.pin event.bit ∙ length-flips event first count (word_count m) roots bits words before show bits flips ∙ show.bits_count in
+      let agreed = agree-pinned step first _ flipped (flips-agree step first count (word_count m) roots bits words before show stored bits flips begun) in
+      let size_now : length (pinned step flipped) ≡ count =
+      length-pinned step flipped ∙ length-flips step first count (word_count m) roots bits words before show bits flips ∙ show.bits_count in
       record {
-        below = λ cell inside. ap (λ list. cell_at list cell) (clocked.are ∙ ap (λ list. set list event.pin event.bit) runs) ∙ agreed.same cell inside;
+        below = λ cell inside. ap (λ list. cell_at list cell) (clocked.are ∙ ap (pinned step) runs) ∙ agreed.same cell inside;
         rest = λ place inside.
             let cell : ℕ = count + place in
             let source : cell < count → cell < first = λ less. absurd (omega (arith, less)) in
             let here : cell_at after cell ≡ cell_at stored cell =
-            ap (λ list. cell_at list cell) (clocked.are ∙ ap (λ list. set list event.pin event.bit) runs)
-            ∙ get_or-set_other _ event.pin cell event.bit false (λ same. omega (arith, same, pinned, first-within))
-            ∙ flips-stay event first count (word_count m) roots bits words before show stored flips cell (omega (arith, first-within)) in
+            ap (λ list. cell_at list cell) (clocked.are ∙ ap (pinned step) runs)
+            ∙ pinned-past step _ first cell below (omega (arith, first-within))
+            ∙ flips-stay step first count (word_count m) roots bits words before show stored flips cell (omega (arith, first-within)) in
             let was : (p : ℕ) → p < 16 * word_count m + 2 → cell_at before (count + p) ≡ get_or (tail_of words) p false =
             λ p within. at_root (count + p) (λ less. absurd (omega (arith, less))) (omega (arith, within))
             ∙ ap (λ n. cell_at (cells_of bits words) (n + p)) (sym show.bits_count) ∙ rest-cells bits words p in

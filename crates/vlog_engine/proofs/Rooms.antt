@@ -1,9 +1,8 @@
--- An event changes no more than the plan has items.
+-- A step changes no more than the plan has items.
 use Rattle.std.proofs.Common.{ℕ, ◌≤◌, Bool, true, false, cond, List, [], ◌∷◌, ap, arith, flat_map, length, length-append, ltb}
 use Rattle.std.specs.Prelude.{◌&&◌}
-use Rattle.vlog_semantics.specs.Steps.{is_edge_of}
-use Rattle.vlog_semantics.specs.declared.event.Event.{Event}
 use Rattle.vlog_semantics.specs.declared.plan.Plan.{Plan}
+use Rattle.vlog_engine.specs.StepKinds.{Step, picks}
 use Rattle.vlog_engine.specs.declared.groups.Group.{Group}
 use Rattle.vlog_engine.specs.Groups.{IsGroup, flip_at, write_at}
 use Rattle.vlog_engine.specs.Resolved.{resolved_flip, resolved_write}
@@ -17,13 +16,13 @@ few : {A B : Type 0} (f : A → List B) (xs : List A) → ((x : A) → length (f
 few f [] each = omega arith
 few f (x ∷ xs) each = omega (arith, length-append (f x) (flat_map f xs), each x, few f xs each)
 
-module _ (event : Event) (first bits words : ℕ) (roots : List ℕ) (plan : Plan) (group : Group) (grouped : IsGroup event first bits words roots plan group) where
+module _ (step : Step) (first bits words : ℕ) (roots : List ℕ) (plan : Plan) (group : Group) (grouped : IsGroup step first bits words roots plan group) where
   pub flips-few : length group.flips.items ≤ length plan.flips.items
   flips-few =
       omega (
         arith,
         ap length grouped.flips,
-        few (flip_at event first bits words roots) plan.flips.items (λ flip. one (is_edge_of event flip.edge && ltb flip.target first) (resolved_flip bits words roots flip)),
+        few (flip_at step first bits words roots) plan.flips.items (λ flip. one (picks step flip.edge && ltb flip.target first) (resolved_flip bits words roots flip)),
       )
 
   pub writes-few : length group.writes.items ≤ length plan.writes.items
@@ -31,5 +30,5 @@ module _ (event : Event) (first bits words : ℕ) (roots : List ℕ) (plan : Pla
       omega (
         arith,
         ap length grouped.writes,
-        few (write_at event bits words roots) plan.writes.items (λ write. one (is_edge_of event write.port.edge) (resolved_write bits words roots write)),
+        few (write_at step bits words roots) plan.writes.items (λ write. one (picks step write.port.edge) (resolved_write bits words roots write)),
       )

@@ -8,7 +8,7 @@ use Rattle.vlog_semantics.specs.Laying.{IsLaidOut}
 use Rattle.vlog_semantics.specs.ModuleSlots.{IsNamed, register_names}
 use Rattle.vlog_semantics.specs.Named.{names_of, values_of}
 use Rattle.vlog_semantics.specs.Run.{input_names, readable}
-use Rattle.vlog_semantics.proofs.Entering.{registers-apart}
+use Rattle.vlog_semantics.proofs.EntrySlots.{registers-apart}
 use Rattle.vlog_engine.specs.Lanes.{lane_bits}
 
 -- as many values as names

@@ -65,25 +65,26 @@ gate-same at lane first count gates place kept cells cells_now rising within cel
 
 -- ---- changes that are noted
 
--- what a flip-flop does if it acts
-pub flip-acts : (active edge enable lanes : Bool) (next : List Bool) (target : ℕ) (value bit : Bool) → edge ≡ true → lanes ≡ cond active enable false → value ≡ bit
+-- what a flip-flop does in a lane
+pub flip-acts : (active edge enable lanes : Bool) (next : List Bool) (target : ℕ) (value bit : Bool) → lanes ≡ cond (cond active edge false) enable false → value ≡ bit
     → cond lanes (set next target value) next ≡ cond active (cond (edge && enable) (set next target bit) next) next
-flip-acts active edge enable lanes next target value bit edge_is lanes_is value_is =
+flip-acts active edge enable lanes next target value bit lanes_is value_is =
     ap₂ (λ l v. cond l (set next target v) next) lanes_is value_is
-    ∙ (elim active as (λ a. cond (cond a enable false) (set next target bit) next ≡ cond a (cond (true && enable) (set next target bit) next) next) [ true ↦ refl | false ↦ refl ])
-    ∙ ap (λ e. cond active (cond (e && enable) (set next target bit) next) next) (sym edge_is)
+    ∙ (elim active as (λ a. cond (cond (cond a edge false) enable false) (set next target bit) next ≡ cond a (cond (edge && enable) (set next target bit) next) next) [
+      | true ↦ elim edge as (λ e. cond (cond e enable false) (set next target bit) next ≡ cond (e && enable) (set next target bit) next) [ true ↦ refl | false ↦ refl ]
+      | false ↦ refl
+    ])
+
+-- what acts in each active lane
+pub in-each : (active enable : Bool) → cond active enable false ≡ cond (cond active true false) enable false
+in-each true enable = refl
+in-each false enable = refl
 
 -- if it acts in no lane
-pub flip-rests : (active edge enable lanes : Bool) (next : List Bool) (target : ℕ) (bit : Bool) → edge ≡ true → lanes ≡ cond active enable false → lanes ≡ false
+pub flip-rests : (active edge enable lanes : Bool) (next : List Bool) (target : ℕ) (bit : Bool) → lanes ≡ cond (cond active edge false) enable false → lanes ≡ false
     → next ≡ cond active (cond (edge && enable) (set next target bit) next) next
-flip-rests active edge enable lanes next target bit edge_is lanes_is none =
-    sym (ap (λ l. cond l (set next target bit) next) none) ∙ flip-acts active edge enable lanes next target bit bit edge_is lanes_is refl
-
--- if the event isn't its edge
-pub flip-off : (active edge enable : Bool) (next : List Bool) (target : ℕ) (bit : Bool) → edge ≡ false → next ≡ cond active (cond (edge && enable) (set next target bit) next) next
-flip-off active edge enable next target bit edge_is =
-    (elim active as (λ a. next ≡ cond a next next) [ true ↦ refl | false ↦ refl ])
-    ∙ ap (λ e. cond active (cond (e && enable) (set next target bit) next) next) (sym edge_is)
+flip-rests active edge enable lanes next target bit lanes_is none =
+    sym (ap (λ l. cond l (set next target bit) next) none) ∙ flip-acts active edge enable lanes next target bit bit lanes_is refl
 
 fold-set : {A B : Type 0} (step : A → B → A) (state : A) (xs : List B) (i : ℕ) (x : B) → i < length xs → fold step state (take (suc i) (set xs i x)) ≡ step (fold step state (take i xs)) x
 fold-set step state [] i x within = absurd (omega (arith, within))

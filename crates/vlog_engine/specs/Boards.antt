@@ -1,7 +1,7 @@
 -- The state of a module that runs in lanes, and what a call does to it.
 use Rattle.std.specs.Prelude.{◌≡◌, ◌<◌, ◌≤◌, ℕ, Bool, true, false, List, [], length, map, vec_len, if◌then◌else◌}
 use Rattle.vlog_module.specs.Parts.{Parts}
-use Rattle.vlog_semantics.specs.declared.event.Event.{Event}
+use Rattle.vlog_module.specs.WellFormed.{IsModule}
 use Rattle.vlog_semantics.specs.Cells.{cells_of}
 use Rattle.vlog_semantics.specs.Entries.{Entry}
 use Rattle.vlog_semantics.specs.Laying.{IsLaidOut, ShowsEntry, bit_count}
@@ -13,6 +13,7 @@ use Rattle.vlog_engine.specs.declared.groups.Group.{Group}
 use Rattle.vlog_engine.specs.declared.value.Value.{Ghosts}
 use Rattle.vlog_engine.specs.Circuits.{shown_by}
 use Rattle.vlog_engine.specs.Groups.{IsGroup}
+use Rattle.vlog_engine.specs.StepKinds.{Step}
 use Rattle.vlog_engine.specs.Lanes.{lane_bits, list_of}
 use Rattle.vlog_engine.specs.Marks.{AreRising, IsTracked}
 use Rattle.vlog_engine.specs.Passing.{IsClocked, IsSettled}
@@ -38,6 +39,7 @@ IsTrackedIn board lane = IsTracked board.circuit.gates.items (cells_in board lan
 -- the board has the slots of the module, and the cells of a lane have the values of the entry
 pub record Shows {V : Type 0} {g : Ghosts V} (board : Board V g) (lane : ℕ) (m : Parts) (entry : Entry) : Type 0 where
   pub within : lane < g.LANES
+  pub whole : IsModule m
   pub laid_out : IsLaidOut m board.layout
   pub bit_count : board.circuit.bits ≡ bit_count m
   pub cells : shown_by board.circuit.roots.items (cells_in board lane) ≡ cells_of (values_of (readable entry).bits) (words_in board lane)
@@ -64,11 +66,11 @@ pub record IsIdleIn {V : Type 0} {g : Ghosts V} (lane : ℕ) (before after : Boa
   pub outputs : outputs_in after lane ≡ outputs_in before lane
   pub tracked : (first count : ℕ) → AreRising first count before.circuit.gates.items → count ≤ length (cells_in before lane) → IsTrackedIn before lane → IsTrackedIn after lane
 
--- the first half of an event: the clocked items, and then the input
-pub record IsClockedIn {V : Type 0} {g : Ghosts V} (event : Event) (lane : ℕ) (before after : Board V g) : Type 0 where
+-- the first half of a step: the clocked items, and then the input of an event
+pub record IsClockedIn {V : Type 0} {g : Ghosts V} (step : Step) (lane : ℕ) (before after : Board V g) : Type 0 where
   pub group : Group
-  pub grouped : IsGroup event before.layout.first_wire before.circuit.bits (vec_len before.next_words) before.circuit.roots.items before.layout.plan group
-  pub clocked : IsClocked true before.circuit.bits event group (words_in before lane) (words_in after lane) (memories_in before lane) (memories_in after lane) (cells_in before lane) (cells_in after lane)
+  pub grouped : IsGroup step before.layout.first_wire before.circuit.bits (vec_len before.next_words) before.circuit.roots.items before.layout.plan group
+  pub clocked : IsClocked true before.circuit.bits step group (words_in before lane) (words_in after lane) (memories_in before lane) (memories_in after lane) (cells_in before lane) (cells_in after lane)
   pub tracked : (first count : ℕ) → AreRising first count before.circuit.gates.items → count ≤ length (cells_in before lane) → IsTrackedIn before lane → IsTrackedIn after lane
 
 -- the second half: the wires, and then the asynchronous sets and resets of registers
@@ -88,14 +90,14 @@ pub record IsShownIn {V : Type 0} {g : Ghosts V} (active : Bool) (lane : ℕ) (b
   pub memories : memories_in after lane ≡ memories_in before lane
   pub marks : after.marks.items ≡ before.marks.items
 
--- a whole event that changes its input
-pub record IsChangedIn {V : Type 0} {g : Ghosts V} (event : Event) (lane : ℕ) (before after : Board V g) : Type 0 where
+-- a whole step
+pub record IsChangedIn {V : Type 0} {g : Ghosts V} (step : Step) (lane : ℕ) (before after : Board V g) : Type 0 where
   pub group : Group
-  pub grouped : IsGroup event before.layout.first_wire before.circuit.bits (vec_len before.next_words) before.circuit.roots.items before.layout.plan group
+  pub grouped : IsGroup step before.layout.first_wire before.circuit.bits (vec_len before.next_words) before.circuit.roots.items before.layout.plan group
   -- the cells between the halves
   pub between : List Bool
   pub size : length between ≡ length (cells_in before lane)
-  pub clocked : IsClocked true before.circuit.bits event group (words_in before lane) (words_in after lane) (memories_in before lane) (memories_in after lane) (cells_in before lane) between
+  pub clocked : IsClocked true before.circuit.bits step group (words_in before lane) (words_in after lane) (memories_in before lane) (memories_in after lane) (cells_in before lane) between
   pub settled : (first count : ℕ) → AreRising first count before.circuit.gates.items → count ≤ length (cells_in before lane) → IsTrackedIn before lane
       → IsSettled true first count before.circuit.gates.items before.circuit.settles.items between (cells_in after lane) after.marks.items
   pub outputs : outputs_in after lane ≡ map (operand_value (cells_in after lane) []) before.circuit.outputs.items

@@ -8,6 +8,7 @@ use Rattle.vlog_engine.specs.declared.groups.Group.{Group}
 use Rattle.vlog_engine.specs.Groups.{IsGroup}
 use Rattle.vlog_engine.specs.Marks.{IsRead}
 use Rattle.vlog_engine.specs.Resolved.{resolved, resolved_gate, resolved_settle}
+use Rattle.vlog_engine.specs.StepKinds.Step.{at_event, at_wave}
 use Rattle.vlog_engine.specs.Roots.{root, roots_of}
 
 -- the value that each cell shows: that of the cell for which it is an alias
@@ -31,9 +32,13 @@ pub record IsCircuit (first bits words : ℕ) (plan : Plan) (circuit : Circuit) 
   pub settles : circuit.settles.items ≡ map (resolved_settle bits words circuit.roots.items) plan.settles.items
   pub outputs : circuit.outputs.items ≡ map (resolved bits words circuit.roots.items) plan.outputs.items
   pub rising : (pin : ℕ) (none : Group) → pin < length circuit.rising.items
-      → IsGroup (record { pin = pin; bit = true }) first bits words circuit.roots.items plan (get_or circuit.rising.items pin none)
+      → IsGroup (at_event (record { pin = pin; bit = true })) first bits words circuit.roots.items plan (get_or circuit.rising.items pin none)
   pub falling : (pin : ℕ) (none : Group) → pin < length circuit.falling.items
-      → IsGroup (record { pin = pin; bit = false }) first bits words circuit.roots.items plan (get_or circuit.falling.items pin none)
+      → IsGroup (at_event (record { pin = pin; bit = false })) first bits words circuit.roots.items plan (get_or circuit.falling.items pin none)
+
+-- the group has what waves run: the items whose clock is a register, which stand from cell `from` up to cell `first`
+abbrev pub AreWaves : ℕ → ℕ → ℕ → ℕ → List ℕ → Plan → Group → Type 0
+AreWaves from first bits words roots plan group = (earlier now : List Bool) → IsGroup (at_wave from first earlier now) first bits words roots plan group
 
 -- the cells that no wire has: these have these bits, the bits of these words, 0 and 1
 pub record AreSources (first : ℕ) (bits : List Bool) (words : List ℕ) (cells : List Bool) : Type 0 where

@@ -9,6 +9,7 @@ use Rattle.vlog_semantics.specs.declared.plan.Write.{Write}
 use Rattle.vlog_semantics.specs.Run.{is_edge}
 use Rattle.vlog_engine.specs.declared.groups.Group.{Group}
 use Rattle.vlog_engine.specs.Groups.{Gets, flip_at, read_at, write_at}
+use Rattle.vlog_engine.specs.StepKinds.Step.{at_event}
 use Rattle.vlog_engine.specs.Resolved.{resolved_flip, resolved_read, resolved_write}
 
 pub Gets-none : (group : Group) → Gets group [] [] [] group
@@ -31,17 +32,17 @@ Gets-more old middle new flips other_flips reads other_reads writes other_writes
 
 -- an item gives nothing at another input than the one that clocks it
 
-pub flip-apart : (event : Event) (first bits words : ℕ) (roots : List ℕ) (flip : FlipFlop) → event.pin ≢ flip.edge.pin → flip_at event first bits words roots flip ≡ []
+pub flip-apart : (event : Event) (first bits words : ℕ) (roots : List ℕ) (flip : FlipFlop) → event.pin ≢ flip.edge.clock → flip_at (at_event event) first bits words roots flip ≡ []
 flip-apart event first bits words roots flip differs =
     ap (λ same. if (same && is_edge flip.edge.falling event.bit) && nat_lt flip.target first then resolved_flip bits words roots flip ∷ [] else [])
-    (ne_eqb flip.edge.pin event.pin (λ same. differs (sym same)))
+    (ne_eqb flip.edge.clock event.pin (λ same. differs (sym same)))
 
-pub read-apart : (event : Event) (bits words : ℕ) (roots : List ℕ) (read : Read) → event.pin ≢ read.port.edge.pin → read_at event bits words roots read ≡ []
+pub read-apart : (event : Event) (bits words : ℕ) (roots : List ℕ) (read : Read) → event.pin ≢ read.port.edge.clock → read_at (at_event event) bits words roots read ≡ []
 read-apart event bits words roots read differs =
     ap (λ same. if same && is_edge read.port.edge.falling event.bit then resolved_read bits words roots read ∷ [] else [])
-    (ne_eqb read.port.edge.pin event.pin (λ same. differs (sym same)))
+    (ne_eqb read.port.edge.clock event.pin (λ same. differs (sym same)))
 
-pub write-apart : (event : Event) (bits words : ℕ) (roots : List ℕ) (write : Write) → event.pin ≢ write.port.edge.pin → write_at event bits words roots write ≡ []
+pub write-apart : (event : Event) (bits words : ℕ) (roots : List ℕ) (write : Write) → event.pin ≢ write.port.edge.clock → write_at (at_event event) bits words roots write ≡ []
 write-apart event bits words roots write differs =
     ap (λ same. if same && is_edge write.port.edge.falling event.bit then resolved_write bits words roots write ∷ [] else [])
-    (ne_eqb write.port.edge.pin event.pin (λ same. differs (sym same)))
+    (ne_eqb write.port.edge.clock event.pin (λ same. differs (sym same)))

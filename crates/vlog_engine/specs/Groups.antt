@@ -1,29 +1,29 @@
--- What an event runs: the clocked items that are sensitive to its edge, over cells.
+-- What a step runs: the clocked items that may have their edge, over cells.
 use Rattle.std.specs.Prelude.{◌≡◌, ℕ, ◌<◌, Bool, ◌&&◌, List, [], ◌∷◌, ◌++◌, flat_map, get_or, length, nat_lt, if◌then◌else◌}
 use Rattle.vlog_semantics.specs.declared.event.Event.{Event}
 use Rattle.vlog_semantics.specs.declared.plan.FlipFlop.{FlipFlop}
 use Rattle.vlog_semantics.specs.declared.plan.Read.{Read}
 use Rattle.vlog_semantics.specs.declared.plan.Write.{Write}
 use Rattle.vlog_semantics.specs.declared.plan.Plan.{Plan}
-use Rattle.vlog_semantics.specs.Steps.{is_edge_of}
+use Rattle.vlog_engine.specs.StepKinds.{Step, picks}
 use Rattle.vlog_engine.specs.declared.groups.Group.{Group}
 use Rattle.vlog_engine.specs.Resolved.{resolved_flip, resolved_read, resolved_write}
 
--- a flip-flop that is sensitive to the event, if its register comes before the first wire
-abbrev pub flip_at : Event → ℕ → ℕ → ℕ → List ℕ → FlipFlop → List FlipFlop
-flip_at event first bits words roots flip =
-    if is_edge_of event flip.edge && nat_lt flip.target first then resolved_flip bits words roots flip ∷ [] else []
+-- a flip-flop that may have its edge, if its register comes before the first wire
+abbrev pub flip_at : Step → ℕ → ℕ → ℕ → List ℕ → FlipFlop → List FlipFlop
+flip_at step first bits words roots flip =
+    if picks step flip.edge && nat_lt flip.target first then resolved_flip bits words roots flip ∷ [] else []
 
-abbrev pub read_at : Event → ℕ → ℕ → List ℕ → Read → List Read
-read_at event bits words roots read = if is_edge_of event read.port.edge then resolved_read bits words roots read ∷ [] else []
+abbrev pub read_at : Step → ℕ → ℕ → List ℕ → Read → List Read
+read_at step bits words roots read = if picks step read.port.edge then resolved_read bits words roots read ∷ [] else []
 
-abbrev pub write_at : Event → ℕ → ℕ → List ℕ → Write → List Write
-write_at event bits words roots write = if is_edge_of event write.port.edge then resolved_write bits words roots write ∷ [] else []
+abbrev pub write_at : Step → ℕ → ℕ → List ℕ → Write → List Write
+write_at step bits words roots write = if picks step write.port.edge then resolved_write bits words roots write ∷ [] else []
 
-pub record IsGroup (event : Event) (first bits words : ℕ) (roots : List ℕ) (plan : Plan) (group : Group) : Type 0 where
-  pub flips : group.flips.items ≡ flat_map (flip_at event first bits words roots) plan.flips.items
-  pub reads : group.reads.items ≡ flat_map (read_at event bits words roots) plan.reads.items
-  pub writes : group.writes.items ≡ flat_map (write_at event bits words roots) plan.writes.items
+pub record IsGroup (step : Step) (first bits words : ℕ) (roots : List ℕ) (plan : Plan) (group : Group) : Type 0 where
+  pub flips : group.flips.items ≡ flat_map (flip_at step first bits words roots) plan.flips.items
+  pub reads : group.reads.items ≡ flat_map (read_at step bits words roots) plan.reads.items
+  pub writes : group.writes.items ≡ flat_map (write_at step bits words roots) plan.writes.items
 
 -- ---- the groups of all inputs, one after another
 

@@ -3,9 +3,13 @@ pub mod Changes
 pub mod Circuits
 pub mod Clocked
 pub mod Groups
+pub mod StepKinds
 pub mod Lanes
 pub mod Marks
+pub mod Moments
 pub mod Passing
 pub mod Resolved
 pub mod Roots
 pub mod Starting
+pub mod Triggers
+pub mod Waves

@@ -1,6 +1,6 @@
 -- A circuit at the start.
 use Rattle.std.specs.Prelude.{◌≡◌, ◌<◌, ◌+◌, ◌*◌, ◌/◌, ◌≤◌, ℕ, Bool, List, [], get_or, length, map, true}
-use Rattle.vlog_engine.specs.Circuits.{IsCircuit}
+use Rattle.vlog_engine.specs.Circuits.{AreWaves, IsCircuit}
 use Rattle.vlog_engine.specs.Lanes.{AreLanes, lane_bits, list_of}
 use Rattle.vlog_engine.specs.Marks.{AreRising}
 use Rattle.vlog_engine.specs.Passing.{IsSettled}
@@ -14,6 +14,7 @@ use Rattle.vlog_semantics.specs.Steps.{operand_value}
 -- computed from these, and the asynchronous sets and resets are done
 pub record IsStarted {V : Type 0} (lanes : ℕ) (at : V → ℕ → Bool) (layout : SlotLayout) (bits : List Bool) (words : List ℕ) (wires : Wires V) : Type 0 where
   pub circuit : IsCircuit layout.first_wire (length bits) (length words) layout.plan wires.circuit
+  pub waves : AreWaves layout.input_count layout.first_wire (length bits) (length words) wires.circuit.roots.items layout.plan wires.circuit.waves
   pub rising : length wires.circuit.rising.items ≡ layout.input_count
   pub falling : length wires.circuit.falling.items ≡ layout.input_count
   pub cells_room : length wires.cells.items ≡ length bits + 16 * length words + 2

@@ -1,12 +1,15 @@
 // A module that runs in lanes.
-ghost use Rattle.std.specs.Prelude.{◌≡◌, ◌<◌, ◌≤◌, ◌+◌, ◌*◌, ◌/◌, ℕ, IfOk, false, get_or, is_some, length, map, not, true, vec_len, if◌then◌else◌};
+ghost use Rattle.std.specs.Prelude.{◌≡◌, ◌<◌, ◌≤◌, ◌+◌, ◌*◌, ◌/◌, ℕ, IfOk, false, get_or, is_some, length, map, not, take, true, vec_len, if◌then◌else◌};
 ghost use Rattle.std.specs.Option.{option_map};
-ghost use Rattle.vlog_engine.specs.Circuits.{IsCircuit};
+ghost use Rattle.vlog_engine.specs.Circuits.{AreWaves, IsCircuit};
 ghost use Rattle.vlog_engine.specs.Lanes.{AreLanes};
+ghost use Rattle.vlog_engine.specs.Moments.{moments_size};
 
 use crate::changes::{Change, both, changed_lanes, is_none};
 use crate::circuit::Circuit;
 use crate::clocking::clock;
+use crate::edges::{Cause, wave_lanes};
+use crate::moments::Moments;
 use crate::outputs::write_outputs;
 use crate::parts::show_cells;
 use crate::reading::{cell_at, part};
@@ -38,13 +41,19 @@ pub struct Board<V: Value> {
     next_words: Vec<u16>,
     /// Room for what writes write to the memories of a lane.
     written: Vec<Option<Written>>,
-    /// Room for what an event changes.
+    /// Room for what a step changes.
     changes: Vec<Change<V>>,
+    /// The values between which waves have their edges.
+    moments: Moments<V>,
     ghost circuit_is: { IsCircuit layout.first_wire circuit.bits (vec_len next_words) layout.plan circuit },
+    ghost waves_are: { AreWaves layout.input_count layout.first_wire circuit.bits (vec_len next_words) circuit.roots.items layout.plan circuit.waves },
     ghost rising_room: { vec_len circuit.rising ≡ layout.input_count },
     ghost falling_room: { vec_len circuit.falling ≡ layout.input_count },
     ghost cells_room: { vec_len cells ≡ circuit.bits + 16 * vec_len next_words + 2 },
     ghost marks_room: { vec_len marks ≡ vec_len circuit.gates / 64 + 1 },
+    ghost sources_room: { layout.first_wire ≤ circuit.bits },
+    ghost earlier_room: { vec_len moments.earlier ≡ moments_size layout },
+    ghost next_room: { vec_len moments.next ≡ moments_size layout },
     ghost lanes: { AreLanes V.LANES (vec_len next_words) words.items },
     ghost memory_lanes: { vec_len memories ≡ V.LANES },
     ghost writes_room: { vec_len written ≡ vec_len layout.plan.writes },
@@ -53,15 +62,31 @@ pub struct Board<V: Value> {
     ghost settles_room: { vec_len layout.plan.settles ≤ vec_len changes },
 }
 
+/// How many inputs and registers are kept for waves: all, or none if no register is a clock.
+fn moments_size(layout: &SlotLayout) -> usize
+    ensures { result ≡ moments_size layout.now }
+{
+    if layout.plan.clocks.is_empty() {
+        0
+    } else {
+        layout.first_wire
+    }
+}
+
 impl<V: Value> Board<V> {
-    ghost use Rattle.vlog_engine.specs.Boards.{IsChangedIn, IsClockedIn, IsIdleIn, IsSettledIn, IsShownIn, Shows, StaysLaidOut, input_count};
+    ghost use Rattle.vlog_engine.specs.Boards.{IsChangedIn, IsClockedIn, IsIdleIn, IsSettledIn, IsShownIn, Shows, StaysLaidOut, cells_in, input_count};
+    ghost use Rattle.vlog_engine.specs.Waves.{AwaitsWaves, earlier_in, next_in};
+    ghost use Rattle.vlog_engine.specs.Triggers.{HasPin, IsCauseOf, step_by};
+    ghost use Rattle.std.specs.List.{list_any};
     ghost use Rattle.vlog_engine.specs.Lanes.{lane_bits, list_of};
+    ghost use Rattle.vlog_engine.specs.StepKinds.Step.{at_event, at_wave};
     ghost use Rattle.vlog_module.specs.Maps.{value_in};
     ghost use Rattle.vlog_module.specs.Parts.{Parts};
     ghost use Rattle.vlog_semantics.specs.Entries.{Entry};
     ghost use Rattle.vlog_semantics.specs.ModuleSlots.{memory_names, register_names, wire_names, word_names};
     ghost use Rattle.vlog_semantics.specs.Named.{has_name, values_of};
-    ghost use Rattle.vlog_semantics.specs.Run.{followed, input_names, is_same_bit, start};
+    ghost use Rattle.vlog_semantics.specs.Steps.{is_at, slots_between};
+    ghost use Rattle.vlog_semantics.specs.Run.{changed as changed_entry, followed, input_names, is_same_bit, start};
 
     /// The module after the start, in each lane: inputs are 0, registers and memories have their start values.
     ///
@@ -70,6 +95,8 @@ impl<V: Value> Board<V> {
     pub fn new(alloc: Global, module: &Module) -> Result<Board<V>, AllocError>
         ensures { IfOk result (λ board. (lane : ℕ) → lane < V.LANES → Shows board lane «module».now (start «module».now)) }
     {
+        // A module is well-formed, so its inputs and registers have names of their own.
+        let _ = module.items();
         let start = lay_out(alloc, module)?;
         let Start {
             layout,
@@ -79,6 +106,7 @@ impl<V: Value> Board<V> {
             cells,
         } = start;
         let started = started_of(alloc, &layout, &bits, &next_words, &memories, cells)?;
+        let moments = Moments::new(alloc, moments_size(&layout))?;
         let Started {
             wires,
             outputs,
@@ -103,6 +131,7 @@ impl<V: Value> Board<V> {
             next_words,
             written,
             changes,
+            moments,
         })
     }
 
@@ -121,26 +150,116 @@ impl<V: Value> Board<V> {
         self.change(pin, bits, changed);
     }
 
-    /// Changes an input in the lanes that have a 1 in `changed`, where it becomes their bit of `bits`.
+    /// Changes an input in the lanes that have a 1 in `changed`, where it becomes their bit of `bits`: the first step, and then the waves.
     fn change(&mut self, pin: usize, bits: V, changed: V)
         requires { pin < input_count self.old }
         ensures same { StaysLaidOut self.old self.new }
-        ensures changed { (lane : ℕ) → lane < V.LANES → V.at changed lane ≡ true → IsChangedIn (record { pin = pin; bit = V.at bits lane }) lane self.old self.new }
+        ensures changed { (lane : ℕ) (m : Parts) (entry : Entry) → V.at changed lane ≡ true → Shows self.old lane m entry
+            → Shows self.new lane m (changed_entry m entry (record { pin = pin; bit = V.at bits lane })) }
+        ensures idle { (lane : ℕ) → lane < V.LANES → V.at changed lane ≡ false → IsIdleIn lane self.old self.new }
+    {
+        self.keep();
+        self.begin(pin, bits, changed);
+        self.turn();
+        self.run_waves(changed);
+    }
+
+    /// Keeps the values before a step.
+    fn keep(&mut self)
+        ensures same { StaysLaidOut self.old self.new }
+        ensures idle { (lane : ℕ) → IsIdleIn lane self.old self.new }
+        ensures earlier { self.new.moments.earlier ≡ self.old.moments.earlier }
+        ensures next { (lane : ℕ) → next_in self.new lane ≡ take (moments_size self.old.layout) (cells_in self.old lane) }
+    {
+        self.moments.keep(&self.cells);
+    }
+
+    /// The step is done: the values before it are those before the last step.
+    fn turn(&mut self)
+        ensures same { StaysLaidOut self.old self.new }
+        ensures idle { (lane : ℕ) → IsIdleIn lane self.old self.new }
+        ensures earlier { self.new.moments.earlier ≡ self.old.moments.next }
+    {
+        self.moments.turn();
+    }
+
+    /// Runs the first step of an event, in which an input changes in the lanes that have a 1 in `changed`.
+    fn begin(&mut self, pin: usize, bits: V, changed: V)
+        requires { pin < input_count self.old }
+        ensures same { StaysLaidOut self.old self.new }
+        ensures moments { self.new.moments ≡ self.old.moments }
+        ensures changed { (lane : ℕ) → lane < V.LANES → V.at changed lane ≡ true → IsChangedIn (at_event (record { pin = pin; bit = V.at bits lane })) lane self.old self.new }
         ensures idle { (lane : ℕ) → lane < V.LANES → V.at changed lane ≡ false → IsIdleIn lane self.old self.new }
     {
         let rising = Event { pin, bit: true };
         let falling = Event { pin, bit: false };
-        self.clock(rising, both(bits, changed));
-        self.clock(falling, V::select(bits, V::every(false), changed));
+        self.clock(Cause::Event(rising), both(bits, changed));
+        self.clock(
+            Cause::Event(falling),
+            V::select(bits, V::every(false), changed),
+        );
         self.settle(changed);
         self.show(changed);
     }
 
-    /// Runs the first half of an event that changes its input in active lanes: the clocked items, and then the input.
-    fn clock(&mut self, event: Event, active: V)
-        requires { event.pin < input_count self.old }
+    /// Runs the waves that come after the first step of an event in active lanes. Lanes in which none comes any more rest.
+    fn run_waves(&mut self, active: V)
         ensures same { StaysLaidOut self.old self.new }
-        ensures clocked { (lane : ℕ) → lane < V.LANES → V.at active lane ≡ true → IsClockedIn event lane self.old self.new }
+        ensures shown { (lane : ℕ) (m : Parts) (last : Entry) → V.at active lane ≡ true → AwaitsWaves self.old lane m (vec_len self.old.layout.plan.clocks) last → Shows self.new lane m last }
+        ensures idle { (lane : ℕ) → lane < V.LANES → V.at active lane ≡ false → IsIdleIn lane self.old self.new }
+    {
+        for _ in 0..self.layout.plan.clocks.len() {
+            let lanes = self.wave_lanes(active);
+            if is_none(lanes) {
+                return;
+            }
+            self.keep();
+            self.run_wave(lanes);
+            self.turn();
+        }
+    }
+
+    /// The active lanes in which a wave comes: those in which an item has its edge by a register that the last step changed.
+    fn wave_lanes(&self, active: V) -> V
+        ensures { (lane : ℕ) → lane < V.LANES → V.at result lane
+            ≡ (if V.at active lane then list_any (is_at (slots_between self.now.layout.input_count self.now.layout.first_wire (earlier_in self.now lane) (cells_in self.now lane))) self.now.layout.plan.clocks.items else false) }
+    {
+        let (first, end) = (self.layout.input_count, self.layout.first_wire);
+        let earlier = &self.moments.earlier;
+        wave_lanes(
+            &self.layout.plan.clocks,
+            first,
+            end,
+            active,
+            earlier,
+            &self.cells,
+        )
+    }
+
+    /// Runs a wave in these lanes.
+    fn run_wave(&mut self, lanes: V)
+        ensures same { StaysLaidOut self.old self.new }
+        ensures moments { self.new.moments ≡ self.old.moments }
+        ensures changed { (lane : ℕ) → lane < V.LANES → V.at lanes lane ≡ true
+            → IsChangedIn (at_wave self.old.layout.input_count self.old.layout.first_wire (earlier_in self.old lane) (cells_in self.old lane)) lane self.old self.new }
+        ensures idle { (lane : ℕ) → lane < V.LANES → V.at lanes lane ≡ false → IsIdleIn lane self.old self.new }
+    {
+        let cause = Cause::Registers {
+            first: self.layout.input_count,
+            end: self.layout.first_wire,
+        };
+        self.clock(cause, lanes);
+        self.settle(lanes);
+        self.show(lanes);
+    }
+
+    /// Runs the first half of a step in active lanes: the clocked items, and then the input of an event, which changes.
+    fn clock(&mut self, cause: Cause, active: V)
+        requires pin { HasPin (input_count self.old) cause }
+        requires cause { IsCauseOf self.old.layout.input_count self.old.layout.first_wire cause }
+        ensures same { StaysLaidOut self.old self.new }
+        ensures moments { self.new.moments ≡ self.old.moments }
+        ensures clocked { (lane : ℕ) → lane < V.LANES → V.at active lane ≡ true → IsClockedIn (step_by cause (earlier_in self.old lane) (cells_in self.old lane)) lane self.old self.new }
         ensures idle { (lane : ℕ) → lane < V.LANES → V.at active lane ≡ false → IsIdleIn lane self.old self.new }
     {
         if is_none(active) {
@@ -148,9 +267,10 @@ impl<V: Value> Board<V> {
         }
         let circuit = &self.circuit;
         let trigger = Trigger {
-            event,
+            cause,
             active,
-            group: circuit.group(event),
+            earlier: &self.moments.earlier,
+            group: circuit.group_by(cause),
             readers: &circuit.readers,
             bits: circuit.bits,
         };
@@ -169,6 +289,7 @@ impl<V: Value> Board<V> {
     /// Computes the wires in active lanes, and then the asynchronous sets and resets of registers.
     fn settle(&mut self, active: V)
         ensures same { StaysLaidOut self.old self.new }
+        ensures moments { self.new.moments ≡ self.old.moments }
         ensures settled { (lane : ℕ) → lane < V.LANES → IsSettledIn (V.at active lane) lane self.old self.new }
     {
         settle(
@@ -183,6 +304,7 @@ impl<V: Value> Board<V> {
     /// Gives the outputs their values in active lanes.
     fn show(&mut self, active: V)
         ensures same { StaysLaidOut self.old self.new }
+        ensures moments { self.new.moments ≡ self.old.moments }
         ensures shown { (lane : ℕ) → lane < V.LANES → IsShownIn (V.at active lane) lane self.old self.new }
     {
         write_outputs(

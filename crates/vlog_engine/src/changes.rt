@@ -3,15 +3,19 @@ ghost use Rattle.std.specs.Prelude.{◌≡◌, ◌<◌, ◌≤◌, ◌+◌, ℕ,
 ghost use Rattle.vlog_engine.specs.Changes.{change_slot, changed_by, step_in};
 ghost use Rattle.vlog_engine.specs.Lanes.{lane_bits};
 ghost use Rattle.vlog_engine.specs.Marks.{IsRead, IsTracked};
+ghost use Rattle.vlog_engine.specs.StepKinds.{slots_of};
+ghost use Rattle.vlog_engine.specs.Triggers.{step_by};
 ghost use Rattle.vlog_semantics.specs.Run.{is_same_bit};
 ghost use Rattle.vlog_semantics.specs.Steps.{flip_slot, operand_value, operands_value, settle_slot, table_value};
 ghost use Rattle.vlog_semantics.specs.Values.{bit_of};
 ghost use Rattle.vlog_semantics.specs.declared.gates.Gate.{Gate as gate_of};
 
+use crate::edges::{Cause, edge_lanes};
 use crate::marks::write;
 use crate::reading::{cell_at, operand_at};
+use crate::trigger::Trigger;
 use crate::value::Value;
-use vlog_semantics::{Event, FlipFlop, Operand, Settle, Table, is_edge_of};
+use vlog_semantics::{FlipFlop, Operand, Settle, Table};
 
 /// A value for a cell, in some lanes.
 #[derive(Clone, Copy)]
@@ -84,15 +88,19 @@ fn note<V: Value>(changes: &mut [Change<V>], count: usize, change: Option<Change
     }
 }
 
-/// The change that a flip-flop makes at an event in active lanes, if it makes one.
-fn flip_change<V: Value>(flip: &FlipFlop, event: Event, active: V, cells: &[V]) -> Option<Change<V>>
+/// The change that a flip-flop makes in active lanes, if it makes one, in a step of that cause after an earlier moment.
+fn flip_change<V: Value>(
+    flip: &FlipFlop,
+    cause: Cause,
+    active: V,
+    earlier: &[V],
+    cells: &[V],
+) -> Option<Change<V>>
     ensures { (lane : ℕ) (next : List Bool) → lane < V.LANES
-        → changed_by V.at lane next result ≡ step_in (V.at active lane) (flip_slot event (lane_bits V.at lane cells.now) []) next flip.now }
+        → changed_by V.at lane next result ≡ step_in (V.at active lane) (flip_slot (slots_of (step_by cause (lane_bits V.at lane earlier.now) (lane_bits V.at lane cells.now))) (lane_bits V.at lane cells.now) []) next flip.now }
 {
-    if !is_edge_of(event, flip.edge) {
-        return None;
-    }
-    let lanes = both(active, operand_at(cells, flip.enable));
+    let edges = edge_lanes(cause, active, earlier, cells, flip.edge);
+    let lanes = both(edges, operand_at(cells, flip.enable));
     if is_none(lanes) {
         return None;
     }
@@ -103,22 +111,25 @@ fn flip_change<V: Value>(flip: &FlipFlop, event: Event, active: V, cells: &[V]) 
     })
 }
 
-/// Notes what flip-flops change at an event in active lanes, from the first entry on, and returns how many changes these are.
+/// Notes what the flip-flops of a step change, from the first entry on, and returns how many changes these are.
 pub(crate) fn note_flips<V: Value>(
     flips: &[FlipFlop],
-    event: Event,
-    active: V,
+    trigger: &Trigger<V>,
     cells: &[V],
     changes: &mut [Change<V>],
 ) -> usize
     requires { length flips.now ≤ length changes.old }
     ensures count { result ≤ length flips.now }
     ensures noted { (lane : ℕ) (next : List Bool) → lane < V.LANES
-        → fold (change_slot V.at lane) next (take result changes.new) ≡ fold (step_in (V.at active lane) (flip_slot event (lane_bits V.at lane cells.now) [])) next flips.now }
+        → fold (change_slot V.at lane) next (take result changes.new)
+        ≡ fold (step_in (V.at trigger.now.active lane) (flip_slot (slots_of (step_by trigger.now.cause (lane_bits V.at lane trigger.now.earlier.now) (lane_bits V.at lane cells.now))) (lane_bits V.at lane cells.now) [])) next flips.now }
 {
+    // Copied out of the trigger, so that the loop asks for the cause once and not at each flip-flop.
+    let (cause, active, earlier) = (trigger.cause, trigger.active, trigger.earlier);
     let mut count = 0;
     for flip in flips {
-        count = note(changes, count, flip_change(flip, event, active, cells));
+        let made = flip_change(flip, cause, active, earlier, cells);
+        count = note(changes, count, made);
     }
     count
 }

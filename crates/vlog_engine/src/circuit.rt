@@ -2,7 +2,8 @@
 ghost use Rattle.std.specs.Prelude.{◌≡◌, ◌<◌, ◌+◌, ◌*◌, ◌^◌, ℕ, IfOk, length, vec_len};
 
 use crate::building::{gates_of, outputs_of, settles_of};
-use crate::groups::{Group, groups_of};
+use crate::edges::Cause;
+use crate::groups::{Group, groups_of, waves_of};
 use crate::readers::readers_of;
 use crate::roots::roots_of;
 use std::alloc::{AllocError, Global};
@@ -25,25 +26,43 @@ pub(crate) struct Circuit {
     pub(crate) rising: Vec<Group>,
     /// What the falling edge of each input runs.
     pub(crate) falling: Vec<Group>,
+    /// What waves run: the items whose clock is a register.
+    pub(crate) waves: Group,
 }
 
-ghost use Rattle.vlog_engine.specs.Circuits.{IsCircuit};
+ghost use Rattle.vlog_engine.specs.Circuits.{AreWaves, IsCircuit};
 
 impl Circuit {
-    ghost use Rattle.vlog_engine.specs.Circuits.{IsCircuit};
+    ghost use Rattle.vlog_engine.specs.Circuits.{AreWaves, IsCircuit};
     ghost use Rattle.vlog_engine.specs.Groups.{IsGroup};
+    ghost use Rattle.vlog_engine.specs.StepKinds.Step.{at_event};
+    ghost use Rattle.vlog_engine.specs.Triggers.{IsCauseOf, HasPin, step_by};
+    ghost use Rattle.std.specs.Prelude.{List, Bool};
     ghost use Rattle.vlog_semantics.specs.declared.plan.Plan.{Plan as plan_of};
 
     /// What an event runs.
     pub(crate) fn group(&self, event: Event) -> &Group
         requires rising { event.pin < vec_len self.now.rising }
         requires falling { event.pin < vec_len self.now.falling }
-        ensures { (first bits words : ℕ) (plan : plan_of) → IsCircuit first bits words plan self.now → IsGroup event first bits words self.now.roots.items plan result.now }
+        ensures { (first bits words : ℕ) (plan : plan_of) → IsCircuit first bits words plan self.now → IsGroup (at_event event) first bits words self.now.roots.items plan result.now }
     {
         if event.bit {
             &self.rising[event.pin]
         } else {
             &self.falling[event.pin]
+        }
+    }
+
+    /// What a step runs.
+    pub(crate) fn group_by(&self, cause: Cause) -> &Group
+        requires rising { HasPin (vec_len self.now.rising) cause }
+        requires falling { HasPin (vec_len self.now.falling) cause }
+        ensures { (from first bits words : ℕ) (plan : plan_of) (earlier now : List Bool) → IsCircuit first bits words plan self.now → AreWaves from first bits words self.now.roots.items plan self.now.waves
+            → IsCauseOf from first cause → IsGroup (step_by cause earlier now) first bits words self.now.roots.items plan result.now }
+    {
+        match cause {
+            Cause::Event(event) => self.group(event),
+            Cause::Registers { .. } => &self.waves,
         }
     }
 }
@@ -57,6 +76,7 @@ pub(crate) fn circuit_of(
 ) -> Result<Circuit, AllocError>
     requires { bits + 16 * words + 2 < 2 ^ 64 }
     ensures circuit { IfOk result (IsCircuit layout.now.first_wire bits words layout.now.plan) }
+    ensures waves { IfOk result (λ circuit. AreWaves layout.now.input_count layout.now.first_wire bits words circuit.roots.items layout.now.plan circuit.waves) }
     ensures rising { IfOk result (λ circuit. length circuit.rising.items ≡ layout.now.input_count) }
     ensures falling { IfOk result (λ circuit. length circuit.falling.items ≡ layout.now.input_count) }
 {
@@ -70,6 +90,7 @@ pub(crate) fn circuit_of(
     let outputs = outputs_of(alloc, bits, words, &roots, &plan.outputs)?;
     let rising = groups_of(alloc, pins, true, first, bits, words, &roots, plan)?;
     let falling = groups_of(alloc, pins, false, first, bits, words, &roots, plan)?;
+    let waves = waves_of(alloc, pins, first, bits, words, &roots, plan)?;
     Ok(Circuit {
         bits,
         roots,
@@ -79,5 +100,6 @@ pub(crate) fn circuit_of(
         outputs,
         rising,
         falling,
+        waves,
     })
 }

@@ -1,7 +1,9 @@
 // What each edge of an input runs: its sensitivity lists.
-ghost use Rattle.std.specs.Prelude.{◌≡◌, ◌≢◌, ◌<◌, ◌+◌, ◌*◌, ◌++◌, ◌^◌, [], ℕ, List, IfOk, OnOk, flat_map, get_or, length};
+ghost use Rattle.std.specs.Prelude.{◌≡◌, ◌≢◌, ◌<◌, ◌+◌, ◌*◌, ◌++◌, ◌^◌, [], ℕ, Bool, List, IfOk, OnOk, flat_map, get_or, length};
 ghost use Rattle.std.specs.List.{All};
 ghost use Rattle.vlog_engine.specs.Groups.{EachGets, IsEmpty, IsGroup, event_of};
+ghost use Rattle.vlog_semantics.specs.Steps.{is_between};
+ghost use Rattle.vlog_engine.specs.StepKinds.Step.{at_event, at_wave};
 ghost use Rattle.vlog_engine.specs.declared.groups.Group.{Group as group_of};
 ghost use Rattle.vlog_semantics.specs.declared.event.Event.{Event as any_event};
 
@@ -57,6 +59,22 @@ trait Clocked {
         requires { bits + 16 * words + 2 < 2 ^ 64 }
         ensures { OnOk result (Grows group.old (given event first bits words roots.now self.now) group.new) };
 
+    /// What it gives the group of waves: itself, over cells, if its clock is a register, else nothing.
+    ghost waved: { ℕ → ℕ → ℕ → ℕ → ℕ → List ℕ → Self → List Self };
+
+    /// Adds itself, over cells, to the group of waves, if its clock is a register: a cell from `from` up to `end`.
+    fn add_wave(
+        &self,
+        group: &mut Group,
+        from: usize,
+        end: usize,
+        bits: usize,
+        words: usize,
+        roots: &[usize],
+    ) -> Result<(), AllocError>
+        requires { bits + 16 * words + 2 < 2 ^ 64 }
+        ensures { OnOk result (Grows group.old (waved from end end bits words roots.now self.now) group.new) };
+
     /// A group that stays as it is gets nothing.
     ghost none: { (group : group_of) → Grows group [] group };
 
@@ -72,14 +90,14 @@ impl Clocked for FlipFlop {
     ghost use Rattle.vlog_engine.specs.Clocked.{Gets-more, Gets-none, flip-apart};
     ghost use Rattle.vlog_engine.specs.Groups.{Gets, flip_at};
 
-    ghost pin_of = { λ flip. flip.edge.pin };
+    ghost pin_of = { λ flip. flip.edge.clock };
 
-    ghost given = { flip_at };
+    ghost given = { λ event. flip_at (at_event event) };
 
     ghost Grows = { λ old flips new. Gets old flips [] [] new };
 
     fn pin(&self) -> usize {
-        self.edge.pin
+        self.edge.clock
     }
 
     fn add_to(
@@ -97,6 +115,23 @@ impl Clocked for FlipFlop {
         Ok(())
     }
 
+    ghost waved = { λ from end. flip_at (at_wave from end [] []) };
+
+    fn add_wave(
+        &self,
+        group: &mut Group,
+        from: usize,
+        end: usize,
+        bits: usize,
+        words: usize,
+        roots: &[usize],
+    ) -> Result<(), AllocError> {
+        if is_between(from, end, self.edge.clock) && self.target < end {
+            group.flips.push(resolved_flip(bits, words, roots, self))?;
+        }
+        Ok(())
+    }
+
     ghost none = { Gets-none };
 
     ghost more = { λ old middle new flips others. Gets-more old middle new flips others [] [] [] [] };
@@ -108,14 +143,14 @@ impl Clocked for Read {
     ghost use Rattle.vlog_engine.specs.Clocked.{Gets-more, Gets-none, read-apart};
     ghost use Rattle.vlog_engine.specs.Groups.{Gets, read_at};
 
-    ghost pin_of = { λ read. read.port.edge.pin };
+    ghost pin_of = { λ read. read.port.edge.clock };
 
-    ghost given = { λ event first. read_at event };
+    ghost given = { λ event first. read_at (at_event event) };
 
     ghost Grows = { λ old reads new. Gets old [] reads [] new };
 
     fn pin(&self) -> usize {
-        self.port.edge.pin
+        self.port.edge.clock
     }
 
     fn add_to(
@@ -133,6 +168,23 @@ impl Clocked for Read {
         Ok(())
     }
 
+    ghost waved = { λ from end first. read_at (at_wave from end [] []) };
+
+    fn add_wave(
+        &self,
+        group: &mut Group,
+        from: usize,
+        end: usize,
+        bits: usize,
+        words: usize,
+        roots: &[usize],
+    ) -> Result<(), AllocError> {
+        if is_between(from, end, self.port.edge.clock) {
+            group.reads.push(resolved_read(bits, words, roots, self))?;
+        }
+        Ok(())
+    }
+
     ghost none = { Gets-none };
 
     ghost more = { λ old middle new reads others. Gets-more old middle new [] [] reads others [] [] };
@@ -144,14 +196,14 @@ impl Clocked for Write {
     ghost use Rattle.vlog_engine.specs.Clocked.{Gets-more, Gets-none, write-apart};
     ghost use Rattle.vlog_engine.specs.Groups.{Gets, write_at};
 
-    ghost pin_of = { λ write. write.port.edge.pin };
+    ghost pin_of = { λ write. write.port.edge.clock };
 
-    ghost given = { λ event first. write_at event };
+    ghost given = { λ event first. write_at (at_event event) };
 
     ghost Grows = { λ old writes new. Gets old [] [] writes new };
 
     fn pin(&self) -> usize {
-        self.port.edge.pin
+        self.port.edge.clock
     }
 
     fn add_to(
@@ -169,11 +221,85 @@ impl Clocked for Write {
         Ok(())
     }
 
+    ghost waved = { λ from end first. write_at (at_wave from end [] []) };
+
+    fn add_wave(
+        &self,
+        group: &mut Group,
+        from: usize,
+        end: usize,
+        bits: usize,
+        words: usize,
+        roots: &[usize],
+    ) -> Result<(), AllocError> {
+        if is_between(from, end, self.port.edge.clock) {
+            group.writes.push(resolved_write(bits, words, roots, self))?;
+        }
+        Ok(())
+    }
+
     ghost none = { Gets-none };
 
     ghost more = { λ old middle new writes others. Gets-more old middle new [] [] [] [] writes others };
 
     ghost apart = { λ event first. write-apart event };
+}
+
+/// Whether a slot is one of the registers, which stand from slot `from` up to slot `end`.
+fn is_between(from: usize, end: usize, slot: usize) -> bool
+    ensures { result ≡ is_between from end slot }
+{
+    from <= slot && slot < end
+}
+
+/// Adds the items whose clock is a register to the group of waves.
+fn add_waves<T: Clocked>(
+    group: &mut Group,
+    from: usize,
+    end: usize,
+    bits: usize,
+    words: usize,
+    roots: &[usize],
+    items: &[T],
+) -> Result<(), AllocError>
+    requires { bits + 16 * words + 2 < 2 ^ 64 }
+    ensures { OnOk result (T.Grows group.old (flat_map (T.waved from end end bits words roots.now) items.now) group.new) }
+{
+    for item in items {
+        item.add_wave(group, from, end, bits, words, roots)?;
+    }
+    Ok(())
+}
+
+/// An empty group. It takes no memory for items yet.
+fn empty_group(alloc: Global) -> Group
+    ensures { IsEmpty result }
+{
+    Group {
+        flips: Vec::new(alloc),
+        reads: Vec::new(alloc),
+        writes: Vec::new(alloc),
+    }
+}
+
+/// What waves run: the items whose clock is a register. The registers have the cells from `from` up to `end`, at which wires begin.
+pub(crate) fn waves_of(
+    alloc: Global,
+    from: usize,
+    end: usize,
+    bits: usize,
+    words: usize,
+    roots: &[usize],
+    plan: &Plan,
+) -> Result<Group, AllocError>
+    requires { bits + 16 * words + 2 < 2 ^ 64 }
+    ensures { (earlier now : List Bool) → IfOk result (IsGroup (at_wave from end earlier now) end bits words roots.now plan.now) }
+{
+    let mut group = empty_group(alloc);
+    add_waves(&mut group, from, end, bits, words, roots, &plan.flips)?;
+    add_waves(&mut group, from, end, bits, words, roots, &plan.reads)?;
+    add_waves(&mut group, from, end, bits, words, roots, &plan.writes)?;
+    Ok(group)
 }
 
 /// Adds an item to the group of the input that clocks it, if it is sensitive to that input's change to this bit.
@@ -223,11 +349,7 @@ fn empty_groups(alloc: Global, pins: usize) -> Result<Vec<Group>, AllocError>
 {
     let mut groups = Vec::with_capacity(alloc, pins)?;
     for _ in 0..pins {
-        groups.push(Group {
-            flips: Vec::new(alloc),
-            reads: Vec::new(alloc),
-            writes: Vec::new(alloc),
-        })?;
+        groups.push(empty_group(alloc))?;
     }
     Ok(groups)
 }
@@ -246,7 +368,7 @@ pub(crate) fn groups_of(
     requires { bits + 16 * words + 2 < 2 ^ 64 }
     ensures count { IfOk result (λ groups. length groups.items ≡ pins) }
     ensures each { IfOk result (λ groups. (pin : ℕ) (none : group_of) → pin < pins
-        → IsGroup (record { pin = pin; bit = bit }) first bits words roots.now plan.now (get_or groups.items pin none)) }
+        → IsGroup (at_event (record { pin = pin; bit = bit })) first bits words roots.now plan.now (get_or groups.items pin none)) }
 {
     let mut groups = empty_groups(alloc, pins)?;
     add_all(&mut groups, bit, first, bits, words, roots, &plan.flips)?;

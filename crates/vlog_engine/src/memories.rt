@@ -1,23 +1,25 @@
 // Reads and writes of memories, in a lane.
-ghost use Rattle.std.specs.Prelude.{◌≡◌, ◌<◌, ◌≤◌, [], fold, length, map, slice_set};
+ghost use Rattle.std.specs.Prelude.{◌≡◌, ◌<◌, ◌≤◌, [], fold, length, map, slice_set, true};
 ghost use Rattle.vlog_engine.specs.Lanes.{lane_bits};
+ghost use Rattle.vlog_engine.specs.StepKinds.{slots_of};
+ghost use Rattle.vlog_engine.specs.Triggers.{step_by};
 ghost use Rattle.vlog_semantics.specs.Run.{masked, moved_down, moved_up};
 ghost use Rattle.vlog_semantics.specs.Steps.{is_acting, kept_mask, operands_value, put_written, read_slot, set_word, taken_word, written_by};
 
-use crate::groups::Group;
 use crate::reading::{number, operand_bit};
+use crate::trigger::Trigger;
 use crate::value::Value;
 use vlog_semantics::{
-    Event, Field, Kept, Memory, MemoryPort, Operand, Read, Taken, Write, Written, copy_words,
-    is_edge_of, word_in,
+    Field, Kept, Memory, MemoryPort, Operand, Read, Taken, Write, Written, copy_words, word_in,
 };
 
-/// Whether a port of a memory acts at an event.
-fn is_acting<V: Value>(port: &MemoryPort, event: Event, cells: &[V], lane: u32) -> bool
-    requires { lane < V.LANES }
-    ensures { result ≡ is_acting event (lane_bits V.at lane cells.now) [] port.now }
+/// Whether a port of a memory acts in a step, in an active lane.
+fn is_acting<V: Value>(port: &MemoryPort, trigger: &Trigger<V>, cells: &[V], lane: u32) -> bool
+    requires within { lane < V.LANES }
+    requires active { V.at trigger.now.active lane ≡ true }
+    ensures { result ≡ is_acting (slots_of (step_by trigger.now.cause (lane_bits V.at lane trigger.now.earlier.now) (lane_bits V.at lane cells.now))) (lane_bits V.at lane cells.now) [] port.now }
 {
-    is_edge_of(event, port.edge)
+    trigger.lanes(cells, port.edge).bit(lane)
         && operand_bit(cells, lane, port.clock_enable)
         && operand_bit(cells, lane, port.enable)
 }
@@ -78,17 +80,18 @@ fn set_word_at(words: &mut [u16], slot: usize, word: u16)
 /// Does the reads: gives their registers what they take of memories, if their ports act.
 fn run_reads<V: Value>(
     reads: &[Read],
-    event: Event,
+    trigger: &Trigger<V>,
     cells: &[V],
     lane: u32,
     memories: &[Memory],
     next: &mut [u16],
 )
-    requires { lane < V.LANES }
-    ensures { next.new ≡ fold (read_slot event (lane_bits V.at lane cells.now) [] memories.now) next.old reads.now }
+    requires within { lane < V.LANES }
+    requires active { V.at trigger.now.active lane ≡ true }
+    ensures { next.new ≡ fold (read_slot (slots_of (step_by trigger.now.cause (lane_bits V.at lane trigger.now.earlier.now) (lane_bits V.at lane cells.now))) (lane_bits V.at lane cells.now) [] memories.now) next.old reads.now }
 {
     for read in reads {
-        if is_acting(&read.port, event, cells, lane) {
+        if is_acting(&read.port, trigger, cells, lane) {
             let address = address_of(cells, lane, &read.port.address);
             let word = word_in(memories, read.port.memory, address);
             set_word_at(
@@ -129,15 +132,16 @@ fn kept_mask<V: Value>(cells: &[V], lane: u32, kept: &Kept) -> u16
 /// The word that a write writes, if its port acts.
 fn written_by<V: Value>(
     write: &Write,
-    event: Event,
+    trigger: &Trigger<V>,
     cells: &[V],
     lane: u32,
     memories: &[Memory],
 ) -> Option<Written>
-    requires { lane < V.LANES }
-    ensures { result ≡ written_by event (lane_bits V.at lane cells.now) [] memories.now write.now }
+    requires within { lane < V.LANES }
+    requires active { V.at trigger.now.active lane ≡ true }
+    ensures { result ≡ written_by (slots_of (step_by trigger.now.cause (lane_bits V.at lane trigger.now.earlier.now) (lane_bits V.at lane cells.now))) (lane_bits V.at lane cells.now) [] memories.now write.now }
 {
-    if is_acting(&write.port, event, cells, lane) {
+    if is_acting(&write.port, trigger, cells, lane) {
         let memory = write.port.memory;
         let address = address_of(cells, lane, &write.port.address);
         let old = word_in(memories, memory, address);
@@ -165,17 +169,18 @@ fn note(written: &mut [Option<Written>], place: usize, found: Option<Written>)
 /// Notes what each write writes.
 fn prepare_writes<V: Value>(
     writes: &[Write],
-    event: Event,
+    trigger: &Trigger<V>,
     cells: &[V],
     lane: u32,
     memories: &[Memory],
     written: &mut [Option<Written>],
 )
-    requires { lane < V.LANES }
-    ensures { length written.old ≡ length writes.now → written.new ≡ map (written_by event (lane_bits V.at lane cells.now) [] memories.now) writes.now }
+    requires within { lane < V.LANES }
+    requires active { V.at trigger.now.active lane ≡ true }
+    ensures { length written.old ≡ length writes.now → written.new ≡ map (written_by (slots_of (step_by trigger.now.cause (lane_bits V.at lane trigger.now.earlier.now) (lane_bits V.at lane cells.now))) (lane_bits V.at lane cells.now) [] memories.now) writes.now }
 {
     for (place, write) in writes.iter().enumerate() {
-        let found = written_by(write, event, cells, lane, memories);
+        let found = written_by(write, trigger, cells, lane, memories);
         note(written, place, found);
     }
 }
@@ -210,8 +215,7 @@ fn run_writes(written: &[Option<Written>], memories: &mut [Memory])
 
 /// Does the writes of a lane, and computes the next words of its registers. Reads take the words from before the writes.
 pub(crate) fn run_memories<V: Value>(
-    group: &Group,
-    event: Event,
+    trigger: &Trigger<V>,
     cells: &[V],
     lane: u32,
     words: &[u16],
@@ -220,14 +224,29 @@ pub(crate) fn run_memories<V: Value>(
     written: &mut [Option<Written>],
 )
     requires within { lane < V.LANES }
+    requires active { V.at trigger.now.active lane ≡ true }
     requires words { length next_words.old ≡ length words.now }
-    requires written { length group.now.writes.items ≤ length written.old }
-    ensures words { next_words.new ≡ fold (read_slot event (lane_bits V.at lane cells.now) [] memories.old) words.now group.now.reads.items }
-    ensures memories { memories.new ≡ fold put_written memories.old (map (written_by event (lane_bits V.at lane cells.now) [] memories.old) group.now.writes.items) }
+    requires written { length trigger.now.group.now.writes.items ≤ length written.old }
+    ensures words { next_words.new ≡ fold (read_slot (slots_of (step_by trigger.now.cause (lane_bits V.at lane trigger.now.earlier.now) (lane_bits V.at lane cells.now))) (lane_bits V.at lane cells.now) [] memories.old) words.now trigger.now.group.now.reads.items }
+    ensures memories { memories.new ≡ fold put_written memories.old (map (written_by (slots_of (step_by trigger.now.cause (lane_bits V.at lane trigger.now.earlier.now) (lane_bits V.at lane cells.now))) (lane_bits V.at lane cells.now) [] memories.old) trigger.now.group.now.writes.items) }
 {
     copy_words(words, next_words);
-    run_reads(&group.reads, event, cells, lane, memories, next_words);
-    let written = &mut written[..group.writes.len()];
-    prepare_writes(&group.writes, event, cells, lane, memories, written);
+    run_reads(
+        &trigger.group.reads,
+        trigger,
+        cells,
+        lane,
+        memories,
+        next_words,
+    );
+    let written = &mut written[..trigger.group.writes.len()];
+    prepare_writes(
+        &trigger.group.writes,
+        trigger,
+        cells,
+        lane,
+        memories,
+        written,
+    );
     run_writes(written, memories);
 }

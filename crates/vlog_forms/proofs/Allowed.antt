@@ -14,7 +14,7 @@ use Rattle.vlog_forms.specs.declared.form.Form.{Form}
 use Rattle.vlog_forms.specs.declared.form.Form.TheVariants as form
 use Rattle.vlog_forms.specs.declared.fault.VlogCause.TheVariants.{Order, Undeclared, AssignedTwice}
 use Rattle.vlog_forms.specs.declared.slot.Role.{Role}
-use Rattle.vlog_forms.specs.declared.slot.Role.TheVariants.{Declares, Reads, ReadsBit, Takes, Assigns, Chooses, AssignsAsync, Starts}
+use Rattle.vlog_forms.specs.declared.slot.Role.TheVariants.{Declares, Reads, ReadsBit, Clocks, Takes, Assigns, Chooses, AssignsAsync, Starts}
 use Rattle.vlog_forms.specs.declared.slot.Slot.{Slot}
 use Rattle.vlog_forms.specs.declared.slot.Slot.TheVariants as slot
 use Rattle.vlog_forms.specs.Values.{Value}
@@ -111,6 +111,7 @@ role-ranged : (role : Role) (all : List Value) (place : ℕ) (name : List ℕ) (
 role-ranged (Declares sort) all place name limit within limited = tt
 role-ranged Reads all place name limit within limited = tt
 role-ranged ReadsBit all place name limit within limited = let top : limit ≤ 15 = leb-true limit 15 limited in omega arith
+role-ranged Clocks all place name limit within limited = tt
 role-ranged (Takes sort) all place name limit within limited = tt
 role-ranged (Assigns sort) all place name limit within limited = tt
 role-ranged Chooses all place name limit within limited = tt
@@ -197,6 +198,7 @@ role-named : (role : Role) (all : List Value) (place : ℕ) (name : List ℕ) �
 role-named (Declares sort) all place name named = named
 role-named Reads all place name named = named
 role-named ReadsBit all place name named = named
+role-named Clocks all place name named = named
 role-named (Takes sort) all place name named = named
 role-named (Assigns sort) all place name named = named
 role-named Chooses all place name named = named

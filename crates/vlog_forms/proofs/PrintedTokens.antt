@@ -52,6 +52,7 @@ role-name : (one : Role) (all : List Value) (place : ℕ) (name : List ℕ) → 
 role-name (role.Declares sort) all place name named = named
 role-name role.Reads all place name named = named
 role-name role.ReadsBit all place name named = named
+role-name role.Clocks all place name named = named
 role-name (role.Takes sort) all place name named = named
 role-name (role.Assigns sort) all place name named = named
 role-name role.Chooses all place name named = named

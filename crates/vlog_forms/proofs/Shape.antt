@@ -170,21 +170,21 @@ module _ (condition : List Slot) (clock_role : Role) (falling : Bool) (clock : L
       ap clocked_shape (sign-after sign.CloseParen condition edge_values values tail (record { opens = refl; closes = refl; rises = refl; falls = refl }) has)
 
 flip-item : (falling : Bool) (clock : List ℕ) (one : Atom) (values : List Value) (tail : List TokenValue)
-    → shape (filled (slots_of form.FlipFlop) [] (Edge falling ∷ Name (role.Takes sort.Input) clock ∷ AnAtom one ∷ values) ++ tail) ≡ form.FlipFlop
+    → shape (filled (slots_of form.FlipFlop) [] (Edge falling ∷ Name role.Clocks clock ∷ AnAtom one ∷ values) ++ tail) ≡ form.FlipFlop
 unfolding slots_of filled filled_after has_sign
-flip-item falling clock one values tail = clocked (drop 12 (slots_of form.FlipFlop)) (role.Takes sort.Input) falling clock (AnAtom one ∷ values) tail refl
+flip-item falling clock one values tail = clocked (drop 12 (slots_of form.FlipFlop)) role.Clocks falling clock (AnAtom one ∷ values) tail refl
 
 read-item : (falling : Bool) (clock : List ℕ) (one other : Atom) (target memory : List ℕ) (values : List Value) (tail : List TokenValue)
-    → shape (filled (slots_of form.Read) [] (Edge falling ∷ Name (role.Takes sort.Input) clock ∷ AnAtom one ∷ AnAtom other ∷ Name (role.Assigns sort.Word) target ∷ Name (role.Takes sort.Memory) memory ∷ values) ++ tail) ≡ form.Read
+    → shape (filled (slots_of form.Read) [] (Edge falling ∷ Name role.Clocks clock ∷ AnAtom one ∷ AnAtom other ∷ Name (role.Assigns sort.Word) target ∷ Name (role.Takes sort.Memory) memory ∷ values) ++ tail) ≡ form.Read
 unfolding slots_of filled filled_after has_sign
 read-item falling clock one other target memory values tail =
-    clocked (drop 12 (slots_of form.Read)) (role.Takes sort.Input) falling clock (AnAtom one ∷ AnAtom other ∷ Name (role.Assigns sort.Word) target ∷ Name (role.Takes sort.Memory) memory ∷ values) tail refl
+    clocked (drop 12 (slots_of form.Read)) role.Clocks falling clock (AnAtom one ∷ AnAtom other ∷ Name (role.Assigns sort.Word) target ∷ Name (role.Takes sort.Memory) memory ∷ values) tail refl
 
 narrow-read : (falling : Bool) (clock : List ℕ) (one other : Atom) (target : List ℕ) (values : List Value) (tail : List TokenValue)
-    → shape (filled (slots_of form.ReadNarrow) [] (Edge falling ∷ Name (role.Takes sort.Input) clock ∷ AnAtom one ∷ AnAtom other ∷ Name (role.Assigns sort.Word) target ∷ values) ++ tail) ≡ form.ReadNarrow
+    → shape (filled (slots_of form.ReadNarrow) [] (Edge falling ∷ Name role.Clocks clock ∷ AnAtom one ∷ AnAtom other ∷ Name (role.Assigns sort.Word) target ∷ values) ++ tail) ≡ form.ReadNarrow
 unfolding slots_of filled filled_after has_sign
 narrow-read falling clock one other target values tail =
-    clocked (drop 12 (slots_of form.ReadNarrow)) (role.Takes sort.Input) falling clock (AnAtom one ∷ AnAtom other ∷ Name (role.Assigns sort.Word) target ∷ values) tail refl
+    clocked (drop 12 (slots_of form.ReadNarrow)) role.Clocks falling clock (AnAtom one ∷ AnAtom other ∷ Name (role.Assigns sort.Word) target ∷ values) tail refl
 
 -- after the condition of a write, the first `&` comes before the mask
 masked-shape : (slots : List Slot) (before values : List Value) (memory : List ℕ) (tail : List TokenValue) → has_sign sign.And slots ≡ true
@@ -196,18 +196,18 @@ masked-shape slots before values memory tail has =
     (sign-after sign.And slots (before ++ Name (role.Assigns sort.Memory) memory ∷ []) values tail (record { opens = refl; closes = refl; rises = refl; falls = refl }) has)
 
 write-item : (falling : Bool) (clock : List ℕ) (one other : Atom) (memory : List ℕ) (values : List Value) (tail : List TokenValue)
-    → shape (filled (slots_of form.Write) [] (Edge falling ∷ Name (role.Takes sort.Input) clock ∷ AnAtom one ∷ AnAtom other ∷ Name (role.Assigns sort.Memory) memory ∷ values) ++ tail) ≡ form.Write
+    → shape (filled (slots_of form.Write) [] (Edge falling ∷ Name role.Clocks clock ∷ AnAtom one ∷ AnAtom other ∷ Name (role.Assigns sort.Memory) memory ∷ values) ++ tail) ≡ form.Write
 unfolding slots_of filled filled_after has_sign
 write-item falling clock one other memory values tail =
-    clocked (drop 12 (slots_of form.Write)) (role.Takes sort.Input) falling clock (AnAtom one ∷ AnAtom other ∷ Name (role.Assigns sort.Memory) memory ∷ values) tail refl
-    ∙ masked-shape (drop 21 (slots_of form.Write)) (Edge falling ∷ Name (role.Takes sort.Input) clock ∷ AnAtom one ∷ AnAtom other ∷ []) values memory tail refl
+    clocked (drop 12 (slots_of form.Write)) role.Clocks falling clock (AnAtom one ∷ AnAtom other ∷ Name (role.Assigns sort.Memory) memory ∷ values) tail refl
+    ∙ masked-shape (drop 21 (slots_of form.Write)) (Edge falling ∷ Name role.Clocks clock ∷ AnAtom one ∷ AnAtom other ∷ []) values memory tail refl
 
 narrow-write : (falling : Bool) (clock : List ℕ) (one other : Atom) (memory : List ℕ) (values : List Value) (tail : List TokenValue)
-    → shape (filled (slots_of form.WriteNarrow) [] (Edge falling ∷ Name (role.Takes sort.Input) clock ∷ AnAtom one ∷ AnAtom other ∷ Name (role.Assigns sort.Memory) memory ∷ values) ++ tail) ≡ form.WriteNarrow
+    → shape (filled (slots_of form.WriteNarrow) [] (Edge falling ∷ Name role.Clocks clock ∷ AnAtom one ∷ AnAtom other ∷ Name (role.Assigns sort.Memory) memory ∷ values) ++ tail) ≡ form.WriteNarrow
 unfolding slots_of filled filled_after has_sign
 narrow-write falling clock one other memory values tail =
-    clocked (drop 12 (slots_of form.WriteNarrow)) (role.Takes sort.Input) falling clock (AnAtom one ∷ AnAtom other ∷ Name (role.Assigns sort.Memory) memory ∷ values) tail refl
-    ∙ masked-shape (drop 21 (slots_of form.WriteNarrow)) (Edge falling ∷ Name (role.Takes sort.Input) clock ∷ AnAtom one ∷ AnAtom other ∷ []) values memory tail refl
+    clocked (drop 12 (slots_of form.WriteNarrow)) role.Clocks falling clock (AnAtom one ∷ AnAtom other ∷ Name (role.Assigns sort.Memory) memory ∷ values) tail refl
+    ∙ masked-shape (drop 21 (slots_of form.WriteNarrow)) (Edge falling ∷ Name role.Clocks clock ∷ AnAtom one ∷ AnAtom other ∷ []) values memory tail refl
 
 reset-shape : (slots : List Slot) (clock_role : Role) (falling : Bool) (clock : List ℕ) (values : List Value) (tail : List TokenValue)
     → shape (filled (slot.Fixed sign.Always ∷ slot.Space ∷ slot.Fixed sign.At ∷ slot.Fixed sign.OpenParen ∷ slot.Edge ∷ slot.Space ∷ slot.Name clock_role ∷ slot.Space ∷ slot.Fixed sign.OrEdge ∷ slots) []
@@ -216,9 +216,9 @@ unfolding shape filled
 reset-shape slots clock_role falling clock values tail = refl
 
 reset-item : (falling : Bool) (clock : List ℕ) (values : List Value) (tail : List TokenValue)
-    → shape (filled (slots_of form.AsyncFlipFlop) [] (Edge falling ∷ Name (role.Takes sort.Input) clock ∷ values) ++ tail) ≡ form.AsyncFlipFlop
+    → shape (filled (slots_of form.AsyncFlipFlop) [] (Edge falling ∷ Name role.Clocks clock ∷ values) ++ tail) ≡ form.AsyncFlipFlop
 unfolding slots_of
-reset-item falling clock values tail = reset-shape (drop 9 (slots_of form.AsyncFlipFlop)) (role.Takes sort.Input) falling clock values tail
+reset-item falling clock values tail = reset-shape (drop 9 (slots_of form.AsyncFlipFlop)) role.Clocks falling clock values tail
 
 lut-item : (slots : List Slot) (name : List ℕ) (word : ℕ) (values : List Value) (tail : List TokenValue)
     → shape (filled (slot.Fixed sign.Wire ∷ slot.Space ∷ slot.Name (role.Declares sort.Wire) ∷ slot.Space ∷ slot.Fixed sign.Equals ∷ slot.Space ∷ slot.Word ∷ slots) []

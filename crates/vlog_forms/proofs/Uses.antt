@@ -9,7 +9,7 @@ use Rattle.vlog_module.specs.declared.item.Right.TheVariants as right
 use Rattle.vlog_module.specs.declared.item.Item.{Item}
 use Rattle.vlog_module.specs.declared.item.Item.TheVariants as item
 use Rattle.vlog_module.specs.Uses.{Use, uses_of, atom_uses, atoms_uses, lut_uses}
-use Rattle.vlog_module.specs.Uses.Use.{Declares, Takes, Assigns, AssignsAsync}
+use Rattle.vlog_module.specs.Uses.Use.{Declares, Clocks, Takes, Assigns, AssignsAsync}
 use Rattle.vlog_forms.specs.declared.slot.Role.TheVariants as role
 use Rattle.vlog_forms.specs.Values.{Value}
 use Rattle.vlog_forms.specs.Values.{Value as value}
@@ -99,17 +99,17 @@ uses-of-values (item.Assign name one) =
     ap (λ more. Assigns sort.Output name ∷ more) (atom-next all 1 one [] ∙ append-nil (atom_uses one))
 uses-of-values (item.FlipFlop falling clock enable reset set target lut) =
     let all : List Value = item_values (item.FlipFlop falling clock enable reset set target lut) in
-    ap (λ more. Takes sort.Input clock ∷ more)
+    ap (λ more. Clocks clock ∷ more)
     (two-next all 2 enable reset (value.Name (role.Assigns sort.Register) target ∷ value.Bit set ∷ lut_values lut) (Assigns sort.Register target ∷ lut_uses lut)
     (ap (λ more. Assigns sort.Register target ∷ more) (list-last all 7 lut.ins)))
 uses-of-values (item.AsyncFlipFlop falling clock reset set target enable lut) =
     let all : List Value = item_values (item.AsyncFlipFlop falling clock reset set target enable lut) in
-    ap (λ more. Takes sort.Input clock ∷ Takes sort.Wire reset ∷ AssignsAsync reset set target ∷ more)
+    ap (λ more. Clocks clock ∷ Takes sort.Wire reset ∷ AssignsAsync reset set target ∷ more)
     (atom-next all 5 enable (lut_values lut) ∙ ap (λ more. atom_uses enable ++ more) (list-last all 7 lut.ins))
 uses-of-values (item.AsyncReset reset set target) = refl
 uses-of-values (item.Read falling clock clock_enable enable target memory address) =
     let all : List Value = item_values (item.Read falling clock clock_enable enable target memory address) in
-    ap (λ more. Takes sort.Input clock ∷ more)
+    ap (λ more. Clocks clock ∷ more)
     (two-next all 2 clock_enable enable (value.Name (role.Assigns sort.Word) target ∷ value.Name (role.Takes sort.Memory) memory ∷ atoms_values address) (Assigns sort.Word target ∷ Takes sort.Memory memory ∷ atoms_uses address)
     (ap (λ more. Assigns sort.Word target ∷ Takes sort.Memory memory ∷ more) (list-last all 6 address)))
 uses-of-values (item.ReadNarrow falling clock clock_enable enable target memory address shift pattern) =
@@ -118,18 +118,18 @@ uses-of-values (item.ReadNarrow falling clock clock_enable enable target memory 
     let after_them : uses_from all 6 (atoms_values address ++ values) ≡ atoms_uses address ++ atoms_uses shift
     = list-next all 6 address values (atoms_uses shift)
     (λ next. list-next all next shift (value.Word pattern ∷ []) [] (λ last. refl) ∙ append-nil (atoms_uses shift)) in
-    ap (λ more. Takes sort.Input clock ∷ more)
+    ap (λ more. Clocks clock ∷ more)
     (two-next all 2 clock_enable enable (value.Name (role.Assigns sort.Word) target ∷ value.Name (role.Takes sort.Memory) memory ∷ (atoms_values address ++ values))
     (Assigns sort.Word target ∷ Takes sort.Memory memory ∷ (atoms_uses address ++ atoms_uses shift)) (ap (λ more. Assigns sort.Word target ∷ Takes sort.Memory memory ∷ more) after_them)
     ∙ sym (append_assoc (atom_uses clock_enable ++ atom_uses enable) (Assigns sort.Word target ∷ Takes sort.Memory memory ∷ atoms_uses address) (atoms_uses shift)))
 uses-of-values (item.Write falling clock clock_enable enable memory address mask bits) =
     let all : List Value = item_values (item.Write falling clock clock_enable enable memory address mask bits) in
-    ap (λ more. Takes sort.Input clock ∷ more)
+    ap (λ more. Clocks clock ∷ more)
     (write-next all clock_enable enable memory address (atoms_values mask ++ atoms_values bits) (atoms_uses mask) (atoms_uses bits)
     (λ next. list-next all next mask (atoms_values bits) (atoms_uses bits) (λ last. list-last all last bits)))
 uses-of-values (item.WriteNarrow falling clock clock_enable enable memory address pattern shift bits) =
     let all : List Value = item_values (item.WriteNarrow falling clock clock_enable enable memory address pattern shift bits) in
-    ap (λ more. Takes sort.Input clock ∷ more)
+    ap (λ more. Clocks clock ∷ more)
     (write-next all clock_enable enable memory address (value.Word pattern ∷ (atoms_values shift ++ atoms_values bits)) (atoms_uses shift) (atoms_uses bits)
     (λ next. list-next all (next + 1) shift (atoms_values bits) (atoms_uses bits) (λ last. list-last all last bits)))
 uses-of-values (item.Start memory k word) = refl

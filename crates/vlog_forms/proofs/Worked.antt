@@ -56,3 +56,23 @@ narrow = refl
 other_pattern : vlog_fault_of (codes "module m (c); input c; reg [15:0] r = 16'h0000; reg [15:0] q [0:255]; always @(negedge c) if (1'b1 & 1'b1) q[{1'b0, 1'b0, 1'b0, 1'b0, 1'b0, 1'b0, 1'b0, 1'b0}] <= (q[{1'b0, 1'b0, 1'b0, 1'b0, 1'b0, 1'b0, 1'b0, 1'b0}] & ~(16'h5555 << {1'b0, 1'b0, c})) | ({1'b0, 1'b0, 1'b0, 1'b0, 1'b0, 1'b0, 1'b0, 1'b0, 1'b0, 1'b0, 1'b0, 1'b0, 1'b0, 1'b0, 1'b0, 1'b0} & (16'h1111 << {1'b0, 1'b0, c})); endmodule") ≡ Some (fault 352 Syntax)
 unfolding vlog_fault_of outcome_of spots_outcome items_outcome ports_outcome port_names read_forms read_slots slots_of item_of atoms_in following spots_from front_token front_length digits_token digits_length sign_token sign_length name_or_word word_of pair_of sign_of
 other_pattern = refl
+
+-- a register as a clock, which is read and assigned too
+register_clock : vlog_fault_of (codes "module m (c); input c; reg r = 1'b0; reg q = 1'b0; always @(posedge c) if (1'b1) begin if (1'b0) r <= 1'b0; else r <= 16'h5555 >> {1'b0, 1'b0, 1'b0, r}; end always @(negedge r) if (1'b1) begin if (1'b0) q <= 1'b0; else q <= 16'h5555 >> {1'b0, 1'b0, 1'b0, q}; end endmodule") ≡ None
+unfolding vlog_fault_of outcome_of spots_outcome items_outcome ports_outcome port_names read_forms read_slots slots_of item_of atoms_in following spots_from front_token front_length digits_token digits_length sign_token sign_length name_or_word word_of pair_of sign_of
+register_clock = refl
+
+-- a wire as a clock
+wire_clock : vlog_fault_of (codes "module m (c); input c; reg r = 1'b0; reg q = 1'b0; wire w = r; always @(posedge c) if (1'b1) begin if (1'b0) r <= 1'b0; else r <= 16'h5555 >> {1'b0, 1'b0, 1'b0, r}; end always @(negedge w) if (1'b1) begin if (1'b0) q <= 1'b0; else q <= 16'h5555 >> {1'b0, 1'b0, 1'b0, q}; end endmodule") ≡ Some (fault 186 Undeclared)
+unfolding vlog_fault_of outcome_of spots_outcome items_outcome ports_outcome port_names read_forms read_slots slots_of item_of atoms_in following spots_from front_token front_length digits_token digits_length sign_token sign_length name_or_word word_of pair_of sign_of
+wire_clock = refl
+
+-- a register of 16 bits as a clock
+word_clock : vlog_fault_of (codes "module m (c); input c; reg r = 1'b0; reg q = 1'b0; reg [15:0] w = 16'h0000; always @(posedge c) if (1'b1) begin if (1'b0) r <= 1'b0; else r <= 16'h5555 >> {1'b0, 1'b0, 1'b0, r}; end always @(negedge w) if (1'b1) begin if (1'b0) q <= 1'b0; else q <= 16'h5555 >> {1'b0, 1'b0, 1'b0, q}; end endmodule") ≡ Some (fault 199 Undeclared)
+unfolding vlog_fault_of outcome_of spots_outcome items_outcome ports_outcome port_names read_forms read_slots slots_of item_of atoms_in following spots_from front_token front_length digits_token digits_length sign_token sign_length name_or_word word_of pair_of sign_of
+word_clock = refl
+
+-- a register as its own clock
+own_clock : vlog_fault_of (codes "module m (); reg r = 1'b0; wire s = 1'b0; always @(posedge r or posedge s) if (s) r <= 1'b1; else if (1'b1) r <= 16'h5555 >> {1'b0, 1'b0, 1'b0, r}; endmodule") ≡ None
+unfolding vlog_fault_of outcome_of spots_outcome items_outcome ports_outcome port_names read_forms read_slots slots_of item_of atoms_in following spots_from front_token front_length digits_token digits_length sign_token sign_length name_or_word word_of pair_of sign_of
+own_clock = refl

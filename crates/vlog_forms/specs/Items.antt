@@ -16,7 +16,7 @@ use Rattle.vlog_module.specs.Parts.{Parts}
 use Rattle.vlog_module.specs.WellFormed.{IsModule}
 use Rattle.vlog_forms.specs.declared.form.Form.{Form}
 use Rattle.vlog_forms.specs.declared.form.Form.TheVariants as form
-use Rattle.vlog_forms.specs.declared.slot.Role.TheVariants.{Declares, Reads, ReadsBit, Takes, Assigns, Chooses, AssignsAsync, Starts}
+use Rattle.vlog_forms.specs.declared.slot.Role.TheVariants.{Declares, Reads, ReadsBit, Clocks, Takes, Assigns, Chooses, AssignsAsync, Starts}
 use Rattle.vlog_forms.specs.Values.{Value}
 use Rattle.vlog_forms.specs.Values.Value.{Name, Edge, Bit, Word, Index, AnAtom}
 use Rattle.vlog_forms.specs.Layout.{slots_of, filled}
@@ -68,24 +68,24 @@ item_values (item.Memory name) = Name (Declares sort.Memory) name ∷ []
 item_values (item.Wire name right) = Name (Declares sort.Wire) name ∷ right_values right
 item_values (item.Assign name value) = Name (Assigns sort.Output) name ∷ AnAtom value ∷ []
 item_values (item.FlipFlop falling clock enable reset set target lut) =
-    Edge falling ∷ Name (Takes sort.Input) clock ∷ AnAtom enable ∷ AnAtom reset ∷ Name (Assigns sort.Register) target ∷ Bit set
+    Edge falling ∷ Name Clocks clock ∷ AnAtom enable ∷ AnAtom reset ∷ Name (Assigns sort.Register) target ∷ Bit set
     ∷ lut_values lut
 item_values (item.AsyncFlipFlop falling clock reset set target enable lut) =
-    Edge falling ∷ Name (Takes sort.Input) clock ∷ Name (Takes sort.Wire) reset ∷ Name AssignsAsync target ∷ Bit set
+    Edge falling ∷ Name Clocks clock ∷ Name (Takes sort.Wire) reset ∷ Name AssignsAsync target ∷ Bit set
     ∷ AnAtom enable ∷ lut_values lut
 item_values (item.AsyncReset reset set target) =
     Name (Takes sort.Wire) reset ∷ Name AssignsAsync target ∷ Bit set ∷ []
 item_values (item.Read falling clock clock_enable enable target memory address) =
-    Edge falling ∷ Name (Takes sort.Input) clock ∷ AnAtom clock_enable ∷ AnAtom enable ∷ Name (Assigns sort.Word) target
+    Edge falling ∷ Name Clocks clock ∷ AnAtom clock_enable ∷ AnAtom enable ∷ Name (Assigns sort.Word) target
     ∷ Name (Takes sort.Memory) memory ∷ atoms_values address
 item_values (item.ReadNarrow falling clock clock_enable enable target memory address shift pattern) =
-    Edge falling ∷ Name (Takes sort.Input) clock ∷ AnAtom clock_enable ∷ AnAtom enable ∷ Name (Assigns sort.Word) target
+    Edge falling ∷ Name Clocks clock ∷ AnAtom clock_enable ∷ AnAtom enable ∷ Name (Assigns sort.Word) target
     ∷ Name (Takes sort.Memory) memory ∷ (atoms_values address ++ (atoms_values shift ++ Word pattern ∷ []))
 item_values (item.Write falling clock clock_enable enable memory address mask bits) =
-    Edge falling ∷ Name (Takes sort.Input) clock ∷ AnAtom clock_enable ∷ AnAtom enable ∷ Name (Assigns sort.Memory) memory
+    Edge falling ∷ Name Clocks clock ∷ AnAtom clock_enable ∷ AnAtom enable ∷ Name (Assigns sort.Memory) memory
     ∷ (atoms_values address ++ (atoms_values mask ++ atoms_values bits))
 item_values (item.WriteNarrow falling clock clock_enable enable memory address pattern shift bits) =
-    Edge falling ∷ Name (Takes sort.Input) clock ∷ AnAtom clock_enable ∷ AnAtom enable ∷ Name (Assigns sort.Memory) memory
+    Edge falling ∷ Name Clocks clock ∷ AnAtom clock_enable ∷ AnAtom enable ∷ Name (Assigns sort.Memory) memory
     ∷ (atoms_values address ++ (Word pattern ∷ (atoms_values shift ++ atoms_values bits)))
 item_values (item.Start memory k word) = Name Starts memory ∷ Index k ∷ Word word ∷ []
 

@@ -17,7 +17,7 @@ use Rattle.vlog_forms.specs.declared.fault.VlogCause.TheVariants.{Syntax, Order,
 use Rattle.vlog_forms.specs.declared.form.Form.{Form}
 use Rattle.vlog_forms.specs.declared.form.Form.TheVariants as form
 use Rattle.vlog_forms.specs.declared.slot.Role.{Role}
-use Rattle.vlog_forms.specs.declared.slot.Role.TheVariants.{Declares, Reads, ReadsBit, Takes, Assigns, Chooses, AssignsAsync, Starts}
+use Rattle.vlog_forms.specs.declared.slot.Role.TheVariants.{Declares, Reads, ReadsBit, Clocks, Takes, Assigns, Chooses, AssignsAsync, Starts}
 use Rattle.vlog_forms.specs.declared.slot.Slot.{Slot}
 use Rattle.vlog_forms.specs.declared.slot.Slot.TheVariants as slot
 use Rattle.vlog_forms.specs.Values.{Value, is_same_token}
@@ -40,6 +40,7 @@ abbrev pub role_use : Role → List Value → ℕ → List ℕ → Use
 role_use (Declares sort) values place name = use_as.Declares sort name
 role_use Reads values place name = use_as.Reads name
 role_use ReadsBit values place name = use_as.ReadsBit name (index_in (following (place + 1) values))
+role_use Clocks values place name = use_as.Clocks name
 role_use (Takes sort) values place name = use_as.Takes sort name
 role_use (Assigns sort) values place name = use_as.Assigns sort name
 role_use Chooses values place name =

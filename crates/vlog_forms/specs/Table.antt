@@ -4,7 +4,7 @@ use Rattle.vlog_tokens.specs.declared.fixed.Fixed.TheVariants as sign
 use Rattle.vlog_module.specs.declared.sort.Sort.TheVariants as sort
 use Rattle.vlog_forms.specs.declared.form.Form.{Form}
 use Rattle.vlog_forms.specs.declared.form.Form.TheVariants as form
-use Rattle.vlog_forms.specs.declared.slot.Role.TheVariants.{Declares, Reads, ReadsBit, Takes, Assigns, Chooses, AssignsAsync, Starts}
+use Rattle.vlog_forms.specs.declared.slot.Role.TheVariants.{Declares, Reads, ReadsBit, Clocks, Takes, Assigns, Chooses, AssignsAsync, Starts}
 use Rattle.vlog_forms.specs.declared.slot.Slot.{Slot}
 use Rattle.vlog_forms.specs.declared.slot.Slot.TheVariants.{Space, Fixed, Literal, Again, AtomsAgain, Name, Edge, Bit, Word, Index, Atom, Atoms}
 
@@ -51,7 +51,7 @@ table form.Assign =
     Fixed sign.Semicolon ∷ []
 table form.FlipFlop =
     Fixed sign.Always ∷ Space ∷ Fixed sign.At ∷ Fixed sign.OpenParen ∷ Edge ∷ Space ∷
-    Name (Takes sort.Input) ∷ Fixed sign.CloseParen ∷ Space ∷ Fixed sign.If ∷ Space ∷ Fixed sign.OpenParen ∷
+    Name Clocks ∷ Fixed sign.CloseParen ∷ Space ∷ Fixed sign.If ∷ Space ∷ Fixed sign.OpenParen ∷
     Atom ∷ Fixed sign.CloseParen ∷ Space ∷ Fixed sign.Begin ∷ Space ∷ Fixed sign.If ∷ Space ∷
     Fixed sign.OpenParen ∷ Atom ∷ Fixed sign.CloseParen ∷ Space ∷ Name (Assigns sort.Register) ∷ Space ∷
     Fixed sign.LessEquals ∷ Space ∷ Bit ∷ Fixed sign.Semicolon ∷ Space ∷ Fixed sign.Else ∷ Space ∷ Again 4 ∷
@@ -59,7 +59,7 @@ table form.FlipFlop =
     Fixed sign.Semicolon ∷ Space ∷ Fixed sign.End ∷ []
 table form.AsyncFlipFlop =
     Fixed sign.Always ∷ Space ∷ Fixed sign.At ∷ Fixed sign.OpenParen ∷ Edge ∷ Space ∷
-    Name (Takes sort.Input) ∷ Space ∷ Fixed sign.OrEdge ∷ Space ∷ Fixed sign.Posedge ∷ Space ∷
+    Name Clocks ∷ Space ∷ Fixed sign.OrEdge ∷ Space ∷ Fixed sign.Posedge ∷ Space ∷
     Name (Takes sort.Wire) ∷ Fixed sign.CloseParen ∷ Space ∷ Fixed sign.If ∷ Space ∷ Fixed sign.OpenParen ∷
     Again 2 ∷ Fixed sign.CloseParen ∷ Space ∷ Name AssignsAsync ∷ Space ∷ Fixed sign.LessEquals ∷ Space ∷ Bit ∷
     Fixed sign.Semicolon ∷ Space ∷ Fixed sign.Else ∷ Space ∷ Fixed sign.If ∷ Space ∷ Fixed sign.OpenParen ∷ Atom ∷
@@ -71,20 +71,20 @@ table form.AsyncReset =
     Space ∷ Bit ∷ Fixed sign.Semicolon ∷ []
 table form.Read =
     Fixed sign.Always ∷ Space ∷ Fixed sign.At ∷ Fixed sign.OpenParen ∷ Edge ∷ Space ∷
-    Name (Takes sort.Input) ∷ Fixed sign.CloseParen ∷ Space ∷ Fixed sign.If ∷ Space ∷ Fixed sign.OpenParen ∷
+    Name Clocks ∷ Fixed sign.CloseParen ∷ Space ∷ Fixed sign.If ∷ Space ∷ Fixed sign.OpenParen ∷
     Atom ∷ Space ∷ Fixed sign.And ∷ Space ∷ Atom ∷ Fixed sign.CloseParen ∷ Space ∷ Name (Assigns sort.Word) ∷
     Space ∷ Fixed sign.LessEquals ∷ Space ∷ Name (Takes sort.Memory) ∷ Fixed sign.OpenBracket ∷ Atoms 8 ∷
     Fixed sign.CloseBracket ∷ Fixed sign.Semicolon ∷ []
 table form.ReadNarrow =
     Fixed sign.Always ∷ Space ∷ Fixed sign.At ∷ Fixed sign.OpenParen ∷ Edge ∷ Space ∷
-    Name (Takes sort.Input) ∷ Fixed sign.CloseParen ∷ Space ∷ Fixed sign.If ∷ Space ∷ Fixed sign.OpenParen ∷
+    Name Clocks ∷ Fixed sign.CloseParen ∷ Space ∷ Fixed sign.If ∷ Space ∷ Fixed sign.OpenParen ∷
     Atom ∷ Space ∷ Fixed sign.And ∷ Space ∷ Atom ∷ Fixed sign.CloseParen ∷ Space ∷ Name (Assigns sort.Word) ∷
     Space ∷ Fixed sign.LessEquals ∷ Space ∷ Fixed sign.OpenParen ∷ Name (Takes sort.Memory) ∷
     Fixed sign.OpenBracket ∷ Atoms 8 ∷ Fixed sign.CloseBracket ∷ Space ∷ Fixed sign.ShiftRight ∷ Space ∷ Atoms 3 ∷
     Fixed sign.CloseParen ∷ Space ∷ Fixed sign.And ∷ Space ∷ Word ∷ Fixed sign.Semicolon ∷ []
 table form.Write =
     Fixed sign.Always ∷ Space ∷ Fixed sign.At ∷ Fixed sign.OpenParen ∷ Edge ∷ Space ∷
-    Name (Takes sort.Input) ∷ Fixed sign.CloseParen ∷ Space ∷ Fixed sign.If ∷ Space ∷ Fixed sign.OpenParen ∷
+    Name Clocks ∷ Fixed sign.CloseParen ∷ Space ∷ Fixed sign.If ∷ Space ∷ Fixed sign.OpenParen ∷
     Atom ∷ Space ∷ Fixed sign.And ∷ Space ∷ Atom ∷ Fixed sign.CloseParen ∷ Space ∷
     Name (Assigns sort.Memory) ∷ Fixed sign.OpenBracket ∷ Atoms 8 ∷ Fixed sign.CloseBracket ∷ Space ∷
     Fixed sign.LessEquals ∷ Space ∷ Fixed sign.OpenParen ∷ Again 4 ∷ Fixed sign.OpenBracket ∷
@@ -94,7 +94,7 @@ table form.Write =
     Fixed sign.Semicolon ∷ []
 table form.WriteNarrow =
     Fixed sign.Always ∷ Space ∷ Fixed sign.At ∷ Fixed sign.OpenParen ∷ Edge ∷ Space ∷
-    Name (Takes sort.Input) ∷ Fixed sign.CloseParen ∷ Space ∷ Fixed sign.If ∷ Space ∷ Fixed sign.OpenParen ∷
+    Name Clocks ∷ Fixed sign.CloseParen ∷ Space ∷ Fixed sign.If ∷ Space ∷ Fixed sign.OpenParen ∷
     Atom ∷ Space ∷ Fixed sign.And ∷ Space ∷ Atom ∷ Fixed sign.CloseParen ∷ Space ∷
     Name (Assigns sort.Memory) ∷ Fixed sign.OpenBracket ∷ Atoms 8 ∷ Fixed sign.CloseBracket ∷ Space ∷
     Fixed sign.LessEquals ∷ Space ∷ Fixed sign.OpenParen ∷ Again 4 ∷ Fixed sign.OpenBracket ∷

@@ -12,7 +12,9 @@ pub enum Role {
     Reads,
     /// It reads a bit of the name, a register of 16 bits; the next value is the index of the bit.
     ReadsBit,
-    /// It uses the name as a clock, as an asynchronous set or reset, or as a memory.
+    /// It uses the name as a clock: an input, or a register of one bit.
+    Clocks,
+    /// It uses the name as an asynchronous set or reset, or as a memory.
     Takes(Sort),
     /// It assigns the name.
     Assigns(Sort),

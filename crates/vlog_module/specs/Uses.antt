@@ -1,7 +1,7 @@
 -- The names of an item: what it declares, reads and assigns, from left to right in its text.
 use Rattle.std.specs.Prelude.{ℕ, Bool, List, [], ◌∷◌, ◌++◌}
 use Rattle.vlog_module.specs.declared.sort.Sort.{Sort}
-use Rattle.vlog_module.specs.declared.sort.Sort.TheVariants.{Input, Output, Register, Word, Memory, Wire}
+use Rattle.vlog_module.specs.declared.sort.Sort.TheVariants.{Output, Register, Word, Memory, Wire}
 use Rattle.vlog_module.specs.declared.atoms.Atom.{Atom}
 use Rattle.vlog_module.specs.declared.atoms.Atom.TheVariants.{Bit, Whole, Part}
 use Rattle.vlog_module.specs.declared.item.Lut.{Lut}
@@ -18,7 +18,9 @@ pub data Use : Type 0 where
   Reads : (name : List ℕ) → Use
   -- it reads bit k of the name, which is a register of 16 bits
   ReadsBit : (name : List ℕ) (k : ℕ) → Use
-  -- it uses the name as a clock, as an asynchronous set or reset, or as a memory
+  -- it uses the name as a clock
+  Clocks : (name : List ℕ) → Use
+  -- it uses the name as an asynchronous set or reset, or as a memory
   Takes : (sort : Sort) (name : List ℕ) → Use
   -- it assigns the name
   Assigns : (sort : Sort) (name : List ℕ) → Use
@@ -34,6 +36,7 @@ abbrev pub used_name : Use → List ℕ
 used_name (Declares sort name) = name
 used_name (Reads name) = name
 used_name (ReadsBit name k) = name
+used_name (Clocks name) = name
 used_name (Takes sort name) = name
 used_name (Assigns sort name) = name
 used_name (Chooses reset set name) = name
@@ -69,23 +72,23 @@ uses_of (MemoryItem name) = Declares Memory name ∷ []
 uses_of (WireItem name right) = Declares Wire name ∷ right_uses right
 uses_of (Assign name value) = Assigns Output name ∷ atom_uses value
 uses_of (FlipFlop falling clock enable reset set target lut) =
-    Takes Input clock ∷ (atom_uses enable ++ atom_uses reset ++ Assigns Register target ∷ lut_uses lut)
+    Clocks clock ∷ (atom_uses enable ++ atom_uses reset ++ Assigns Register target ∷ lut_uses lut)
 uses_of (AsyncFlipFlop falling clock reset set target enable lut) =
-    Takes Input clock ∷ Takes Wire reset ∷ AssignsAsync reset set target ∷ (atom_uses enable ++ lut_uses lut)
+    Clocks clock ∷ Takes Wire reset ∷ AssignsAsync reset set target ∷ (atom_uses enable ++ lut_uses lut)
 uses_of (AsyncReset reset set target) = Takes Wire reset ∷ AssignsAsync reset set target ∷ []
 uses_of (Read falling clock clock_enable enable target memory address) =
-    Takes Input clock
+    Clocks clock
     ∷ (atom_uses clock_enable ++ atom_uses enable ++ Assigns Word target ∷ Takes Memory memory ∷ atoms_uses address)
 uses_of (ReadNarrow falling clock clock_enable enable target memory address shift pattern) =
-    Takes Input clock
+    Clocks clock
     ∷ (atom_uses clock_enable ++ atom_uses enable ++ Assigns Word target ∷ Takes Memory memory ∷ atoms_uses address
     ++ atoms_uses shift)
 uses_of (Write falling clock clock_enable enable memory address mask bits) =
-    Takes Input clock
+    Clocks clock
     ∷ (atom_uses clock_enable ++ atom_uses enable ++ Assigns Memory memory ∷ atoms_uses address ++ atoms_uses mask
     ++ atoms_uses bits)
 uses_of (WriteNarrow falling clock clock_enable enable memory address pattern shift bits) =
-    Takes Input clock
+    Clocks clock
     ∷ (atom_uses clock_enable ++ atom_uses enable ++ Assigns Memory memory ∷ atoms_uses address ++ atoms_uses shift
     ++ atoms_uses bits)
 uses_of (Start memory k word) = Starts memory k ∷ []

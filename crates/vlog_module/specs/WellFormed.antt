@@ -14,7 +14,7 @@ use Rattle.vlog_module.specs.Maps.{value_in}
 use Rattle.vlog_module.specs.Names.{IsName}
 use Rattle.vlog_module.specs.Parts.{Parts}
 use Rattle.vlog_module.specs.Uses.{Use, uses_of, right_uses, used_name}
-use Rattle.vlog_module.specs.Uses.Use.{Declares, Reads, ReadsBit, Takes, Assigns, Chooses, AssignsAsync, Starts}
+use Rattle.vlog_module.specs.Uses.Use.{Declares, Reads, ReadsBit, Clocks, Takes, Assigns, Chooses, AssignsAsync, Starts}
 
 -- ---- what comes before an item
 
@@ -116,6 +116,12 @@ has_bit (Some Register) = true
 has_bit (Some Wire) = true
 has_bit _ = false
 
+-- whether a name can be a clock: an input, or a register of one bit
+abbrev pub is_clock : Option Sort → Bool
+is_clock (Some Input) = true
+is_clock (Some Register) = true
+is_clock _ = false
+
 -- whether a register is read by way of this asynchronous set or reset
 abbrev pub is_unless : List ℕ → Bool → Reading → Bool
 is_unless reset set plainly = false
@@ -131,6 +137,7 @@ abbrev pub is_known : Scope → Use → Bool
 is_known scope (Declares sort name) = true
 is_known scope (Reads name) = has_bit (sort_in scope.declared name)
 is_known scope (ReadsBit name k) = is_sort Word (sort_in scope.declared name)
+is_known scope (Clocks name) = is_clock (sort_in scope.declared name)
 is_known scope (Takes sort name) = is_sort sort (sort_in scope.declared name)
 is_known scope (Assigns sort name) = is_sort sort (sort_in scope.declared name)
 is_known scope (Chooses reset set name) = is_sort Register (sort_in scope.declared name)

@@ -1,7 +1,7 @@
 -- Uses, readings and faults as the definitions have them, made from those of the code.
 use Rattle.std.specs.Prelude.{List, [], ◌∷◌, Option, Some, None}
 use Rattle.vlog_module.specs.Uses.{Use}
-use Rattle.vlog_module.specs.Uses.Use.{Declares, Reads, ReadsBit, Takes, Assigns, Chooses, AssignsAsync, Starts}
+use Rattle.vlog_module.specs.Uses.Use.{Declares, Reads, ReadsBit, Clocks, Takes, Assigns, Chooses, AssignsAsync, Starts}
 use Rattle.vlog_module.specs.WellFormed.{Reading}
 use Rattle.vlog_module.specs.WellFormed.Reading.{plainly, unless}
 use Rattle.vlog_forms.specs.Outcome.{Fault}
@@ -16,6 +16,7 @@ abbrev pub seen_use : kept_use.Use → Use
 seen_use (used.Declares sort name) = Declares sort name.now
 seen_use (used.Reads name) = Reads name.now
 seen_use (used.ReadsBit name k) = ReadsBit name.now k
+seen_use (used.Clocks name) = Clocks name.now
 seen_use (used.Takes sort name) = Takes sort name.now
 seen_use (used.Assigns sort name) = Assigns sort name.now
 seen_use (used.Chooses reset name) = Chooses reset.wire.now reset.set name.now

@@ -1,6 +1,6 @@
 // The names of a module as far as it is read.
 ghost use Rattle.std.specs.Prelude.{◌≡◌, ◌+◌, ◌≤◌, ◌<◌, [], ◌∷◌, length, OnOk};
-ghost use Rattle.vlog_module.specs.WellFormed.{has_bit, is_first, is_known, is_same_sort, is_sort, Scope};
+ghost use Rattle.vlog_module.specs.WellFormed.{has_bit, is_clock, is_first, is_known, is_same_sort, is_sort, Scope};
 ghost use Rattle.vlog_forms.specs.Outcome.{uses_from, uses_in, value_uses};
 ghost use Rattle.vlog_forms.specs.Reading.{values_of};
 ghost use Rattle.vlog_forms.specs.Values.{seen};
@@ -132,6 +132,7 @@ impl<'a> Names<'a> {
             Use::AssignsAsync(_, name) => self.assigned.push(name),
             Use::Starts(name, k) => self.started.push(name, k),
             Use::ReadsBit(_, _) => Ok(()),
+            Use::Clocks(_) => Ok(()),
             Use::Takes(_, _) => Ok(()),
         }
     }
@@ -145,6 +146,7 @@ impl<'a> Names<'a> {
             Use::Declares(_, _) => true,
             Use::Reads(name) => has_bit(self.declared.get(name)),
             Use::ReadsBit(name, _) => is_sort(Sort::Word, self.declared.get(name)),
+            Use::Clocks(name) => is_clock(self.declared.get(name)),
             Use::Takes(sort, name) => is_sort(sort, self.declared.get(name)),
             Use::Assigns(sort, name) => is_sort(sort, self.declared.get(name)),
             Use::Chooses(_, name) => is_sort(Sort::Register, self.declared.get(name)),
@@ -167,6 +169,7 @@ impl<'a> Names<'a> {
             Use::Starts(name, k) => !self.started.contains(name, k),
             Use::Reads(_) => true,
             Use::ReadsBit(_, _) => true,
+            Use::Clocks(_) => true,
             Use::Takes(_, _) => true,
             Use::Chooses(_, _) => true,
         }
@@ -184,6 +187,21 @@ fn has_bit(sort: Option<Sort>) -> bool
         Some(Sort::Output) => false,
         Some(Sort::Word) => false,
         Some(Sort::Memory) => false,
+        None => false,
+    }
+}
+
+/// Whether a name of this kind can be a clock: an input, or a register of one bit.
+fn is_clock(sort: Option<Sort>) -> bool
+    ensures { result ≡ is_clock sort }
+{
+    match sort {
+        Some(Sort::Input) => true,
+        Some(Sort::Register) => true,
+        Some(Sort::Output) => false,
+        Some(Sort::Word) => false,
+        Some(Sort::Memory) => false,
+        Some(Sort::Wire) => false,
         None => false,
     }
 }

@@ -26,7 +26,9 @@ pub enum Use<'a> {
     Reads(&'a [u8]),
     /// It reads a bit of the name, a register of 16 bits.
     ReadsBit(&'a [u8], u8),
-    /// It uses the name as a clock, as an asynchronous set or reset, or as a memory.
+    /// It uses the name as a clock: an input, or a register of one bit.
+    Clocks(&'a [u8]),
+    /// It uses the name as an asynchronous set or reset, or as a memory.
     Takes(Sort, &'a [u8]),
     /// It assigns the name.
     Assigns(Sort, &'a [u8]),
@@ -64,6 +66,7 @@ fn role_use<'a>(role: Role, values: &[Found<'a>], place: usize, name: &'a [u8]) 
         Role::Declares(sort) => Use::Declares(sort, name),
         Role::Reads => Use::Reads(name),
         Role::ReadsBit => Use::ReadsBit(name, index_at(values, place + 1)),
+        Role::Clocks => Use::Clocks(name),
         Role::Takes(sort) => Use::Takes(sort, name),
         Role::Assigns(sort) => Use::Assigns(sort, name),
         Role::Chooses => {

@@ -99,7 +99,7 @@ fn push_item<'a>(values: &mut Vec<Value<'a>>, item: &'a Item) -> Result<(), Allo
             lut,
         } => {
             push(values, Value::Edge(*falling))?;
-            push_name(values, Role::Takes(Sort::Input), clock)?;
+            push_name(values, Role::Clocks, clock)?;
             push_at_once(values, reset, *set, target)?;
             push_atom(values, enable)?;
             push_lut(values, lut)
@@ -188,10 +188,10 @@ fn push_clocked<'a>(
     second: &'a Atom,
 ) -> Result<(), AllocError>
     ensures { OnOk result (all_seen values.new.items ≡ all_seen values.old.items
-        ++ value.Edge falling ∷ value.Name (Role.Takes Sort.Input) clock.now ∷ value.AnAtom first.now ∷ value.AnAtom second.now ∷ []) }
+        ++ value.Edge falling ∷ value.Name Role.Clocks clock.now ∷ value.AnAtom first.now ∷ value.AnAtom second.now ∷ []) }
 {
     push(values, Value::Edge(falling))?;
-    push_name(values, Role::Takes(Sort::Input), clock)?;
+    push_name(values, Role::Clocks, clock)?;
     push_atom(values, first)?;
     push_atom(values, second)
 }

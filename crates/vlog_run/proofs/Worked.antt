@@ -13,7 +13,7 @@ use Rattle.index_search.specs.Places.{first_below}
 use Rattle.vlog_semantics.specs.declared.event.Event.{Event}
 use Rattle.vlog_run.specs.declared.event.EventFault.TheVariants.{Form, Pin}
 use Rattle.vlog_run.specs.Events.{event_fault, event_of, events_of, first_fault}
-use Rattle.vlog_semantics.specs.Run.{changed, followed, module_run, moved_up, run_from, settled, start}
+use Rattle.vlog_semantics.specs.Run.{acted, changed, followed, module_run, moved_up, run_from, settled, start, waved}
 use Rattle.vlog_run.specs.Text.{entry_line, run_text}
 
 input : List ℕ → Port
@@ -39,7 +39,7 @@ chip = record {
 }
 
 inverts : run_text chip (event 0 true ∷ event 0 false ∷ event 0 false ∷ []) false ≡ codes "1\n0\n1\n1\n"
-unfolding run_text module_run run_from followed changed start settled entry_line chip inverter input output event
+unfolding run_text module_run run_from followed changed acted waved start settled entry_line chip inverter input output event
 inverts = refl
 
 reads_lines : events_of chip.ports (codes "io_0_1_0 1\n\nio_0_1_0 0\r\n") ≡ event 0 true ∷ event 0 false ∷ []
@@ -103,7 +103,7 @@ shift = record {
 }
 
 shifts : run_text shift (event 0 true ∷ event 0 false ∷ event 1 true ∷ event 0 true ∷ event 0 false ∷ []) true ≡ codes "0 10\n0 10\n1 01\n1 01\n1 01\n0 10\n"
-unfolding run_text module_run run_from followed changed start settled entry_line shift input output event
+unfolding run_text module_run run_from followed changed acted waved start settled entry_line shift input output event
 shifts = refl
 
 -- ---- a memory
@@ -126,7 +126,7 @@ memory = record {
 
 writes : run_text memory (event 1 true ∷ event 0 true ∷ event 0 false ∷ event 1 false ∷ event 0 true ∷ []) true
     ≡ codes "  0000\n  0000\n  1234\n  1234\n  1234\n  ab34\n"
-unfolding run_text module_run run_from followed changed start settled entry_line memory bits_of input output event
+unfolding run_text module_run run_from followed changed acted waved start settled entry_line memory bits_of input output event
 writes = refl
 
 -- word 5 is 1234. A word of 8 bits, A5, is written in the places 1, 3, 5 .. of it; then it is read as words of 4 and of 2 bits
@@ -148,7 +148,7 @@ narrow = record {
 
 writes_narrow : run_text narrow (event 1 true ∷ event 0 true ∷ event 0 false ∷ event 1 false ∷ event 0 true ∷ []) true
     ≡ codes "  0000 0000 0000\n  0000 0000 0000\n  1234 0000 0000\n  1234 0000 0000\n  1234 0000 0000\n  9836 1100 0100\n"
-unfolding run_text module_run run_from followed changed start settled entry_line narrow bits_of input output event
+unfolding run_text module_run run_from followed changed acted waved start settled entry_line narrow bits_of input output event
 writes_narrow = refl
 
 -- bits of a pattern that are moved past the highest are lost
@@ -170,7 +170,7 @@ toggle = record {
 -- the bit comes with the wire and without an edge, and stays; an edge while the wire is 1 changes nothing
 toggles : run_text toggle (event 1 true ∷ event 1 false ∷ event 0 true ∷ event 0 false ∷ event 1 true ∷ event 0 true ∷ event 0 false ∷ event 1 false ∷ []) true
     ≡ codes "00 0\n11 1\n11 1\n11 1\n00 0\n11 1\n11 1\n11 1\n11 1\n"
-unfolding run_text module_run run_from followed changed start settled entry_line toggle inverter input output event
+unfolding run_text module_run run_from followed changed acted waved start settled entry_line toggle inverter input output event
 toggles = refl
 
 -- without a clock
@@ -183,5 +183,28 @@ latch = record {
 }
 
 latches : run_text latch (event 0 true ∷ event 0 false ∷ []) true ≡ codes "11 1\n00 0\n00 0\n"
-unfolding run_text module_run run_from followed changed start settled entry_line latch input output event
+unfolding run_text module_run run_from followed changed acted waved start settled entry_line latch input output event
 latches = refl
+
+-- ---- registers as clocks
+
+-- a register that becomes what it isn't
+opposite : List ℕ → Lut
+opposite name = record { word = 21845; ins = Whole name ∷ Bit false ∷ Bit false ∷ Bit false ∷ [] }
+
+-- each register but the first one turns when the one before it falls
+ripple : Parts
+ripple = record {
+  name = codes "ripple";
+  ports = input (codes "c") ∷ output (codes "q") ∷ [];
+  items = Register (codes "a") false ∷ Register (codes "b") false ∷ Register (codes "d") false ∷ Assign (codes "q") (Whole (codes "d"))
+      ∷ FlipFlop false (codes "c") (Bit true) (Bit false) false (codes "a") (opposite (codes "a"))
+      ∷ FlipFlop true (codes "a") (Bit true) (Bit false) false (codes "b") (opposite (codes "b"))
+      ∷ FlipFlop true (codes "b") (Bit true) (Bit false) false (codes "d") (opposite (codes "d")) ∷ [];
+}
+
+-- it counts the rising edges; the last event changes all three
+counts : run_text ripple (event 0 true ∷ event 0 false ∷ event 0 true ∷ event 0 false ∷ event 0 true ∷ event 0 false ∷ event 0 true ∷ []) true
+    ≡ codes "0 000\n0 100\n0 100\n0 010\n0 010\n0 110\n0 110\n1 001\n"
+unfolding run_text module_run run_from followed changed acted waved start settled entry_line ripple opposite input output event
+counts = refl

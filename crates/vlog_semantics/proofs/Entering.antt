@@ -8,15 +8,17 @@ use Rattle.vlog_module.specs.Parts.{Parts}
 use Rattle.vlog_semantics.specs.declared.event.Event.{Event}
 use Rattle.vlog_semantics.specs.declared.plan.Plan.{Plan}
 use Rattle.vlog_semantics.specs.Entries.{Entry}
-use Rattle.vlog_semantics.specs.ModuleSlots.{IsNamed, IsPlan, memory_names, module_wires, places_of, register_names, wire_names, wire_start, word_names}
+use Rattle.vlog_semantics.specs.ModuleSlots.{IsNamed, IsPlan, memory_names, module_wires, places_of, register_names, wave_slots, wire_names, wire_start, word_names}
 use Rattle.vlog_semantics.specs.Named.{names_of, values_of}
 use Rattle.vlog_semantics.specs.Numbered.{numbered}
 use Rattle.vlog_semantics.specs.Plans.{Places, flip_steps, outputs_of, read_of, settle_of, wires_of, write_of}
-use Rattle.vlog_semantics.specs.Run.{changed, followed, input_bit, input_names, input_start, is_same_bit, memory_start, memory_step, readable, register_start, register_step, settled, start, start_step, wire_step, with_input, word_start, word_step}
-use Rattle.vlog_semantics.specs.Steps.{bits_after, flip_slot, memories_after, operand_value, put_written, read_slot, settle_slot, settle_slots, settled_slots, wire_slot, words_after, written_by}
+use Rattle.vlog_semantics.specs.Run.{Edges, acted, changed, edges_between, edges_by, followed, input_bit, input_names, input_start, is_same_bit, memory_start, memory_step, readable, register_start, register_step, settled, start, start_step, wire_step, with_input, word_start, word_step}
+use Rattle.vlog_semantics.specs.Steps.{SlotEdges, flip_slot, flips_after, memories_after, operand_value, put_written, read_slot, settle_slot, settle_slots, settled_slots, slots_by, wire_slot, words_after, written_by}
 use Rattle.vlog_semantics.specs.Values.{Readable}
 use Rattle.vlog_semantics.proofs.Beginning.{names-starts, same-places}
-use Rattle.vlog_semantics.proofs.Clocked.{entry_places, flips-same, names-flips, with_registers}
+use Rattle.vlog_semantics.proofs.Clocked.{EdgesAgree, entry_places, flips-same, names-flips, with_registers}
+use Rattle.vlog_semantics.proofs.Edges.{AreApart, event-agrees, wave-agrees}
+use Rattle.vlog_semantics.proofs.EntrySlots.{places-same, registers-apart}
 use Rattle.vlog_semantics.proofs.Memories.{names-reads, names-writes, reads-same, writes-same}
 use Rattle.vlog_semantics.proofs.Outputs.{outputs-same}
 use Rattle.vlog_semantics.proofs.Settling.{names-rests, rests-same}
@@ -62,25 +64,6 @@ settled-named m inputs registers words memories named = record {
   memories = named.memories_are;
   wires = names-settled (inputs ++ registers) words [] m.items;
 }
-
--- the slots of an entry's names
-pub places-same : (m : Parts) (entry : Entry) → IsNamed m entry → entry_places entry ≡ places_of m
-places-same m entry named =
-    same-places (entry_places entry) (places_of m)
-    (ap (λ names. value_in (numbered 0 names)) named.inputs)
-    (ap (λ names. value_in (numbered 0 names))
-    (map-append (λ (e : List ℕ × Bool). e.0) (entry.inputs ++ entry.registers) entry.wires
-    ∙ ap₂ (λ a b. a ++ b) (map-append (λ (e : List ℕ × Bool). e.0) entry.inputs entry.registers ∙ ap₂ (λ a b. a ++ b) named.inputs named.registers) named.wires))
-    (ap₂ (λ n names. value_in (numbered n names)) (sym (length-map entry.inputs (λ (e : List ℕ × Bool). e.0)) ∙ ap length named.inputs) named.registers)
-    (ap (λ names. value_in (numbered 0 names)) named.words)
-    (ap (λ names. value_in (numbered 0 names)) named.memories)
-
--- the bits, after registers were given new ones
-pub registers-apart : (entry : Entry) → values_of (readable entry).bits ≡ with_registers entry entry.registers
-registers-apart entry =
-    map-append (λ (e : List ℕ × Bool). e.1) (entry.inputs ++ entry.registers) entry.wires
-    ∙ ap (λ list. list ++ values_of entry.wires) (map-append (λ (e : List ℕ × Bool). e.1) entry.inputs entry.registers)
-    ∙ append_assoc (values_of entry.inputs) (values_of entry.registers) (values_of entry.wires)
 
 -- the wires get their values, whatever they had before
 wired-bits : (m : Parts) (inputs registers : List (List ℕ × Bool)) (words : List (List ℕ × ℕ)) (memories : List (List ℕ × List ℕ)) (old : List Bool)
@@ -149,58 +132,57 @@ values-input [] pin bit = refl
 values-input (input ∷ inputs) zero bit = refl
 values-input (input ∷ inputs) (suc pin) bit = ap (λ values. input.1 ∷ values) (values-input inputs pin bit)
 
-pub changed-named : (m : Parts) (entry : Entry) (event : Event) → IsNamed m entry
-    → AreNamed m (with_input entry.inputs event.pin event.bit) (fold (register_step m entry event) entry.registers m.items)
-    (fold (word_step m entry event) entry.words m.items) (fold (memory_step m entry event) entry.memories m.items)
-changed-named m entry event named = record {
-  inputs_are = names-input entry.inputs event.pin event.bit ∙ named.inputs;
-  registers_are = names-flips m entry event entry.registers m.items ∙ named.registers;
-  words_are = names-reads m entry event entry.words m.items ∙ named.words;
-  memories_are = names-writes m entry event entry.memories m.items ∙ named.memories;
+pub acted-named : (m : Parts) (entry : Entry) (edges : Edges) (inputs : List (List ℕ × Bool)) → names_of inputs ≡ names_of entry.inputs → IsNamed m entry
+    → AreNamed m inputs (fold (register_step edges entry) entry.registers m.items) (fold (word_step edges entry) entry.words m.items)
+    (fold (memory_step edges entry) entry.memories m.items)
+acted-named m entry edges inputs same named = record {
+  inputs_are = same ∙ named.inputs;
+  registers_are = names-flips entry edges entry.registers m.items ∙ named.registers;
+  words_are = names-reads entry edges entry.words m.items ∙ named.words;
+  memories_are = names-writes entry edges entry.memories m.items ∙ named.memories;
 }
 
-pub words-changed : (m : Parts) (plan : Plan) (entry : Entry) (event : Event) → IsNamed m entry → IsPlan m plan
-    → words_after plan event (values_of (readable entry).bits) (values_of entry.words) (values_of entry.memories) ≡ values_of (fold (word_step m entry event) entry.words m.items)
-words-changed m plan entry event named planned =
-    ap (fold (read_slot event (values_of (readable entry).bits) (values_of entry.words) (values_of entry.memories)) (values_of entry.words))
+pub words-acted : (m : Parts) (plan : Plan) (entry : Entry) (edges : Edges) (slots : SlotEdges) → EdgesAgree entry edges slots → IsNamed m entry → IsPlan m plan
+    → words_after plan slots (values_of (readable entry).bits) (values_of entry.words) (values_of entry.memories) ≡ values_of (fold (word_step edges entry) entry.words m.items)
+words-acted m plan entry edges slots agree named planned =
+    ap (fold (read_slot slots (values_of (readable entry).bits) (values_of entry.words) (values_of entry.memories)) (values_of entry.words))
     (planned.reads ∙ ap (λ (at : Places). filter_map (read_of at) m.items) (sym (places-same m entry named)))
-    ∙ reads-same m entry event entry.words m.items named.inputs refl
+    ∙ reads-same entry edges slots entry.words m.items agree refl
 
-pub memories-changed : (m : Parts) (plan : Plan) (entry : Entry) (event : Event) → IsNamed m entry → IsPlan m plan
-    → memories_after plan event (values_of (readable entry).bits) (values_of entry.words) (values_of entry.memories) ≡ values_of (fold (memory_step m entry event) entry.memories m.items)
-memories-changed m plan entry event named planned =
-    ap (λ writes. fold put_written (values_of entry.memories) (map (written_by event (values_of (readable entry).bits) (values_of entry.words) (values_of entry.memories)) writes))
+pub memories-acted : (m : Parts) (plan : Plan) (entry : Entry) (edges : Edges) (slots : SlotEdges) → EdgesAgree entry edges slots → IsNamed m entry → IsPlan m plan
+    → memories_after plan slots (values_of (readable entry).bits) (values_of entry.words) (values_of entry.memories) ≡ values_of (fold (memory_step edges entry) entry.memories m.items)
+memories-acted m plan entry edges slots agree named planned =
+    ap (λ writes. fold put_written (values_of entry.memories) (map (written_by slots (values_of (readable entry).bits) (values_of entry.words) (values_of entry.memories)) writes))
     (planned.writes ∙ ap (λ (at : Places). filter_map (write_of at) m.items) (sym (places-same m entry named)))
-    ∙ writes-same m entry event entry.memories m.items named.inputs refl
+    ∙ writes-same entry edges slots entry.memories m.items agree refl
 
--- inputs and registers, before the wires
-registers-changed : (m : Parts) (plan : Plan) (entry : Entry) (event : Event) → IsNamed m entry → IsPlan m plan → event.pin < length (input_names m.ports)
-    → set (fold (flip_slot event (values_of (readable entry).bits) (values_of entry.words)) (values_of (readable entry).bits) plan.flips.items) event.pin event.bit
-    ≡ values_of (with_input entry.inputs event.pin event.bit ++ fold (register_step m entry event) entry.registers m.items) ++ values_of entry.wires
-registers-changed m plan entry event named planned within =
-    let next : List (List ℕ × Bool) = fold (register_step m entry event) entry.registers m.items in
-    let bits : List Bool = values_of (readable entry).bits in
+flips-acted : (m : Parts) (plan : Plan) (entry : Entry) (edges : Edges) (slots : SlotEdges) → EdgesAgree entry edges slots → IsNamed m entry → IsPlan m plan
+    → flips_after plan slots (values_of (readable entry).bits) (values_of entry.words)
+    ≡ values_of entry.inputs ++ (values_of (fold (register_step edges entry) entry.registers m.items) ++ values_of entry.wires)
+flips-acted m plan entry edges slots agree named planned =
+    ap₂ (fold (flip_slot slots (values_of (readable entry).bits) (values_of entry.words))) (registers-apart entry)
+    (planned.flips ∙ ap (λ (at : Places). flat_map (flip_steps at) m.items) (sym (places-same m entry named)))
+    ∙ flips-same entry edges slots entry.registers m.items agree refl
+
+-- inputs, registers and wires as one list
+joined : (inputs registers wires : List (List ℕ × Bool)) → values_of inputs ++ (values_of registers ++ values_of wires) ≡ values_of (inputs ++ registers) ++ values_of wires
+joined inputs registers wires =
+    sym (append_assoc (values_of inputs) (values_of registers) (values_of wires))
+    ∙ ap (λ list. list ++ values_of wires) (sym (map-append (λ (e : List ℕ × Bool). e.1) inputs registers))
+
+-- inputs and registers after the first step of an event, before the wires
+registers-changed : (m : Parts) (plan : Plan) (entry : Entry) (event : Event) → EdgesAgree entry (edges_by m event) (slots_by event) → IsNamed m entry → IsPlan m plan
+    → event.pin < length (input_names m.ports)
+    → set (flips_after plan (slots_by event) (values_of (readable entry).bits) (values_of entry.words)) event.pin event.bit
+    ≡ values_of (with_input entry.inputs event.pin event.bit ++ fold (register_step (edges_by m event) entry) entry.registers m.items) ++ values_of entry.wires
+registers-changed m plan entry event agree named planned within =
+    let next : List (List ℕ × Bool) = fold (register_step (edges_by m event) entry) entry.registers m.items in
     let here : event.pin < length (values_of entry.inputs) =
     subst (λ n. event.pin < n) (ap length (sym named.inputs) ∙ length-map entry.inputs (λ (e : List ℕ × Bool). e.0) ∙ sym (length-map entry.inputs (λ (e : List ℕ × Bool). e.1))) within in
-    ap (λ list. set list event.pin event.bit)
-    (ap₂ (fold (flip_slot event bits (values_of entry.words))) (registers-apart entry)
-    (planned.flips ∙ ap (λ (at : Places). flat_map (flip_steps at) m.items) (sym (places-same m entry named)))
-    ∙ flips-same m entry event entry.registers m.items named.inputs refl)
+    ap (λ list. set list event.pin event.bit) (flips-acted m plan entry (edges_by m event) (slots_by event) agree named planned)
     ∙ set-append_left (values_of entry.inputs) (values_of next ++ values_of entry.wires) event.pin event.bit here
     ∙ ap (λ list. list ++ (values_of next ++ values_of entry.wires)) (sym (values-input entry.inputs event.pin event.bit))
-    ∙ sym (append_assoc (values_of (with_input entry.inputs event.pin event.bit)) (values_of next) (values_of entry.wires))
-    ∙ ap (λ list. list ++ values_of entry.wires) (sym (map-append (λ (e : List ℕ × Bool). e.1) (with_input entry.inputs event.pin event.bit) next))
-
-pub bits-changed : (m : Parts) (plan : Plan) (entry : Entry) (event : Event) → IsNamed m entry → IsPlan m plan → event.pin < length (input_names m.ports)
-    → bits_after plan (module_wires m) event (values_of (readable entry).bits) (values_of entry.words) (values_of entry.memories) ≡ values_of (readable (changed m entry event)).bits
-unfolding changed
-bits-changed m plan entry event named planned within =
-    let words : List (List ℕ × ℕ) = fold (word_step m entry event) entry.words m.items in
-    let size : length (values_of entry.wires) ≡ length (wire_names m.items) =
-    length-map entry.wires (λ (e : List ℕ × Bool). e.1) ∙ sym (length-map entry.wires (λ (e : List ℕ × Bool). e.0)) ∙ ap length named.wires in
-    ap₂ (settled_slots plan (module_wires m)) (words-changed m plan entry event named planned) (registers-changed m plan entry event named planned within)
-    ∙ settled-bits m plan (with_input entry.inputs event.pin event.bit) (fold (register_step m entry event) entry.registers m.items) words (fold (memory_step m entry event) entry.memories m.items)
-    (values_of entry.wires) (changed-named m entry event named) planned size
+    ∙ joined (with_input entry.inputs event.pin event.bit) next entry.wires
 
 -- an input's bit is that of its slot
 pub input-slot : (m : Parts) (entry : Entry) (pin : ℕ) → IsNamed m entry → pin < length (input_names m.ports) → get_or (values_of (readable entry).bits) pin false ≡ input_bit entry pin
@@ -210,40 +192,66 @@ input-slot m entry pin named within =
     ap (λ list. get_or list pin false) (registers-apart entry)
     ∙ get_or_append_left (values_of entry.inputs) (values_of entry.registers ++ values_of entry.wires) false pin here
 
--- ---- what the slots have after an event
+-- ---- what the slots have after a step
 
-pub record Changed (m : Parts) (plan : Plan) (entry : Entry) (event : Event) (bits : List Bool) (words : List ℕ) (memories : List (List ℕ)) : Type 0 where
-  pub bits_are : bits_after plan (module_wires m) event bits words memories ≡ values_of (readable (changed m entry event)).bits
-  pub words_are : words_after plan event bits words memories ≡ values_of (changed m entry event).words
-  pub memories_are : memories_after plan event bits words memories ≡ values_of (changed m entry event).memories
-  pub outputs_are : map (operand_value (bits_after plan (module_wires m) event bits words memories) (words_after plan event bits words memories)) plan.outputs.items ≡ values_of (changed m entry event).outputs
-  pub named : IsNamed m (changed m entry event)
+-- the slots have what an entry has, if the bits before the wires are `bits`
+pub record Acted (m : Parts) (plan : Plan) (next : Entry) (bits : List Bool) (words : List ℕ) (memories : List (List ℕ)) : Type 0 where
+  pub bits_are : settled_slots plan (module_wires m) words bits ≡ values_of (readable next).bits
+  pub words_are : words ≡ values_of next.words
+  pub memories_are : memories ≡ values_of next.memories
+  pub outputs_are : map (operand_value (settled_slots plan (module_wires m) words bits) words) plan.outputs.items ≡ values_of next.outputs
+  pub named : IsNamed m next
 
-changed-from : (m : Parts) (plan : Plan) (entry : Entry) (event : Event) → IsNamed m entry → IsPlan m plan → event.pin < length (input_names m.ports)
-    → Changed m plan entry event (values_of (readable entry).bits) (values_of entry.words) (values_of entry.memories)
-unfolding changed settled
-changed-from m plan entry event named planned within =
-    let inputs : List (List ℕ × Bool) = with_input entry.inputs event.pin event.bit in
-    let registers : List (List ℕ × Bool) = fold (register_step m entry event) entry.registers m.items in
-    let words : List (List ℕ × ℕ) = fold (word_step m entry event) entry.words m.items in
-    let memories : List (List ℕ × List ℕ) = fold (memory_step m entry event) entry.memories m.items in
-    let are : AreNamed m inputs registers words memories = changed-named m entry event named in
+acted-from : (m : Parts) (plan : Plan) (entry : Entry) (edges : Edges) (slots : SlotEdges) (inputs : List (List ℕ × Bool)) (bits : List Bool)
+    → EdgesAgree entry edges slots → names_of inputs ≡ names_of entry.inputs → IsNamed m entry → IsPlan m plan
+    → bits ≡ values_of (inputs ++ fold (register_step edges entry) entry.registers m.items) ++ values_of entry.wires
+    → Acted m plan (acted m edges inputs entry) bits (words_after plan slots (values_of (readable entry).bits) (values_of entry.words) (values_of entry.memories))
+    (memories_after plan slots (values_of (readable entry).bits) (values_of entry.words) (values_of entry.memories))
+unfolding acted settled
+acted-from m plan entry edges slots inputs bits agree same named planned bits_are =
+    let registers : List (List ℕ × Bool) = fold (register_step edges entry) entry.registers m.items in
+    let words : List (List ℕ × ℕ) = fold (word_step edges entry) entry.words m.items in
+    let memories : List (List ℕ × List ℕ) = fold (memory_step edges entry) entry.memories m.items in
+    let are : AreNamed m inputs registers words memories = acted-named m entry edges inputs same named in
+    let size : length (values_of entry.wires) ≡ length (wire_names m.items) =
+    length-map entry.wires (λ (e : List ℕ × Bool). e.1) ∙ sym (length-map entry.wires (λ (e : List ℕ × Bool). e.0)) ∙ ap length named.wires in
+    let words_are = words-acted m plan entry edges slots agree named planned in
+    let settled_are : settled_slots plan (module_wires m) (words_after plan slots (values_of (readable entry).bits) (values_of entry.words) (values_of entry.memories)) bits
+    ≡ values_of (readable (acted m edges inputs entry)).bits =
+    ap₂ (settled_slots plan (module_wires m)) words_are bits_are ∙ settled-bits m plan inputs registers words memories (values_of entry.wires) are planned size in
     record {
-      bits_are = bits-changed m plan entry event named planned within;
-      words_are = words-changed m plan entry event named planned;
-      memories_are = memories-changed m plan entry event named planned;
-      outputs_are = ap₂ (λ b w. map (operand_value b w) plan.outputs.items) (bits-changed m plan entry event named planned within) (words-changed m plan entry event named planned)
+      bits_are = settled_are;
+      words_are = words_are;
+      memories_are = memories-acted m plan entry edges slots agree named planned;
+      outputs_are = ap₂ (λ b w. map (operand_value b w) plan.outputs.items) settled_are words_are
           ∙ settled-outputs m plan inputs registers words memories are planned;
       named = settled-named m inputs registers words memories are;
     }
 
-pub changed-values : (m : Parts) (plan : Plan) (entry : Entry) (event : Event) (bits : List Bool) (words : List ℕ) (memories : List (List ℕ))
-    → bits ≡ values_of (readable entry).bits → words ≡ values_of entry.words → memories ≡ values_of entry.memories
-    → IsNamed m entry → IsPlan m plan → event.pin < length (input_names m.ports) → Changed m plan entry event bits words memories
-changed-values m plan entry event bits words memories bits_are words_are memories_are named planned within =
-    subst (λ b. Changed m plan entry event b words memories) (sym bits_are)
-    (subst (λ w. Changed m plan entry event (values_of (readable entry).bits) w memories) (sym words_are)
-    (subst (λ k. Changed m plan entry event (values_of (readable entry).bits) (values_of entry.words) k) (sym memories_are) (changed-from m plan entry event named planned within)))
+-- the first step of an event
+pub stepped-from : (m : Parts) (plan : Plan) (entry : Entry) (event : Event) → IsNamed m entry → IsPlan m plan → event.pin < length (input_names m.ports)
+    → Acted m plan (acted m (edges_by m event) (with_input entry.inputs event.pin event.bit) entry)
+    (set (flips_after plan (slots_by event) (values_of (readable entry).bits) (values_of entry.words)) event.pin event.bit)
+    (words_after plan (slots_by event) (values_of (readable entry).bits) (values_of entry.words) (values_of entry.memories))
+    (memories_after plan (slots_by event) (values_of (readable entry).bits) (values_of entry.words) (values_of entry.memories))
+stepped-from m plan entry event named planned within =
+    let agree = event-agrees m entry event named within in
+    acted-from m plan entry (edges_by m event) (slots_by event) (with_input entry.inputs event.pin event.bit)
+    (set (flips_after plan (slots_by event) (values_of (readable entry).bits) (values_of entry.words)) event.pin event.bit)
+    agree (names-input entry.inputs event.pin event.bit) named planned (registers-changed m plan entry event agree named planned within)
+
+-- a wave
+pub waved-from : (m : Parts) (plan : Plan) (before entry : Entry) → AreApart m → IsNamed m before → IsNamed m entry → IsPlan m plan
+    → Acted m plan (acted m (edges_between before entry) entry.inputs entry)
+    (flips_after plan (wave_slots m (values_of (readable before).bits) (values_of (readable entry).bits)) (values_of (readable entry).bits) (values_of entry.words))
+    (words_after plan (wave_slots m (values_of (readable before).bits) (values_of (readable entry).bits)) (values_of (readable entry).bits) (values_of entry.words) (values_of entry.memories))
+    (memories_after plan (wave_slots m (values_of (readable before).bits) (values_of (readable entry).bits)) (values_of (readable entry).bits) (values_of entry.words) (values_of entry.memories))
+waved-from m plan before entry apart named_before named planned =
+    let edges = edges_between before entry in
+    let slots = wave_slots m (values_of (readable before).bits) (values_of (readable entry).bits) in
+    let agree = wave-agrees m before entry apart named_before named in
+    acted-from m plan entry edges slots entry.inputs (flips_after plan slots (values_of (readable entry).bits) (values_of entry.words)) agree refl named planned
+    (flips-acted m plan entry edges slots agree named planned ∙ joined entry.inputs (fold (register_step edges entry) entry.registers m.items) entry.wires)
 
 pub followed-changed : (m : Parts) (entry : Entry) (event : Event) → is_same_bit event.bit (input_bit entry event.pin) ≡ false → changed m entry event ≡ followed m entry event
 unfolding followed

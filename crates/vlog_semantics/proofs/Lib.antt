@@ -8,8 +8,12 @@ pub mod Beginning
 pub mod Cells
 -- clocked items over slots do what the items of the module do
 pub mod Clocked
+-- edges over slots are edges over names
+pub mod Edges
 -- entries of a module, and the values in slots that they stand for
 pub mod Entering
+-- the slots of an entry's names
+pub mod EntrySlots
 -- lists that are filled place by place
 pub mod Filling
 -- what names with their values hold
@@ -36,5 +40,7 @@ pub mod Showing
 pub mod Stepping
 -- settling twice is settling once
 pub mod Twice
+-- the waves of a module, by the edges of its plan
+pub mod Waves
 -- wires over slots
 pub mod Wires

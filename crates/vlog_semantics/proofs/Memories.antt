@@ -8,8 +8,6 @@ use Rattle.vlog_module.specs.declared.atoms.Atom.{Atom}
 use Rattle.vlog_module.specs.declared.item.Item.{Item}
 use Rattle.vlog_module.specs.declared.item.Item.TheVariants.{Read as ReadItem, ReadNarrow as ReadNarrowItem, Write as WriteItem, WriteNarrow as WriteNarrowItem}
 use Rattle.vlog_module.specs.Maps.{value_in}
-use Rattle.vlog_module.specs.Parts.{Parts}
-use Rattle.vlog_semantics.specs.declared.event.Event.{Event}
 use Rattle.vlog_semantics.specs.declared.plan.Operand.{Operand}
 use Rattle.vlog_semantics.specs.declared.plan.Taken.{Taken}
 use Rattle.vlog_semantics.specs.declared.plan.Taken.TheVariants.{Word, Narrow}
@@ -20,12 +18,12 @@ use Rattle.vlog_semantics.specs.declared.plan.Written.{Written}
 use Rattle.vlog_semantics.specs.Entries.{Entry}
 use Rattle.vlog_semantics.specs.Named.{names_of, values_of}
 use Rattle.vlog_semantics.specs.Numbered.{numbered}
-use Rattle.vlog_semantics.specs.Plans.{Places, field_of, of_two, operand_of, operands_of, port_of, read_of, read_over, write_of, write_over}
-use Rattle.vlog_semantics.specs.Run.{Put, input_names, is_clocked, is_edge, is_enabled, is_pin, masked, memory_step, moved_down, moved_up, next_put, next_word, pin_of, put_at, put_given, put_given_word, put_word, readable, word_step, words_of}
-use Rattle.vlog_semantics.specs.Steps.{kept_mask, operand_value, operands_value, put_written, read_slot, set_word, taken_word, word_in, written_by}
+use Rattle.vlog_semantics.specs.Plans.{Places, clock_slot, field_of, of_two, operand_of, operands_of, port_of, read_of, read_over, write_of, write_over}
+use Rattle.vlog_semantics.specs.Run.{Edges, Put, is_enabled, masked, memory_step, moved_down, moved_up, next_put, next_word, put_at, put_given, put_given_word, put_word, readable, word_step, words_of}
+use Rattle.vlog_semantics.specs.Steps.{SlotEdges, kept_mask, operand_value, operands_value, put_written, read_slot, set_word, taken_word, word_in, written_by}
 use Rattle.vlog_semantics.specs.Values.{Readable, atom_value, atoms_value}
 use Rattle.vlog_semantics.proofs.Atoms.{number-at, operand-at, slots_of}
-use Rattle.vlog_semantics.proofs.Clocked.{entry_places}
+use Rattle.vlog_semantics.proofs.Clocked.{EdgesAgree, at_slot, entry_places}
 use Rattle.vlog_semantics.proofs.Lookups.{names-put, put-slots, value_in-slots}
 use Rattle.vlog_semantics.proofs.Stepping.{cond-same, fold-keeps, fold-same, names-given}
 
@@ -36,21 +34,21 @@ abbrev read_into : List ℕ → List (List ℕ) → Option ℕ → Option ℕ �
 read_into next memories target memory address take_it =
     option_map_or (λ place. option_map_or (λ slot. set next slot (take_it (word_in memories place address))) target next) memory next
 
-read-slots : (event : Event) (bits : List Bool) (words : List ℕ) (memories : List (List ℕ)) (next : List ℕ) (falling : Bool) (pin target memory : Option ℕ) (clock_enable enable : Operand) (address : List Operand) (taken : Taken)
-    → fold (read_slot event bits words memories) next (option_to_list (read_over (of_two pin memory (λ p place. record {
-      edge = record { pin = p; falling = falling };
+read-slots : (slots : SlotEdges) (bits : List Bool) (words : List ℕ) (memories : List (List ℕ)) (next : List ℕ) (falling : Bool) (pin target memory : Option ℕ) (clock_enable enable : Operand) (address : List Operand) (taken : Taken)
+    → fold (read_slot slots bits words memories) next (option_to_list (read_over (of_two pin memory (λ p place. record {
+      edge = record { clock = p; falling = falling };
       clock_enable = clock_enable;
       enable = enable;
       memory = place;
       address = address;
     })) target taken))
-    ≡ cond ((is_pin event.pin pin && is_edge falling event.bit) && operand_value bits words clock_enable && operand_value bits words enable)
+    ≡ cond (at_slot slots falling pin && operand_value bits words clock_enable && operand_value bits words enable)
     (read_into next memories target memory (operands_value bits words address) (taken_word bits words taken)) next
-read-slots event bits words memories next falling None target memory clock_enable enable address taken = refl
-read-slots event bits words memories next falling (Some pin) None None clock_enable enable address taken = cond-same _ next
-read-slots event bits words memories next falling (Some pin) None (Some place) clock_enable enable address taken = cond-same _ next
-read-slots event bits words memories next falling (Some pin) (Some slot) None clock_enable enable address taken = cond-same _ next
-read-slots event bits words memories next falling (Some pin) (Some slot) (Some place) clock_enable enable address taken = refl
+read-slots slots bits words memories next falling None target memory clock_enable enable address taken = refl
+read-slots slots bits words memories next falling (Some pin) None None clock_enable enable address taken = cond-same _ next
+read-slots slots bits words memories next falling (Some pin) None (Some place) clock_enable enable address taken = cond-same _ next
+read-slots slots bits words memories next falling (Some pin) (Some slot) None clock_enable enable address taken = cond-same _ next
+read-slots slots bits words memories next falling (Some pin) (Some slot) (Some place) clock_enable enable address taken = refl
 
 -- what a read assigns, if it acts and there is a memory
 abbrev given_read : Bool → List ℕ → Option (List ℕ) → ℕ → (ℕ → ℕ) → Option (List ℕ × ℕ)
@@ -76,61 +74,61 @@ read-out true words target memory address take_it = refl
 read-out false words target memory address take_it = refl
 
 -- a read that takes this of a word
-read-acts : (m : Parts) (entry : Entry) (event : Event) (words : List (List ℕ × ℕ)) (falling : Bool) (clock : List ℕ) (clock_enable enable : Atom) (target memory : List ℕ) (address : List Atom) (taken : Taken) (take_it : ℕ → ℕ)
-    → names_of entry.inputs ≡ input_names m.ports → names_of words ≡ names_of entry.words
+read-acts : (entry : Entry) (edges : Edges) (slots : SlotEdges) (words : List (List ℕ × ℕ)) (falling : Bool) (clock : List ℕ) (clock_enable enable : Atom) (target memory : List ℕ) (address : List Atom) (taken : Taken) (take_it : ℕ → ℕ)
+    → EdgesAgree entry edges slots → names_of words ≡ names_of entry.words
     → taken_word (values_of (readable entry).bits) (values_of entry.words) taken ≡ take_it
-    → fold (read_slot event (values_of (readable entry).bits) (values_of entry.words) (values_of entry.memories)) (values_of words)
+    → fold (read_slot slots (values_of (readable entry).bits) (values_of entry.words) (values_of entry.memories)) (values_of words)
     (option_to_list (read_over (port_of (entry_places entry) falling clock clock_enable enable memory address) ((entry_places entry).words target) taken))
-    ≡ values_of (put_given words (given_read (is_enabled m entry event falling clock clock_enable enable) target (value_in entry.memories memory) (atoms_value (readable entry) address) take_it))
-read-acts m entry event words falling clock clock_enable enable target memory address taken take_it inputs named takes =
+    ≡ values_of (put_given words (given_read (is_enabled edges entry falling clock clock_enable enable) target (value_in entry.memories memory) (atoms_value (readable entry) address) take_it))
+read-acts entry edges slots words falling clock clock_enable enable target memory address taken take_it agree named takes =
     let from : Readable = readable entry in
     let bits : List Bool = values_of from.bits in
     let at : Places = entry_places entry in
     let next : List ℕ = values_of words in
     let before : List (List ℕ) = values_of entry.memories in
-    let acts : Bool = is_enabled m entry event falling clock clock_enable enable in
-    let clocked : is_pin event.pin (at.pins clock) ≡ is_pin event.pin (pin_of m.ports clock) = ap (λ names. is_pin event.pin (value_in (numbered 0 names) clock)) inputs in
+    let acts : Bool = is_enabled edges entry falling clock clock_enable enable in
+    let clocked : at_slot slots falling (clock_slot at clock) ≡ edges falling clock = agree falling clock in
     let number : ℕ = operands_value bits (values_of entry.words) (operands_of at.bits at.words address) in
     let taking : ℕ → ℕ = taken_word bits (values_of entry.words) taken in
     let placed : read_into next before (at.words target) (at.memories memory) (atoms_value from address) take_it
     ≡ values_of (put_given words (given_read true target (value_in entry.memories memory) (atoms_value from address) take_it)) =
     ap (λ names. read_into next before (value_in (numbered 0 names) target) (at.memories memory) (atoms_value from address) take_it) (sym named)
     ∙ read-placed entry.memories words target memory (atoms_value from address) take_it in
-    read-slots event bits (values_of entry.words) before next falling (at.pins clock) (at.words target) (at.memories memory) (operand_of at.bits at.words clock_enable) (operand_of at.bits at.words enable) (operands_of at.bits at.words address) taken
-    ∙ ap₂ (λ c e. cond ((c && is_edge falling event.bit) && e && operand_value bits (values_of entry.words) (operand_of at.bits at.words enable)) (read_into next before (at.words target) (at.memories memory) number taking) next) clocked (operand-at from clock_enable)
-    ∙ ap₂ (λ e n. cond (is_clocked m event falling clock && atom_value from clock_enable && e) (read_into next before (at.words target) (at.memories memory) n taking) next) (operand-at from enable) (number-at from address)
+    read-slots slots bits (values_of entry.words) before next falling (clock_slot at clock) (at.words target) (at.memories memory) (operand_of at.bits at.words clock_enable) (operand_of at.bits at.words enable) (operands_of at.bits at.words address) taken
+    ∙ ap₂ (λ c e. cond (c && e && operand_value bits (values_of entry.words) (operand_of at.bits at.words enable)) (read_into next before (at.words target) (at.memories memory) number taking) next) clocked (operand-at from clock_enable)
+    ∙ ap₂ (λ e n. cond (edges falling clock && atom_value from clock_enable && e) (read_into next before (at.words target) (at.memories memory) n taking) next) (operand-at from enable) (number-at from address)
     ∙ ap (λ t. cond acts (read_into next before (at.words target) (at.memories memory) (atoms_value from address) t) next) takes
     ∙ ap (λ list. cond acts list next) placed
     ∙ read-out acts words target (value_in entry.memories memory) (atoms_value from address) take_it
 
-read-step : (m : Parts) (entry : Entry) (event : Event) (words : List (List ℕ × ℕ)) (item : Item)
-    → names_of entry.inputs ≡ input_names m.ports → names_of words ≡ names_of entry.words
-    → fold (read_slot event (values_of (readable entry).bits) (values_of entry.words) (values_of entry.memories)) (values_of words) (option_to_list (read_of (entry_places entry) item))
-    ≡ values_of (word_step m entry event words item)
-read-step m entry event words (ReadItem falling clock clock_enable enable target memory address) inputs named =
-    read-acts m entry event words falling clock clock_enable enable target memory address Word (λ word. word) inputs named refl
-read-step m entry event words (ReadNarrowItem falling clock clock_enable enable target memory address shift pattern) inputs named =
+read-step : (entry : Entry) (edges : Edges) (slots : SlotEdges) (words : List (List ℕ × ℕ)) (item : Item)
+    → EdgesAgree entry edges slots → names_of words ≡ names_of entry.words
+    → fold (read_slot slots (values_of (readable entry).bits) (values_of entry.words) (values_of entry.memories)) (values_of words) (option_to_list (read_of (entry_places entry) item))
+    ≡ values_of (word_step edges entry words item)
+read-step entry edges slots words (ReadItem falling clock clock_enable enable target memory address) agree named =
+    read-acts entry edges slots words falling clock clock_enable enable target memory address Word (λ word. word) agree named refl
+read-step entry edges slots words (ReadNarrowItem falling clock clock_enable enable target memory address shift pattern) agree named =
     let at : Places = entry_places entry in
-    read-acts m entry event words falling clock clock_enable enable target memory address (Narrow (field_of at shift pattern)) (λ word. moved_down word (atoms_value (readable entry) shift) pattern)
-    inputs named (ap (λ n. λ (word : ℕ). moved_down word n pattern) (number-at (readable entry) shift))
-read-step m entry event words other inputs named = refl
+    read-acts entry edges slots words falling clock clock_enable enable target memory address (Narrow (field_of at shift pattern)) (λ word. moved_down word (atoms_value (readable entry) shift) pattern)
+    agree named (ap (λ n. λ (word : ℕ). moved_down word n pattern) (number-at (readable entry) shift))
+read-step entry edges slots words other agree named = refl
 
--- the registers of 16 bits after an event
-pub reads-same : (m : Parts) (entry : Entry) (event : Event) (words : List (List ℕ × ℕ)) (items : List Item)
-    → names_of entry.inputs ≡ input_names m.ports → names_of words ≡ names_of entry.words
-    → fold (read_slot event (values_of (readable entry).bits) (values_of entry.words) (values_of entry.memories)) (values_of words) (filter_map (read_of (entry_places entry)) items)
-    ≡ values_of (fold (word_step m entry event) words items)
-reads-same m entry event words items inputs named =
-    fold-same (read_slot event (values_of (readable entry).bits) (values_of entry.words) (values_of entry.memories)) (read_of (entry_places entry)) (λ (next : List (List ℕ × ℕ)). values_of next) (word_step m entry event)
+-- the registers of 16 bits after a step
+pub reads-same : (entry : Entry) (edges : Edges) (slots : SlotEdges) (words : List (List ℕ × ℕ)) (items : List Item)
+    → EdgesAgree entry edges slots → names_of words ≡ names_of entry.words
+    → fold (read_slot slots (values_of (readable entry).bits) (values_of entry.words) (values_of entry.memories)) (values_of words) (filter_map (read_of (entry_places entry)) items)
+    ≡ values_of (fold (word_step edges entry) words items)
+reads-same entry edges slots words items agree named =
+    fold-same (read_slot slots (values_of (readable entry).bits) (values_of entry.words) (values_of entry.memories)) (read_of (entry_places entry)) (λ (next : List (List ℕ × ℕ)). values_of next) (word_step edges entry)
     (λ next. names_of next ≡ names_of entry.words)
-    (λ next item kept. names-given next (next_word m entry event item) ∙ kept)
-    (λ next item kept. read-step m entry event next item inputs kept)
+    (λ next item kept. names-given next (next_word edges entry item) ∙ kept)
+    (λ next item kept. read-step entry edges slots next item agree kept)
     words items named
 
-pub names-reads : (m : Parts) (entry : Entry) (event : Event) (words : List (List ℕ × ℕ)) (items : List Item) → names_of (fold (word_step m entry event) words items) ≡ names_of words
-names-reads m entry event words items =
-    fold-keeps (word_step m entry event) (λ next. names_of next ≡ names_of words)
-    (λ next item kept. names-given next (next_word m entry event item) ∙ kept) words items refl
+pub names-reads : (entry : Entry) (edges : Edges) (words : List (List ℕ × ℕ)) (items : List Item) → names_of (fold (word_step edges entry) words items) ≡ names_of words
+names-reads entry edges words items =
+    fold-keeps (word_step edges entry) (λ next. names_of next ≡ names_of words)
+    (λ next item kept. names-given next (next_word edges entry item) ∙ kept) words items refl
 
 -- ---- writes
 
@@ -144,8 +142,8 @@ given_word-out true memories given = refl
 given_word-out false memories given = refl
 
 -- what a write does over slots
-abbrev pub write_slot : Event → List Bool → List ℕ → List (List ℕ) → List (List ℕ) → Write → List (List ℕ)
-write_slot event bits words before next write = put_written next (written_by event bits words before write)
+abbrev pub write_slot : SlotEdges → List Bool → List ℕ → List (List ℕ) → List (List ℕ) → Write → List (List ℕ)
+write_slot slots bits words before next write = put_written next (written_by slots bits words before write)
 
 put-out : (acts : Bool) (next : List (List ℕ)) (written : Written) → put_written next (cond acts (Some written) None) ≡ cond acts (put_written next (Some written)) next
 put-out true next written = refl
@@ -156,19 +154,19 @@ abbrev write_into : List (List ℕ) → List (List ℕ) → Option ℕ → ℕ �
 write_into next before memory address mask bits =
     option_map_or (λ place. set_word next place address (masked (word_in before place address) mask bits)) memory next
 
-write-slots : (event : Event) (bits : List Bool) (words : List ℕ) (before next : List (List ℕ)) (falling : Bool) (pin memory : Option ℕ) (clock_enable enable : Operand) (address : List Operand) (kept : Kept) (at : Places) (data_bits : List Atom)
-    → fold (write_slot event bits words before) next (option_to_list (write_over at (of_two pin memory (λ p place. record {
-      edge = record { pin = p; falling = falling };
+write-slots : (slots : SlotEdges) (bits : List Bool) (words : List ℕ) (before next : List (List ℕ)) (falling : Bool) (pin memory : Option ℕ) (clock_enable enable : Operand) (address : List Operand) (kept : Kept) (at : Places) (data_bits : List Atom)
+    → fold (write_slot slots bits words before) next (option_to_list (write_over at (of_two pin memory (λ p place. record {
+      edge = record { clock = p; falling = falling };
       clock_enable = clock_enable;
       enable = enable;
       memory = place;
       address = address;
     })) kept data_bits))
-    ≡ cond ((is_pin event.pin pin && is_edge falling event.bit) && operand_value bits words clock_enable && operand_value bits words enable)
+    ≡ cond (at_slot slots falling pin && operand_value bits words clock_enable && operand_value bits words enable)
     (write_into next before memory (operands_value bits words address) (kept_mask bits words kept) (operands_value bits words (operands_of at.bits at.words data_bits))) next
-write-slots event bits words before next falling None memory clock_enable enable address kept at data_bits = refl
-write-slots event bits words before next falling (Some pin) None clock_enable enable address kept at data_bits = cond-same _ next
-write-slots event bits words before next falling (Some pin) (Some place) clock_enable enable address kept at data_bits = put-out _ next _
+write-slots slots bits words before next falling None memory clock_enable enable address kept at data_bits = refl
+write-slots slots bits words before next falling (Some pin) None clock_enable enable address kept at data_bits = cond-same _ next
+write-slots slots bits words before next falling (Some pin) (Some place) clock_enable enable address kept at data_bits = put-out _ next _
 
 -- the word that is written, by slots
 write-placed : (before memories : List (List ℕ × List ℕ)) (memory : List ℕ) (address mask bits : ℕ) → names_of memories ≡ names_of before
@@ -193,60 +191,60 @@ write-placed before memories memory address mask bits named =
     ∙ sym (put-slots memories memory (set (words_of memories memory) address (masked (get_or (words_of before memory) address 0) mask bits)))
 
 -- a write that keeps the bits of this mask
-write-acts : (m : Parts) (entry : Entry) (event : Event) (memories : List (List ℕ × List ℕ)) (falling : Bool) (clock : List ℕ) (clock_enable enable : Atom) (memory : List ℕ) (address : List Atom) (kept : Kept) (data_bits : List Atom) (mask : ℕ)
-    → names_of entry.inputs ≡ input_names m.ports → names_of memories ≡ names_of entry.memories
+write-acts : (entry : Entry) (edges : Edges) (slots : SlotEdges) (memories : List (List ℕ × List ℕ)) (falling : Bool) (clock : List ℕ) (clock_enable enable : Atom) (memory : List ℕ) (address : List Atom) (kept : Kept) (data_bits : List Atom) (mask : ℕ)
+    → EdgesAgree entry edges slots → names_of memories ≡ names_of entry.memories
     → kept_mask (values_of (readable entry).bits) (values_of entry.words) kept ≡ mask
-    → fold (write_slot event (values_of (readable entry).bits) (values_of entry.words) (values_of entry.memories)) (values_of memories)
+    → fold (write_slot slots (values_of (readable entry).bits) (values_of entry.words) (values_of entry.memories)) (values_of memories)
     (option_to_list (write_over (entry_places entry) (port_of (entry_places entry) falling clock clock_enable enable memory address) kept data_bits))
-    ≡ values_of (put_given_word memories (cond (is_enabled m entry event falling clock clock_enable enable) (Some (put_at entry memory address mask data_bits)) None))
-write-acts m entry event memories falling clock clock_enable enable memory address kept data_bits mask inputs named keeps =
+    ≡ values_of (put_given_word memories (cond (is_enabled edges entry falling clock clock_enable enable) (Some (put_at entry memory address mask data_bits)) None))
+write-acts entry edges slots memories falling clock clock_enable enable memory address kept data_bits mask agree named keeps =
     let from : Readable = readable entry in
     let bits : List Bool = values_of from.bits in
     let words : List ℕ = values_of entry.words in
     let at : Places = entry_places entry in
     let next : List (List ℕ) = values_of memories in
     let before : List (List ℕ) = values_of entry.memories in
-    let acts : Bool = is_enabled m entry event falling clock clock_enable enable in
-    let clocked : is_pin event.pin (at.pins clock) ≡ is_pin event.pin (pin_of m.ports clock) = ap (λ names. is_pin event.pin (value_in (numbered 0 names) clock)) inputs in
+    let acts : Bool = is_enabled edges entry falling clock clock_enable enable in
+    let clocked : at_slot slots falling (clock_slot at clock) ≡ edges falling clock = agree falling clock in
     let a : ℕ = operands_value bits words (operands_of at.bits at.words address) in
     let k : ℕ = kept_mask bits words kept in
     let d : ℕ = operands_value bits words (operands_of at.bits at.words data_bits) in
-    write-slots event bits words before next falling (at.pins clock) (at.memories memory) (operand_of at.bits at.words clock_enable) (operand_of at.bits at.words enable) (operands_of at.bits at.words address) kept at data_bits
-    ∙ ap₂ (λ c e. cond ((c && is_edge falling event.bit) && e && operand_value bits words (operand_of at.bits at.words enable)) (write_into next before (at.memories memory) a k d) next) clocked (operand-at from clock_enable)
-    ∙ ap₂ (λ e n. cond (is_clocked m event falling clock && atom_value from clock_enable && e) (write_into next before (at.memories memory) n k d) next) (operand-at from enable) (number-at from address)
+    write-slots slots bits words before next falling (clock_slot at clock) (at.memories memory) (operand_of at.bits at.words clock_enable) (operand_of at.bits at.words enable) (operands_of at.bits at.words address) kept at data_bits
+    ∙ ap₂ (λ c e. cond (c && e && operand_value bits words (operand_of at.bits at.words enable)) (write_into next before (at.memories memory) a k d) next) clocked (operand-at from clock_enable)
+    ∙ ap₂ (λ e n. cond (edges falling clock && atom_value from clock_enable && e) (write_into next before (at.memories memory) n k d) next) (operand-at from enable) (number-at from address)
     ∙ ap₂ (λ n v. cond acts (write_into next before (at.memories memory) (atoms_value from address) n v) next) keeps (number-at from data_bits)
     ∙ ap (λ list. cond acts list next) (write-placed entry.memories memories memory (atoms_value from address) mask (atoms_value from data_bits) named)
     ∙ given_word-out acts memories (put_at entry memory address mask data_bits)
 
-write-step : (m : Parts) (entry : Entry) (event : Event) (memories : List (List ℕ × List ℕ)) (item : Item)
-    → names_of entry.inputs ≡ input_names m.ports → names_of memories ≡ names_of entry.memories
-    → fold (write_slot event (values_of (readable entry).bits) (values_of entry.words) (values_of entry.memories)) (values_of memories) (option_to_list (write_of (entry_places entry) item))
-    ≡ values_of (memory_step m entry event memories item)
-write-step m entry event memories (WriteItem falling clock clock_enable enable memory address mask data_bits) inputs named =
+write-step : (entry : Entry) (edges : Edges) (slots : SlotEdges) (memories : List (List ℕ × List ℕ)) (item : Item)
+    → EdgesAgree entry edges slots → names_of memories ≡ names_of entry.memories
+    → fold (write_slot slots (values_of (readable entry).bits) (values_of entry.words) (values_of entry.memories)) (values_of memories) (option_to_list (write_of (entry_places entry) item))
+    ≡ values_of (memory_step edges entry memories item)
+write-step entry edges slots memories (WriteItem falling clock clock_enable enable memory address mask data_bits) agree named =
     let at : Places = entry_places entry in
-    write-acts m entry event memories falling clock clock_enable enable memory address (Masked (operands_of at.bits at.words mask)) data_bits (atoms_value (readable entry) mask)
-    inputs named (number-at (readable entry) mask)
-write-step m entry event memories (WriteNarrowItem falling clock clock_enable enable memory address pattern shift data_bits) inputs named =
+    write-acts entry edges slots memories falling clock clock_enable enable memory address (Masked (operands_of at.bits at.words mask)) data_bits (atoms_value (readable entry) mask)
+    agree named (number-at (readable entry) mask)
+write-step entry edges slots memories (WriteNarrowItem falling clock clock_enable enable memory address pattern shift data_bits) agree named =
     let at : Places = entry_places entry in
-    write-acts m entry event memories falling clock clock_enable enable memory address (Outside (field_of at shift pattern)) data_bits (65535 - moved_up pattern (atoms_value (readable entry) shift))
-    inputs named (ap (λ n. 65535 - moved_up pattern n) (number-at (readable entry) shift))
-write-step m entry event memories other inputs named = refl
+    write-acts entry edges slots memories falling clock clock_enable enable memory address (Outside (field_of at shift pattern)) data_bits (65535 - moved_up pattern (atoms_value (readable entry) shift))
+    agree named (ap (λ n. 65535 - moved_up pattern n) (number-at (readable entry) shift))
+write-step entry edges slots memories other agree named = refl
 
--- the memories after an event
-pub writes-same : (m : Parts) (entry : Entry) (event : Event) (memories : List (List ℕ × List ℕ)) (items : List Item)
-    → names_of entry.inputs ≡ input_names m.ports → names_of memories ≡ names_of entry.memories
-    → fold put_written (values_of memories) (map (written_by event (values_of (readable entry).bits) (values_of entry.words) (values_of entry.memories)) (filter_map (write_of (entry_places entry)) items))
-    ≡ values_of (fold (memory_step m entry event) memories items)
-writes-same m entry event memories items inputs named =
-    let written : Write → Option Written = written_by event (values_of (readable entry).bits) (values_of entry.words) (values_of entry.memories) in
+-- the memories after a step
+pub writes-same : (entry : Entry) (edges : Edges) (slots : SlotEdges) (memories : List (List ℕ × List ℕ)) (items : List Item)
+    → EdgesAgree entry edges slots → names_of memories ≡ names_of entry.memories
+    → fold put_written (values_of memories) (map (written_by slots (values_of (readable entry).bits) (values_of entry.words) (values_of entry.memories)) (filter_map (write_of (entry_places entry)) items))
+    ≡ values_of (fold (memory_step edges entry) memories items)
+writes-same entry edges slots memories items agree named =
+    let written : Write → Option Written = written_by slots (values_of (readable entry).bits) (values_of entry.words) (values_of entry.memories) in
     fold-map put_written written (values_of memories) (filter_map (write_of (entry_places entry)) items)
-    ∙ fold-same (write_slot event (values_of (readable entry).bits) (values_of entry.words) (values_of entry.memories)) (write_of (entry_places entry)) (λ (next : List (List ℕ × List ℕ)). values_of next) (memory_step m entry event)
+    ∙ fold-same (write_slot slots (values_of (readable entry).bits) (values_of entry.words) (values_of entry.memories)) (write_of (entry_places entry)) (λ (next : List (List ℕ × List ℕ)). values_of next) (memory_step edges entry)
     (λ next. names_of next ≡ names_of entry.memories)
-    (λ next item kept. names-given_word next (next_put m entry event item) ∙ kept)
-    (λ next item kept. write-step m entry event next item inputs kept)
+    (λ next item kept. names-given_word next (next_put edges entry item) ∙ kept)
+    (λ next item kept. write-step entry edges slots next item agree kept)
     memories items named
 
-pub names-writes : (m : Parts) (entry : Entry) (event : Event) (memories : List (List ℕ × List ℕ)) (items : List Item) → names_of (fold (memory_step m entry event) memories items) ≡ names_of memories
-names-writes m entry event memories items =
-    fold-keeps (memory_step m entry event) (λ next. names_of next ≡ names_of memories)
-    (λ next item kept. names-given_word next (next_put m entry event item) ∙ kept) memories items refl
+pub names-writes : (entry : Entry) (edges : Edges) (memories : List (List ℕ × List ℕ)) (items : List Item) → names_of (fold (memory_step edges entry) memories items) ≡ names_of memories
+names-writes entry edges memories items =
+    fold-keeps (memory_step edges entry) (λ next. names_of next ≡ names_of memories)
+    (λ next item kept. names-given_word next (next_put edges entry item) ∙ kept) memories items refl

@@ -15,7 +15,7 @@ use Rattle.vlog_semantics.specs.Plans.{Places}
 use Rattle.vlog_semantics.specs.Run.{input_names, readable}
 use Rattle.vlog_semantics.specs.Steps.{word_in}
 use Rattle.vlog_semantics.proofs.Clocked.{entry_places}
-use Rattle.vlog_semantics.proofs.Entering.{places-same, registers-apart}
+use Rattle.vlog_semantics.proofs.EntrySlots.{places-same, registers-apart}
 use Rattle.vlog_semantics.proofs.Lookups.{value_in-slot, value_in-slots}
 
 -- how names are resolved

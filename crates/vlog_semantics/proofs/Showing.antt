@@ -1,5 +1,5 @@
 -- What slots show is what follows in the module.
-use Rattle.std.proofs.Common.{◌≡◌, ◌<◌, ℕ, Bool, true, false, List, ◌++◌, ap, ap₂, flat_map, get_or, length, refl, subst, sym, ◌∙◌}
+use Rattle.std.proofs.Common.{◌≡◌, ◌<◌, ℕ, Bool, true, false, List, ◌++◌, ap, ap₂, flat_map, get_or, length, refl, set, subst, sym, ◌∙◌}
 use Rattle.std.specs.Prelude.{map}
 use Rattle.std.proofs.lemmas.List.{length-map, map-append}
 use Rattle.vlog_module.specs.Parts.{Parts}
@@ -8,11 +8,12 @@ use Rattle.vlog_semantics.specs.declared.layout.Start.{Start}
 use Rattle.vlog_semantics.specs.declared.plan.Plan.{Plan}
 use Rattle.vlog_semantics.specs.Entries.{Entry}
 use Rattle.vlog_semantics.specs.Laying.{Begins, ShowsEntry, bit_count, word_count}
-use Rattle.vlog_semantics.specs.ModuleSlots.{IsNamed, IsPlan, module_wires, register_names, wire_names, wire_start, word_names}
+use Rattle.vlog_semantics.specs.ModuleSlots.{IsNamed, IsPlan, module_wires, register_names, wave_slots, wire_names, wire_start, word_names}
 use Rattle.vlog_semantics.specs.Named.{names_of, values_of}
-use Rattle.vlog_semantics.specs.Run.{followed, input_names, input_start, is_same_bit, readable, register_start, settled, start, word_start}
-use Rattle.vlog_semantics.specs.Steps.{bits_after, memories_after, operand_value, settled_slots, words_after}
-use Rattle.vlog_semantics.proofs.Entering.{Changed, Started, changed-values, followed-changed, followed-same, input-slot, started-values}
+use Rattle.vlog_semantics.specs.Run.{acted, edges_between, edges_by, followed, input_names, input_start, is_same_bit, readable, register_start, settled, start, with_input, word_start}
+use Rattle.vlog_semantics.specs.Steps.{SlotEdges, flips_after, memories_after, operand_value, settled_slots, slots_by, words_after}
+use Rattle.vlog_semantics.proofs.Edges.{AreApart}
+use Rattle.vlog_semantics.proofs.Entering.{Acted, Started, followed-same, input-slot, started-values, stepped-from, waved-from}
 
 -- ---- how many slots there are
 
@@ -39,19 +40,51 @@ shown-same m entry event bits words memories outputs shown within same =
     (followed-same m entry event
     (ap (is_same_bit event.bit) (sym (ap (λ list. get_or list event.pin false) shown.bits_are ∙ input-slot m entry event.pin shown.named within)) ∙ same)) shown
 
--- otherwise the items of the plan give what the items of the module give
-pub shown-changed : (m : Parts) (plan : Plan) (entry : Entry) (event : Event) (bits : List Bool) (words : List ℕ) (memories : List (List ℕ)) (outputs : List Bool)
-    → IsPlan m plan → ShowsEntry m entry bits words memories outputs → event.pin < length (input_names m.ports) → is_same_bit event.bit (get_or bits event.pin false) ≡ false
-    → ShowsEntry m (followed m entry event) (bits_after plan (module_wires m) event bits words memories) (words_after plan event bits words memories) (memories_after plan event bits words memories)
-    (map (operand_value (bits_after plan (module_wires m) event bits words memories) (words_after plan event bits words memories)) plan.outputs.items)
-shown-changed m plan entry event bits words memories outputs planned shown within differs =
-    let after : Changed m plan entry event bits words memories =
-    changed-values m plan entry event bits words memories shown.bits_are shown.words_are shown.memories_are shown.named planned within in
-    subst (λ next. ShowsEntry m next (bits_after plan (module_wires m) event bits words memories) (words_after plan event bits words memories) (memories_after plan event bits words memories)
-    (map (operand_value (bits_after plan (module_wires m) event bits words memories) (words_after plan event bits words memories)) plan.outputs.items))
-    (followed-changed m entry event
-    (ap (is_same_bit event.bit) (sym (ap (λ list. get_or list event.pin false) shown.bits_are ∙ input-slot m entry event.pin shown.named within)) ∙ differs))
-    (record { named = after.named; bits_are = after.bits_are; words_are = after.words_are; memories_are = after.memories_are; outputs_are = after.outputs_are })
+-- the slots show an entry after a step, if they have what the plan computes, from the bits before the wires
+abbrev pub ShowsStep : Parts → Plan → Entry → List Bool → List ℕ → List (List ℕ) → Type 0
+ShowsStep m plan next bits words memories =
+    ShowsEntry m next (settled_slots plan (module_wires m) words bits) words memories (map (operand_value (settled_slots plan (module_wires m) words bits) words) plan.outputs.items)
+
+shown-acted : (m : Parts) (plan : Plan) (next : Entry) (bits : List Bool) (words : List ℕ) (memories : List (List ℕ)) → Acted m plan next bits words memories → ShowsStep m plan next bits words memories
+shown-acted m plan next bits words memories after = record {
+  named = after.named;
+  bits_are = after.bits_are;
+  words_are = after.words_are;
+  memories_are = after.memories_are;
+  outputs_are = after.outputs_are;
+}
+
+-- the first step of an event that changes its input: the items of the plan give what the items of the module give
+pub shown-stepped : (m : Parts) (plan : Plan) (entry : Entry) (event : Event) (bits : List Bool) (words : List ℕ) (memories : List (List ℕ)) (outputs : List Bool)
+    → IsPlan m plan → ShowsEntry m entry bits words memories outputs → event.pin < length (input_names m.ports)
+    → ShowsStep m plan (acted m (edges_by m event) (with_input entry.inputs event.pin event.bit) entry)
+    (set (flips_after plan (slots_by event) bits words) event.pin event.bit) (words_after plan (slots_by event) bits words memories) (memories_after plan (slots_by event) bits words memories)
+shown-stepped m plan entry event bits words memories outputs planned shown within =
+    let next : Entry = acted m (edges_by m event) (with_input entry.inputs event.pin event.bit) entry in
+    let slots : SlotEdges = slots_by event in
+    let Shown : List Bool → List ℕ → List (List ℕ) → Type 0 = λ b w k. ShowsStep m plan next (set (flips_after plan slots b w) event.pin event.bit) (words_after plan slots b w k) (memories_after plan slots b w k) in
+    subst (λ b. Shown b words memories) (sym shown.bits_are)
+    (subst (λ w. Shown (values_of (readable entry).bits) w memories) (sym shown.words_are)
+    (subst (λ k. Shown (values_of (readable entry).bits) (values_of entry.words) k) (sym shown.memories_are)
+    (shown-acted m plan next _ _ _ (stepped-from m plan entry event shown.named planned within))))
+
+-- a wave: the items of the plan give what the items of the module give
+pub shown-waved : (m : Parts) (plan : Plan) (before entry : Entry) (earlier bits : List Bool) (words : List ℕ) (memories : List (List ℕ)) (outputs : List Bool)
+    → AreApart m → IsPlan m plan → IsNamed m before → earlier ≡ values_of (readable before).bits → ShowsEntry m entry bits words memories outputs
+    → ShowsStep m plan (acted m (edges_between before entry) entry.inputs entry)
+    (flips_after plan (wave_slots m earlier bits) bits words)
+    (words_after plan (wave_slots m earlier bits) bits words memories)
+    (memories_after plan (wave_slots m earlier bits) bits words memories)
+shown-waved m plan before entry earlier bits words memories outputs apart planned named earlier_is shown =
+    let next : Entry = acted m (edges_between before entry) entry.inputs entry in
+    let slots : List Bool → List Bool → SlotEdges = wave_slots m in
+    let Shown : List Bool → List Bool → List ℕ → List (List ℕ) → Type 0 =
+    λ e b w k. ShowsStep m plan next (flips_after plan (slots e b) b w) (words_after plan (slots e b) b w k) (memories_after plan (slots e b) b w k) in
+    subst (λ e. Shown e bits words memories) (sym earlier_is)
+    (subst (λ b. Shown (values_of (readable before).bits) b words memories) (sym shown.bits_are)
+    (subst (λ w. Shown (values_of (readable before).bits) (values_of (readable entry).bits) w memories) (sym shown.words_are)
+    (subst (λ k. Shown (values_of (readable before).bits) (values_of (readable entry).bits) (values_of entry.words) k) (sym shown.memories_are)
+    (shown-acted m plan next _ _ _ (waved-from m plan before entry apart named shown.named planned)))))
 
 -- ---- the start
 

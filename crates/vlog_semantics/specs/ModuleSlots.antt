@@ -10,8 +10,9 @@ use Rattle.vlog_semantics.specs.declared.plan.Wire.{Wire as WireOver}
 use Rattle.vlog_semantics.specs.Entries.{Entry}
 use Rattle.vlog_semantics.specs.Numbered.{numbered}
 use Rattle.vlog_semantics.specs.Named.{names_of, values_of}
-use Rattle.vlog_semantics.specs.Plans.{Places, flip_steps, outputs_of, read_of, settle_of, wires_of, write_of}
+use Rattle.vlog_semantics.specs.Plans.{Places, flip_steps, outputs_of, read_of, settle_of, wires_of, write_of, wave_edge}
 use Rattle.vlog_semantics.specs.Run.{input_names, memory_start, register_start, word_start}
+use Rattle.vlog_semantics.specs.Steps.{SlotEdges, slots_between}
 
 -- ---- the names of a module
 
@@ -63,3 +64,10 @@ pub record IsPlan (m : Parts) (plan : Plan) : Type 0 where
   pub settles : plan.settles.items ≡ filter_map (settle_of (places_of m)) m.items
   pub reads : plan.reads.items ≡ filter_map (read_of (places_of m)) m.items
   pub writes : plan.writes.items ≡ filter_map (write_of (places_of m)) m.items
+  pub clocks : plan.clocks.items ≡ filter_map (wave_edge (places_of m)) m.items
+
+-- ---- waves
+
+-- the edges of a module's registers between two moments with these bits
+abbrev pub wave_slots : Parts → List Bool → List Bool → SlotEdges
+wave_slots m before after = slots_between (length (input_names m.ports)) (length (input_names m.ports ++ register_names m.items)) before after

@@ -1,6 +1,7 @@
 -- Items over slots, made from the items of a module by resolving their names.
 use Rattle.std.specs.Option.{option_map, option_to_list}
 use Rattle.std.specs.Prelude.{ℕ, Bool, false, List, [], ◌∷◌, ◌++◌, Option, Some, None, fold, map, flat_map, length, if◌then◌else◌}
+use Rattle.index_search.specs.Places.{or_else}
 use Rattle.vlog_module.specs.declared.atoms.Atom.{Atom}
 use Rattle.vlog_module.specs.declared.atoms.Atom.TheVariants.{Bit, Whole, Part}
 use Rattle.vlog_module.specs.declared.item.Lut.{Lut}
@@ -16,6 +17,7 @@ use Rattle.vlog_semantics.specs.declared.plan.Table.{Table}
 use Rattle.vlog_semantics.specs.declared.plan.Rule.{Rule}
 use Rattle.vlog_semantics.specs.declared.plan.Rule.TheVariants.{Copy, Lookup, Majority, Choose}
 use Rattle.vlog_semantics.specs.declared.plan.Wire.{Wire}
+use Rattle.vlog_semantics.specs.declared.plan.Edge.{Edge}
 use Rattle.vlog_semantics.specs.declared.plan.FlipFlop.{FlipFlop}
 use Rattle.vlog_semantics.specs.declared.plan.Settle.{Settle}
 use Rattle.vlog_semantics.specs.declared.plan.MemoryPort.{MemoryPort}
@@ -28,6 +30,7 @@ use Rattle.vlog_semantics.specs.declared.plan.Kept.TheVariants.{Masked, Outside}
 use Rattle.vlog_semantics.specs.declared.plan.Write.{Write}
 use Rattle.vlog_semantics.specs.Entries.{put}
 use Rattle.vlog_semantics.specs.Numbered.{numbered}
+use Rattle.vlog_semantics.specs.Run.{clock_of}
 
 -- how names are resolved: to the slots of what atoms read, of registers and of memories, and to the indexes of inputs
 pub record Places : Type 0 where
@@ -40,6 +43,10 @@ pub record Places : Type 0 where
   -- the registers of 16 bits
   pub words : List ℕ → Option ℕ
   pub memories : List ℕ → Option ℕ
+
+-- the slot of a clock: of an input, or of a register of one bit
+abbrev pub clock_slot : Places → List ℕ → Option ℕ
+clock_slot at clock = or_else (at.pins clock) (at.registers clock)
 
 -- a name without a slot is the constant 0
 abbrev pub slot_operand : Option ℕ → Operand
@@ -98,8 +105,8 @@ of_two None b make = None
 -- a flip-flop with asynchronous set or reset at its clock edge (`SB_DFFES`, `SB_DFFER`)
 abbrev pub flip_at_once_of : Places → Item → Option FlipFlop
 flip_at_once_of at (FlipAtOnceItem falling clock reset set target enable lut) =
-    of_two (at.pins clock) (at.registers target) (λ pin slot. record {
-      edge = record { pin = pin; falling = falling };
+    of_two (clock_slot at clock) (at.registers target) (λ edge_slot slot. record {
+      edge = record { clock = edge_slot; falling = falling };
       enable = operand_of at.bits at.words enable;
       reset = slot_operand (at.bits reset);
       set = set;
@@ -110,8 +117,8 @@ flip_at_once_of at _ = None
 
 abbrev pub flip_of : Places → Item → Option FlipFlop
 flip_of at (FlipItem falling clock enable reset set target lut) =
-    of_two (at.pins clock) (at.registers target) (λ pin slot. record {
-      edge = record { pin = pin; falling = falling };
+    of_two (clock_slot at clock) (at.registers target) (λ edge_slot slot. record {
+      edge = record { clock = edge_slot; falling = falling };
       enable = operand_of at.bits at.words enable;
       reset = operand_of at.bits at.words reset;
       set = set;
@@ -147,8 +154,8 @@ settle_of at _ = None
 -- a port of a memory, if its clock and the memory have slots (`SB_RAM40_4K`)
 abbrev pub port_of : Places → Bool → List ℕ → Atom → Atom → List ℕ → List Atom → Option MemoryPort
 port_of at falling clock clock_enable enable memory address =
-    of_two (at.pins clock) (at.memories memory) (λ pin place. record {
-      edge = record { pin = pin; falling = falling };
+    of_two (clock_slot at clock) (at.memories memory) (λ edge_slot place. record {
+      edge = record { clock = edge_slot; falling = falling };
       clock_enable = operand_of at.bits at.words clock_enable;
       enable = operand_of at.bits at.words enable;
       memory = place;
@@ -188,3 +195,19 @@ abbrev pub write_of : Places → Item → Option Write
 write_of at (WriteItem falling clock clock_enable enable memory address mask bits) =
     write_over at (port_of at falling clock clock_enable enable memory address) (Masked (operands_of at.bits at.words mask)) bits
 write_of at item = narrow_write_of at item
+
+-- ---- waves
+
+-- an edge of a clock that has a slot
+abbrev pub edge_of : Bool → Option ℕ → Option Edge
+edge_of falling (Some slot) = Some (record { clock = slot; falling = falling })
+edge_of falling None = None
+
+-- the edge of a clock that is a register
+abbrev pub register_edge : Places → Option (Bool × List ℕ) → Option Edge
+register_edge at (Some clock) = edge_of clock.0 (at.registers clock.1)
+register_edge at None = None
+
+-- the edge of an item whose clock is a register
+abbrev pub wave_edge : Places → Item → Option Edge
+wave_edge at item = register_edge at (clock_of item)

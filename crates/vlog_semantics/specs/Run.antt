@@ -1,7 +1,9 @@
 -- The run of a module over a list of events: its state after the start, and after each event. The rules are those of IEEE Std 1364-2005
 -- for the subset: 6.1 continuous assignments, 9.2.2 nonblocking assignments, 9.7 event control, clause 11 scheduling semantics. That
--- inputs and words without a start value are 0, and not x, is this project's choice.
-use Rattle.std.specs.Prelude.{ℕ, zero, suc, ◌-◌, ◌*◌, ◌/◌, ◌%◌, ◌^◌, Bool, true, false, not, ◌&&◌, ◌||◌, ◌==◌, List, [], ◌∷◌, ◌++◌, Option, Some, None, fold, map, flat_map, get_or, replicate, slice_set, unwrap_or, bit_and, bit_or, if◌then◌else◌}
+-- inputs and words without a start value are 0, and not x, is this project's choice; so is the order in which items on a register take effect
+-- after an event: in waves, each computed from settled values.
+use Rattle.std.specs.Prelude.{ℕ, zero, suc, ◌-◌, ◌*◌, ◌/◌, ◌%◌, ◌^◌, Bool, true, false, not, ◌&&◌, ◌||◌, ◌==◌, List, [], ◌∷◌, ◌++◌, Option, Some, None, fold, map, flat_map, get_or, replicate, slice_set, unwrap_or, filter, is_some, length, bit_and, bit_or, if◌then◌else◌}
+use Rattle.std.specs.List.{list_any}
 use Rattle.std.specs.Option.{option_map}
 use Rattle.vlog_module.specs.declared.item.Item.{Item}
 use Rattle.vlog_module.specs.declared.item.Item.TheVariants.{Register, Word, Memory, Wire, Assign, FlipFlop, AsyncFlipFlop, AsyncReset, Read, ReadNarrow, Write, WriteNarrow, Start}
@@ -125,9 +127,25 @@ is_pin pin None = false
 abbrev pub is_edge : Bool → Bool → Bool
 is_edge falling bit = if falling then not bit else bit
 
--- whether an event is the edge of a clocked item
-abbrev pub is_clocked : Parts → Event → Bool → List ℕ → Bool
-is_clocked m event falling clock = is_pin event.pin (pin_of m.ports clock) && is_edge falling event.bit
+-- Which clocked items have their edge: given whether it is `negedge`, and the clock of an item, whether the item has it.
+abbrev pub Edges : Type 0
+Edges = Bool → List ℕ → Bool
+
+-- the edges of an event: those of the items whose clock is the input that changes
+abbrev pub edges_by : Parts → Event → Edges
+edges_by m event falling clock = is_pin event.pin (pin_of m.ports clock) && is_edge falling event.bit
+
+-- whether a bit has an edge between two moments
+abbrev pub has_edge : Bool → Bool → Bool → Bool
+has_edge falling before after = if falling then before && not after else not before && after
+
+-- the bit of a register in an entry; 0 if no register has the name
+abbrev pub register_bit : Entry → List ℕ → Bool
+register_bit entry name = unwrap_or (value_in entry.registers name) false
+
+-- the edges between two entries: those of the items whose clock is a register. The name of an input gives 0 in both, so it has none.
+abbrev pub edges_between : Entry → Entry → Edges
+edges_between before after falling clock = has_edge falling (register_bit before clock) (register_bit after clock)
 
 -- a word that is written under a mask, where a bit that is 1 keeps the old bit: `(word & mask) | (bits & ~mask)`, as `SB_RAM40_4K` has it
 abbrev pub masked : ℕ → ℕ → ℕ → ℕ
@@ -141,24 +159,25 @@ moved_down word shift pattern = bit_and (word / 2 ^ shift) pattern
 abbrev pub moved_up : ℕ → ℕ → ℕ
 moved_up pattern shift = pattern * 2 ^ shift % 65536
 
--- What clocked items assign at an event is computed from the entry before it (IEEE Std 1364-2005, 9.2.2 nonblocking assignments).
+-- What clocked items assign at their edges is computed from the entry before, and takes effect all together (IEEE Std 1364-2005, 9.2.2
+-- nonblocking assignments).
 
 -- the register of one bit that an item assigns, and its next value
-abbrev pub next_bit : Parts → Entry → Event → Item → Option (List ℕ × Bool)
-next_bit m before event (FlipFlop falling clock enable reset set target lut) =
-    if is_clocked m event falling clock && atom_value (readable before) enable
+abbrev pub next_bit : Edges → Entry → Item → Option (List ℕ × Bool)
+next_bit edges before (FlipFlop falling clock enable reset set target lut) =
+    if edges falling clock && atom_value (readable before) enable
     then Some (target, if atom_value (readable before) reset then set else lut_value (readable before) lut)
     else None
-next_bit m before event (AsyncFlipFlop falling clock reset set target enable lut) =
-    if is_clocked m event falling clock && (atom_value (readable before) (Whole reset) || atom_value (readable before) enable)
+next_bit edges before (AsyncFlipFlop falling clock reset set target enable lut) =
+    if edges falling clock && (atom_value (readable before) (Whole reset) || atom_value (readable before) enable)
     then Some (target, if atom_value (readable before) (Whole reset) then set else lut_value (readable before) lut)
     else None
-next_bit m before event _ = None
+next_bit edges before _ = None
 
--- whether an event is the edge of a memory's port, and both enables of the port are 1
-abbrev pub is_enabled : Parts → Entry → Event → Bool → List ℕ → Atom → Atom → Bool
-is_enabled m before event falling clock clock_enable enable =
-    is_clocked m event falling clock && atom_value (readable before) clock_enable && atom_value (readable before) enable
+-- whether a memory's port has its edge, and both enables of the port are 1
+abbrev pub is_enabled : Edges → Entry → Bool → List ℕ → Atom → Atom → Bool
+is_enabled edges before falling clock clock_enable enable =
+    edges falling clock && atom_value (readable before) clock_enable && atom_value (readable before) enable
 
 -- a register, and what it gets from the word at an address of a memory; none if there is no such memory
 abbrev pub taken_from : Entry → List ℕ → List ℕ → List Atom → (ℕ → ℕ) → Option (List ℕ × ℕ)
@@ -166,14 +185,14 @@ taken_from before target memory address taken =
     option_map (λ words. (target, taken (get_or words (atoms_value (readable before) address) 0))) (value_in before.memories memory)
 
 -- the register of 16 bits that an item assigns, and its next value
-abbrev pub next_word : Parts → Entry → Event → Item → Option (List ℕ × ℕ)
-next_word m before event (Read falling clock clock_enable enable target memory address) =
-    if is_enabled m before event falling clock clock_enable enable then taken_from before target memory address (λ word. word) else None
-next_word m before event (ReadNarrow falling clock clock_enable enable target memory address shift pattern) =
-    if is_enabled m before event falling clock clock_enable enable
+abbrev pub next_word : Edges → Entry → Item → Option (List ℕ × ℕ)
+next_word edges before (Read falling clock clock_enable enable target memory address) =
+    if is_enabled edges before falling clock clock_enable enable then taken_from before target memory address (λ word. word) else None
+next_word edges before (ReadNarrow falling clock clock_enable enable target memory address shift pattern) =
+    if is_enabled edges before falling clock clock_enable enable
     then taken_from before target memory address (λ word. moved_down word (atoms_value (readable before) shift) pattern)
     else None
-next_word m before event _ = None
+next_word edges before _ = None
 
 -- a word that is written to a memory
 pub record Put : Type 0 where
@@ -192,16 +211,16 @@ put_at before memory address mask bits =
     }
 
 -- the word that an item writes to a memory
-abbrev pub next_put : Parts → Entry → Event → Item → Option Put
-next_put m before event (Write falling clock clock_enable enable memory address mask bits) =
-    if is_enabled m before event falling clock clock_enable enable
+abbrev pub next_put : Edges → Entry → Item → Option Put
+next_put edges before (Write falling clock clock_enable enable memory address mask bits) =
+    if is_enabled edges before falling clock clock_enable enable
     then Some (put_at before memory address (atoms_value (readable before) mask) bits)
     else None
-next_put m before event (WriteNarrow falling clock clock_enable enable memory address pattern shift bits) =
-    if is_enabled m before event falling clock clock_enable enable
+next_put edges before (WriteNarrow falling clock clock_enable enable memory address pattern shift bits) =
+    if is_enabled edges before falling clock clock_enable enable
     then Some (put_at before memory address (65535 - moved_up pattern (atoms_value (readable before) shift)) bits)
     else None
-next_put m before event _ = None
+next_put edges before _ = None
 
 -- a name gets the value that is assigned, if any is
 abbrev pub put_given : {A : Type 0} → List (List ℕ × A) → Option (List ℕ × A) → List (List ℕ × A)
@@ -212,14 +231,14 @@ abbrev pub put_given_word : List (List ℕ × List ℕ) → Option Put → List 
 put_given_word memories (Some given) = put_word memories given.memory given.address given.word
 put_given_word memories None = memories
 
-abbrev pub register_step : Parts → Entry → Event → List (List ℕ × Bool) → Item → List (List ℕ × Bool)
-register_step m before event registers item = put_given registers (next_bit m before event item)
+abbrev pub register_step : Edges → Entry → List (List ℕ × Bool) → Item → List (List ℕ × Bool)
+register_step edges before registers item = put_given registers (next_bit edges before item)
 
-abbrev pub word_step : Parts → Entry → Event → List (List ℕ × ℕ) → Item → List (List ℕ × ℕ)
-word_step m before event words item = put_given words (next_word m before event item)
+abbrev pub word_step : Edges → Entry → List (List ℕ × ℕ) → Item → List (List ℕ × ℕ)
+word_step edges before words item = put_given words (next_word edges before item)
 
-abbrev pub memory_step : Parts → Entry → Event → List (List ℕ × List ℕ) → Item → List (List ℕ × List ℕ)
-memory_step m before event memories item = put_given_word memories (next_put m before event item)
+abbrev pub memory_step : Edges → Entry → List (List ℕ × List ℕ) → Item → List (List ℕ × List ℕ)
+memory_step edges before memories item = put_given_word memories (next_put edges before item)
 
 -- an input gets a bit
 abbrev pub with_input : List (List ℕ × Bool) → ℕ → Bool → List (List ℕ × Bool)
@@ -227,12 +246,63 @@ with_input [] pin bit = []
 with_input (input ∷ inputs) zero bit = (input.0, bit) ∷ inputs
 with_input (input ∷ inputs) (suc pin) bit = input ∷ with_input inputs pin bit
 
--- the entry after an event that changes its input
+-- the entry with these inputs in which all items with an edge have taken effect
+unfoldable pub acted : Parts → Edges → List (List ℕ × Bool) → Entry → Entry
+acted m edges inputs before =
+    settled m inputs (fold (register_step edges before) before.registers m.items) (fold (word_step edges before) before.words m.items)
+    (fold (memory_step edges before) before.memories m.items)
+
+-- ---- waves
+
+-- Registers that change may be the clocks of other items. Those have their edges after the event, from one entry to the next: a wave. Each
+-- wave may be followed by another one, at most as many as there are items whose clock is a register.
+
+-- the clock of an item, and whether its edge is `negedge`
+abbrev pub clock_of : Item → Option (Bool × List ℕ)
+clock_of (FlipFlop falling clock enable reset set target lut) = Some (falling, clock)
+clock_of (AsyncFlipFlop falling clock reset set target enable lut) = Some (falling, clock)
+clock_of (Read falling clock clock_enable enable target memory address) = Some (falling, clock)
+clock_of (ReadNarrow falling clock clock_enable enable target memory address shift pattern) = Some (falling, clock)
+clock_of (Write falling clock clock_enable enable memory address mask bits) = Some (falling, clock)
+clock_of (WriteNarrow falling clock clock_enable enable memory address pattern shift bits) = Some (falling, clock)
+clock_of _ = None
+
+-- whether a clock has its edge; an item without a clock has none
+abbrev pub is_at_edge : Edges → Option (Bool × List ℕ) → Bool
+is_at_edge edges (Some clock) = edges clock.0 clock.1
+is_at_edge edges None = false
+
+-- whether an item has its edge
+abbrev pub has_its_edge : Edges → Item → Bool
+has_its_edge edges item = is_at_edge edges (clock_of item)
+
+-- whether a clock is a register
+abbrev pub is_register_of : Parts → Option (Bool × List ℕ) → Bool
+is_register_of m (Some clock) = is_some (value_in (flat_map register_start m.items) clock.1)
+is_register_of m None = false
+
+-- whether the clock of an item is a register
+abbrev pub is_on_register : Parts → Item → Bool
+is_on_register m item = is_register_of m (clock_of item)
+
+-- how many waves an event has at most
+abbrev pub wave_bound : Parts → ℕ
+wave_bound m = length (filter (is_on_register m) m.items)
+
+-- The last entry of an event, from two entries that follow each other, after at most this many waves: if an item whose clock is a register
+-- has its edge between the two, all such items take effect, computed from the second one, and so on.
+unfoldable pub waved : Parts → ℕ → Entry → Entry → Entry
+waved m zero before after = after
+waved m (suc more) before after =
+    let edges = edges_between before after in
+    if list_any (has_its_edge edges) m.items then waved m more after (acted m edges after.inputs after) else after
+
+-- ---- an event as a whole
+
+-- the entry after an event that changes its input: the items on the input take effect, computed from the entry before; then come the waves
 unfoldable pub changed : Parts → Entry → Event → Entry
 changed m before event =
-    settled m (with_input before.inputs event.pin event.bit)
-    (fold (register_step m before event) before.registers m.items) (fold (word_step m before event) before.words m.items)
-    (fold (memory_step m before event) before.memories m.items)
+    waved m (wave_bound m) before (acted m (edges_by m event) (with_input before.inputs event.pin event.bit) before)
 
 abbrev pub is_same_bit : Bool → Bool → Bool
 is_same_bit true bit = bit

@@ -1,5 +1,5 @@
 -- What items over slots do to the bits, words and memories in the slots.
-use Rattle.std.specs.Prelude.{ℕ, ◌-◌, Bool, false, ◌&&◌, ◌==◌, List, [], Option, Some, None, fold, map, get_or, slice_set, if◌then◌else◌}
+use Rattle.std.specs.Prelude.{ℕ, nat_le, nat_lt, ◌-◌, take, Bool, false, ◌&&◌, ◌==◌, List, [], Option, Some, None, fold, map, get_or, slice_set, if◌then◌else◌}
 use Rattle.vlog_semantics.specs.declared.event.Event.{Event}
 use Rattle.vlog_semantics.specs.declared.plan.Operand.{Operand}
 use Rattle.vlog_semantics.specs.declared.plan.Operand.TheVariants.{Constant, Slot, Part}
@@ -19,7 +19,7 @@ use Rattle.vlog_semantics.specs.declared.plan.Kept.TheVariants.{Masked, Outside}
 use Rattle.vlog_semantics.specs.declared.plan.Write.{Write}
 use Rattle.vlog_semantics.specs.declared.plan.Written.{Written}
 use Rattle.vlog_semantics.specs.declared.plan.Plan.{Plan}
-use Rattle.vlog_semantics.specs.Run.{is_edge, masked, moved_down, moved_up}
+use Rattle.vlog_semantics.specs.Run.{has_edge, is_edge, masked, moved_down, moved_up}
 use Rattle.vlog_semantics.specs.Values.{bit_of, majority, number_of}
 
 abbrev pub operand_value : List Bool → List ℕ → Operand → Bool
@@ -43,22 +43,45 @@ rule_value bits words (Choose reset set target) = if operand_value bits words re
 abbrev pub wire_slot : List ℕ → List Bool → Wire → List Bool
 wire_slot words bits wire = slice_set bits wire.slot (rule_value bits words wire.rule)
 
+-- ---- edges
+
+-- Which clocked items over slots have their edge: given whether it is the falling one, and the slot of its clock, whether an item has it.
+abbrev pub SlotEdges : Type 0
+SlotEdges = Bool → ℕ → Bool
+
+-- the edges of an event
+abbrev pub slots_by : Event → SlotEdges
+slots_by event falling slot = (slot == event.pin) && is_edge falling event.bit
+
+-- whether a slot is one of the registers, which stand from slot `first` up to slot `end`
+abbrev pub is_between : ℕ → ℕ → ℕ → Bool
+is_between first end slot = nat_le first slot && nat_lt slot end
+
+-- the edges of these registers between two moments with these bits
+abbrev pub slots_between : ℕ → ℕ → List Bool → List Bool → SlotEdges
+slots_between first end before after falling slot =
+    is_between first end slot && has_edge falling (get_or (take end before) slot false) (get_or (take end after) slot false)
+
+-- whether an item with this edge has it
+abbrev pub is_at : SlotEdges → Edge → Bool
+is_at edges edge = edges edge.falling edge.clock
+
 -- whether an event is this edge
 abbrev pub is_edge_of : Event → Edge → Bool
-is_edge_of event edge = (edge.pin == event.pin) && is_edge edge.falling event.bit
+is_edge_of event edge = is_at (slots_by event) edge
 
-abbrev pub flip_slot : Event → List Bool → List ℕ → List Bool → FlipFlop → List Bool
-flip_slot event bits words next flip =
-    if is_edge_of event flip.edge && operand_value bits words flip.enable
+abbrev pub flip_slot : SlotEdges → List Bool → List ℕ → List Bool → FlipFlop → List Bool
+flip_slot edges bits words next flip =
+    if is_at edges flip.edge && operand_value bits words flip.enable
     then slice_set next flip.target (if operand_value bits words flip.reset then flip.set else table_value bits words flip.table)
     else next
 
 -- ---- memories
 
--- whether a port of a memory acts at an event
-abbrev pub is_acting : Event → List Bool → List ℕ → MemoryPort → Bool
-is_acting event bits words port =
-    is_edge_of event port.edge && operand_value bits words port.clock_enable && operand_value bits words port.enable
+-- whether a port of a memory acts
+abbrev pub is_acting : SlotEdges → List Bool → List ℕ → MemoryPort → Bool
+is_acting edges bits words port =
+    is_at edges port.edge && operand_value bits words port.clock_enable && operand_value bits words port.enable
 
 abbrev pub word_in : List (List ℕ) → ℕ → ℕ → ℕ
 word_in memories memory address = get_or (get_or memories memory []) address 0
@@ -68,9 +91,9 @@ abbrev pub taken_word : List Bool → List ℕ → Taken → ℕ → ℕ
 taken_word bits words Word word = word
 taken_word bits words (Narrow field) word = moved_down word (operands_value bits words field.shift) field.pattern
 
-abbrev pub read_slot : Event → List Bool → List ℕ → List (List ℕ) → List ℕ → Read → List ℕ
-read_slot event bits words memories next read =
-    if is_acting event bits words read.port
+abbrev pub read_slot : SlotEdges → List Bool → List ℕ → List (List ℕ) → List ℕ → Read → List ℕ
+read_slot edges bits words memories next read =
+    if is_acting edges bits words read.port
     then slice_set next read.target (taken_word bits words read.taken (word_in memories read.port.memory (operands_value bits words read.port.address)))
     else next
 
@@ -80,10 +103,10 @@ kept_mask bits words (Masked mask) = operands_value bits words mask
 kept_mask bits words (Outside field) = 65535 - moved_up field.pattern (operands_value bits words field.shift)
 
 -- the word that a write writes, if its port acts
-abbrev pub written_by : Event → List Bool → List ℕ → List (List ℕ) → Write → Option Written
-written_by event bits words memories write =
+abbrev pub written_by : SlotEdges → List Bool → List ℕ → List (List ℕ) → Write → Option Written
+written_by edges bits words memories write =
     let address = operands_value bits words write.port.address in
-    if is_acting event bits words write.port
+    if is_acting edges bits words write.port
     then Some (record {
       memory = write.port.memory;
       address = address;
@@ -112,16 +135,25 @@ settle_slots settles bits = fold (settle_slot bits) bits settles
 abbrev pub settled_slots : Plan → List Wire → List ℕ → List Bool → List Bool
 settled_slots plan wires words bits = settle_slots plan.settles.items (fold (wire_slot words) bits wires)
 
--- ---- an event that changes its input
+-- ---- a step: all items with an edge take effect
 
-abbrev pub words_after : Plan → Event → List Bool → List ℕ → List (List ℕ) → List ℕ
-words_after plan event bits words memories = fold (read_slot event bits words memories) words plan.reads.items
+abbrev pub words_after : Plan → SlotEdges → List Bool → List ℕ → List (List ℕ) → List ℕ
+words_after plan edges bits words memories = fold (read_slot edges bits words memories) words plan.reads.items
 
-abbrev pub memories_after : Plan → Event → List Bool → List ℕ → List (List ℕ) → List (List ℕ)
-memories_after plan event bits words memories =
-    fold put_written memories (map (written_by event bits words memories) plan.writes.items)
+abbrev pub memories_after : Plan → SlotEdges → List Bool → List ℕ → List (List ℕ) → List (List ℕ)
+memories_after plan edges bits words memories =
+    fold put_written memories (map (written_by edges bits words memories) plan.writes.items)
 
+abbrev pub flips_after : Plan → SlotEdges → List Bool → List ℕ → List Bool
+flips_after plan edges bits words = fold (flip_slot edges bits words) bits plan.flips.items
+
+-- the bits after the first step of an event that changes its input
 abbrev pub bits_after : Plan → List Wire → Event → List Bool → List ℕ → List (List ℕ) → List Bool
 bits_after plan wires event bits words memories =
-    settled_slots plan wires (words_after plan event bits words memories)
-    (slice_set (fold (flip_slot event bits words) bits plan.flips.items) event.pin event.bit)
+    settled_slots plan wires (words_after plan (slots_by event) bits words memories)
+    (slice_set (flips_after plan (slots_by event) bits words) event.pin event.bit)
+
+-- the bits after a wave
+abbrev pub bits_waved : Plan → List Wire → SlotEdges → List Bool → List ℕ → List (List ℕ) → List Bool
+bits_waved plan wires edges bits words memories =
+    settled_slots plan wires (words_after plan edges bits words memories) (flips_after plan edges bits words)

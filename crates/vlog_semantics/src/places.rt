@@ -4,7 +4,8 @@ ghost use Rattle.std.specs.List.{filter_map};
 ghost use Rattle.std.specs.Option.{option_map, option_to_list};
 ghost use Rattle.vlog_module.specs.WellFormed.{IsLut, IsRight, IsShaped};
 ghost use Rattle.vlog_semantics.specs.Slots.{slot_of};
-ghost use Rattle.vlog_semantics.specs.Plans.{at_reset, field_of, flip_at_once_of, flip_of, flip_steps, narrow_read_of, narrow_write_of, operand_of, operands_of, part_operand, port_of, read_of, read_over, rule_of, settle_of, settle_over, slot_operand, table_of, write_of, write_over};
+ghost use Rattle.vlog_semantics.specs.Run.{clock_of};
+ghost use Rattle.vlog_semantics.specs.Plans.{at_reset, clock_slot, field_of, flip_at_once_of, flip_of, flip_steps, narrow_read_of, narrow_write_of, operand_of, operands_of, part_operand, port_of, read_of, read_over, rule_of, settle_of, settle_over, slot_operand, table_of, wave_edge, write_of, write_over};
 ghost use Rattle.vlog_semantics.specs.Found.{places_in};
 
 use crate::plan::{
@@ -105,6 +106,16 @@ pub(crate) fn rule_of(bits: &Slots, words: &Slots, right: &Right) -> Rule
     }
 }
 
+/// The slot of a clock, which is an input or a register of one bit.
+fn clock_slot(places: &Places, clock: &Name) -> Option<usize>
+    ensures { result ≡ clock_slot (places_in places.now) clock.now }
+{
+    match places.pins.slot(clock.bytes()) {
+        Some(slot) => Some(slot),
+        None => places.registers.slot(clock.bytes()),
+    }
+}
+
 /// The flip-flop of an item, if it is one.
 fn flip_of(places: &Places, item: &Item) -> Option<FlipFlop>
     requires { IsShaped item.now }
@@ -120,11 +131,11 @@ fn flip_of(places: &Places, item: &Item) -> Option<FlipFlop>
             target,
             lut,
         } => {
-            let pin = places.pins.slot(clock.bytes())?;
+            let clock = clock_slot(places, clock)?;
             let target = places.registers.slot(target.bytes())?;
             Some(FlipFlop {
                 edge: Edge {
-                    pin,
+                    clock,
                     falling: *falling,
                 },
                 enable: operand_of(&places.bits, &places.words, enable),
@@ -153,11 +164,11 @@ fn flip_at_once_of(places: &Places, item: &Item) -> Option<FlipFlop>
             enable,
             lut,
         } => {
-            let pin = places.pins.slot(clock.bytes())?;
+            let clock = clock_slot(places, clock)?;
             let target = places.registers.slot(target.bytes())?;
             Some(FlipFlop {
                 edge: Edge {
-                    pin,
+                    clock,
                     falling: *falling,
                 },
                 enable: operand_of(&places.bits, &places.words, enable),
@@ -223,10 +234,10 @@ fn port_of(
     requires { length address.now ≡ 8 }
     ensures { result ≡ port_of (places_in places.now) falling clock.now clock_enable.now enable.now memory.now address.now }
 {
-    let pin = places.pins.slot(clock.bytes())?;
+    let clock = clock_slot(places, clock)?;
     let memory = places.memories.slot(memory.bytes())?;
     Some(MemoryPort {
-        edge: Edge { pin, falling },
+        edge: Edge { clock, falling },
         clock_enable: operand_of(&places.bits, &places.words, clock_enable),
         enable: operand_of(&places.bits, &places.words, enable),
         memory,
@@ -485,4 +496,43 @@ fn push_found<T: Drop>(list: &mut Vec<T>, found: Option<T>) -> Result<(), AllocE
         }
         None => Ok(()),
     }
+}
+
+/// The clock of an item, and whether its edge is the falling one.
+fn clock_of(item: &Item) -> Option<(bool, &Name)>
+    ensures { option_map (λ clock. (clock.0, clock.1.now)) result ≡ clock_of item.now }
+{
+    match item {
+        Item::FlipFlop { falling, clock, .. }
+        | Item::AsyncFlipFlop { falling, clock, .. }
+        | Item::Read { falling, clock, .. }
+        | Item::ReadNarrow { falling, clock, .. }
+        | Item::Write { falling, clock, .. }
+        | Item::WriteNarrow { falling, clock, .. } => Some((*falling, clock)),
+        _ => None,
+    }
+}
+
+/// The edge of an item whose clock is a register.
+fn wave_edge(places: &Places, item: &Item) -> Option<Edge>
+    ensures { result ≡ wave_edge (places_in places.now) item.now }
+{
+    let (falling, clock) = clock_of(item)?;
+    let clock = places.registers.slot(clock.bytes())?;
+    Some(Edge { clock, falling })
+}
+
+/// The edges of the items whose clock is a register.
+pub(crate) fn clocks_of(
+    alloc: Global,
+    places: &Places,
+    items: &[Item],
+) -> Result<Vec<Edge>, AllocError>
+    ensures { IfOk result (λ clocks. clocks.items ≡ filter_map (wave_edge (places_in places.now)) items.now) }
+{
+    let mut clocks = Vec::new(alloc);
+    for item in items {
+        push_found(&mut clocks, wave_edge(places, item))?;
+    }
+    Ok(clocks)
 }

@@ -44,10 +44,10 @@ pub struct Wire {
     pub rule: Rule,
 }
 
-/// An edge of an input: the input's index, and whether it is a falling edge.
+/// An edge of a clock: the slot of the clock, an input or a register of one bit, and whether it is the falling edge.
 #[derive(Clone, Copy)]
 pub struct Edge {
-    pub pin: usize,
+    pub clock: usize,
     pub falling: bool,
 }
 
@@ -151,4 +151,6 @@ pub struct Plan {
     pub settles: Vec<Settle>,
     pub reads: Vec<Read>,
     pub writes: Vec<Write>,
+    /// The edges of the items whose clock is a register, one for each.
+    pub clocks: Vec<Edge>,
 }

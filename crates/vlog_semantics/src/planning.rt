@@ -5,7 +5,7 @@ ghost use Rattle.vlog_semantics.specs.ModuleSlots.{IsPlan, places_of};
 
 use crate::build::{assign_outputs, blank_outputs};
 use crate::gates::Gate;
-use crate::places::{Places, flips_of, reads_of, settles_of, writes_of};
+use crate::places::{Places, clocks_of, flips_of, reads_of, settles_of, writes_of};
 use crate::plan::Plan;
 use std::alloc::{AllocError, Global};
 use vlog_module::Module;
@@ -31,5 +31,6 @@ pub(crate) fn plan_of(
         settles: settles_of(alloc, places, items)?,
         reads: reads_of(alloc, places, items)?,
         writes: writes_of(alloc, places, items)?,
+        clocks: clocks_of(alloc, places, items)?,
     })
 }

@@ -47,7 +47,7 @@ pub fn set_bit(bits: &mut [bool], slot: usize, bit: bool)
 pub fn is_edge_of(event: Event, edge: Edge) -> bool
     ensures { result ≡ is_edge_of event edge }
 {
-    edge.pin == event.pin && is_edge(edge.falling, event.bit)
+    edge.clock == event.pin && is_edge(edge.falling, event.bit)
 }
 
 /// Whether an input that changes to this bit has the edge.

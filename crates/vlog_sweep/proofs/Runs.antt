@@ -1,6 +1,7 @@
 -- Runs that go on.
 use Rattle.std.proofs.Common.{◌≡◌, ℕ, zero, suc, ◌+◌, ◌<◌, ◌≤◌, Bool, true, false, cond, List, [], ◌∷◌, ◌++◌, ap, arith, append-nil, flat_map, fold, get_or, length, refl, sym, take, ◌∙◌}
 use Rattle.std.specs.Prelude.{None, Some, bytes_eq, slice_get}
+use Rattle.std.specs.List.{list_any}
 use Rattle.std.specs.Option.{option_map}
 use Rattle.std.proofs.lemmas.Bool.{eq-eqb, eqb-true}
 use Rattle.std.proofs.lemmas.List.{length-map, take_more}
@@ -12,7 +13,7 @@ use Rattle.vlog_module.specs.Parts.{Parts}
 use Rattle.vlog_semantics.specs.declared.event.Event.{Event}
 use Rattle.vlog_semantics.specs.Entries.{Entry, put}
 use Rattle.vlog_semantics.specs.Named.{values_of}
-use Rattle.vlog_semantics.specs.Run.{changed, followed, input_bit, is_same_bit, output_start, output_step, run_from, settled, start}
+use Rattle.vlog_semantics.specs.Run.{acted, changed, edges_between, followed, has_its_edge, input_bit, is_same_bit, output_start, output_step, run_from, settled, start, wave_bound, waved, Edges}
 use Rattle.vlog_semantics.specs.Values.{Readable}
 use Rattle.vlog_run.specs.Text.{entry_line}
 use Rattle.vlog_sweep.specs.Strands.{entry_of, has_bit, is_on, next_of, stepped}
@@ -67,12 +68,26 @@ start-count : (m : Parts) → length (start m).outputs ≡ output_count m
 unfolding start
 start-count m = settled-count m _ _ _ _
 
+acted-count : (m : Parts) (edges : Edges) (inputs : List (List ℕ × Bool)) (before : Entry) → length (acted m edges inputs before).outputs ≡ output_count m
+unfolding acted
+acted-count m edges inputs before = settled-count m _ _ _ _
+
+waved-count : (m : Parts) (bound : ℕ) (before after : Entry) → length after.outputs ≡ output_count m → length (waved m bound before after).outputs ≡ output_count m
+unfolding waved
+waved-count m zero before after count = count
+waved-count m (suc more) before after count =
+    let edges = edges_between before after in
+    elim (list_any (has_its_edge edges) m.items) as (λ b. length (cond b (waved m more after (acted m edges after.inputs after)) after).outputs ≡ output_count m) [
+      | true ↦ waved-count m more after (acted m edges after.inputs after) (acted-count m edges after.inputs after)
+      | false ↦ count
+    ]
+
 followed-count : (m : Parts) (entry : Entry) (event : Event) → length entry.outputs ≡ output_count m → length (followed m entry event).outputs ≡ output_count m
 unfolding followed changed
 followed-count m entry event count =
     elim (is_same_bit event.bit (input_bit entry event.pin)) as (λ b. length (cond b entry (changed m entry event)).outputs ≡ output_count m) [
       | true ↦ count
-      | false ↦ settled-count m _ _ _ _
+      | false ↦ waved-count m (wave_bound m) entry _ (acted-count m _ _ _)
     ]
 
 run-count : (m : Parts) (entry : Entry) (events : List Event) → length entry.outputs ≡ output_count m → length (fold (followed m) entry events).outputs ≡ output_count m

@@ -8,7 +8,7 @@ use Rattle.vlog_module.specs.declared.item.Item.TheVariants.{Register, Word, Wir
 use Rattle.vlog_module.specs.declared.item.Right.TheVariants.{Whole as RightWhole}
 use Rattle.vlog_module.specs.Parts.{Parts}
 use Rattle.vlog_semantics.specs.declared.event.Event.{Event}
-use Rattle.vlog_semantics.specs.Run.{changed, followed, module_run, run_from, settled, start}
+use Rattle.vlog_semantics.specs.Run.{acted, changed, followed, module_run, run_from, settled, start, waved}
 use Rattle.vlog_waves.specs.Variables.{values_in, variables_of}
 use Rattle.vlog_waves.specs.Waves.{head_lines, identifier, identifier_digits, waves_text, word_digits}
 
@@ -50,5 +50,5 @@ small = record {
 
 told : waves_text small (event 0 true ∷ event 0 true ∷ [])
     ≡ codes "$timescale 1 ns $end\n$scope module m $end\n$var wire 1 ! c $end\n$var wire 1 \" q $end\n$var reg 1 # r $end\n$var reg 16 $ w [15:0] $end\n$var wire 1 % n $end\n$upscope $end\n$enddefinitions $end\n#0\n$dumpvars\n0!\n0\"\n1#\nb0001001000110100 $\n0%\n$end\n#1\n1!\n1\"\n0#\n1%\n#2\n"
-unfolding digits waves_text text_of head_lines variables_of values_in identifier identifier_digits word_digits module_run run_from followed changed start settled small event
+unfolding digits waves_text text_of head_lines variables_of values_in identifier identifier_digits word_digits module_run run_from followed changed acted waved start settled small event
 told = refl

@@ -2,3 +2,4 @@
 pub mod Declared
 pub mod Tracing
 pub mod Values
+pub mod Shapes

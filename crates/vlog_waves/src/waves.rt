@@ -1,10 +1,12 @@
 // The VCD of a run, made while it is written.
+ghost use Rattle.std.proofs.Props.{props};
 ghost use Rattle.std.specs.Prelude.{◌≡◌, ◌+◌, ◌*◌, ◌<◌, ◌^◌, ◌++◌, All, true, vec_len};
 ghost use Rattle.text_lines.specs.Written.{text_of};
 ghost use Rattle.vlog_semantics.specs.Run.{start};
 ghost use Rattle.vlog_run.specs.Showing.{input_count};
 ghost use Rattle.vlog_waves.specs.Variables.{values_in};
 ghost use Rattle.vlog_waves.specs.Waves.{head_lines, start_lines};
+ghost use Rattle.vlog_waves.specs.inside.Shapes.{in_range-prop, shaped-prop};
 ghost use Rattle.vlog_waves.specs.inside.Tracing.{Traces};
 ghost use Rattle.vlog_waves.specs.inside.Values.{event_room};
 
@@ -36,7 +38,7 @@ pub struct Waves {
     tracer: Tracer,
     ghost inputs: { All (λ event. event.pin < input_count tracer.runner) events.items },
     ghost few: { vec_len beginning + vec_len events * event_room tracer.values < 2 ^ 64 },
-    ghost traces: { Traces tracer «module» (start «module») },
+    ghost traces: { Traces tracer «module» (start «module») } by { Prim.hlevel (props, shaped-prop, in_range-prop) },
     ghost begun: { beginning.items ≡ text_of (head_lines «module» ++ start_lines (values_in «module» (start «module»))) },
 }
 

@@ -4,6 +4,7 @@ use Rattle.std.specs.Option.{option_map}
 use Rattle.clap.specs.Words.{Text, first_of, found_of, rows_of}
 use Rattle.fabric_model.specs.declared.options.FabricOptions.{FabricOptions}
 use Rattle.tool_run.specs.Needs.{text_of}
+use Rattle.tool_inputs.specs.Commands.{has_flag}
 use Rattle.design_tools.specs.Names.{name_given}
 use Rattle.design_tools.specs.Vlog.{Named, name_text, named_by, options_in, options_wanted, pins_in, pins_of_request, vlog_task_of}
 use Rattle.design_tools.proofs.CommandLines.{name_text-map}
@@ -12,7 +13,8 @@ use Rattle.design_tools.proofs.request.request_in.Goals as goal
 pub returns : goal.returns
 returns c =
     let rows = rows_of (found_of c.args.matches.now) in
-    let options : c.options_wanted-options.result ≡ options_in rows = c.options_wanted-options.ensures ∙ ap₂ options_wanted c.has_flag-used.ensures c.has_flag-all.ensures in
+    let options : c.options_wanted-options.result ≡ options_in rows = c.options_wanted-options.ensures ∙ ap₂ (λ used all. options_wanted used all c.has_flag-registers.result) c.has_flag-used.ensures c.has_flag-all.ensures
+    ∙ ap (options_wanted (has_flag (codes "used-inputs") rows) (has_flag (codes "all-pins") rows)) c.has_flag-registers.ensures in
     let name = sym (name_text-map c.name_given-name.result) ∙ c.name_given-name.ensures ∙ ap name_given c.value-given.ensures in
     let pins : option_map pins_of_request c.pins_wanted-pins.result ≡ pins_in rows = c.pins_wanted-pins.ensures ∙ ap₂ named_by c.value-file.ensures c.value-package_name.ensures in
     let given = name_given (first_of (codes "name") rows) in

@@ -1,5 +1,4 @@
 use Rattle.std.proofs.Common.{sym, ◌∙◌}
-use Rattle.fabric_model.specs.Wiring.{wiring_of as wiring_of_fabric}
 use Rattle.graph_order.proofs.Alike.{order-alike, is_on_cycle-alike}
 use Rattle.fabric.proofs.Evidence.{loop-told, loop-none}
 use Rattle.fabric.proofs.order.order_of.Goals as goal
@@ -13,12 +12,12 @@ pub returns-in-Some-clause-taken : goal.returns-in-Some-clause-taken
 returns-in-Some-clause-taken g c =
     let alike = c.requires.1.1.1.1 in
     let open_ = rw c.in-Some.is at c.in_ok-order.ensures.open in
-    loop-none (wiring_of_fabric g.fabric) (λ class below. sym (is_on_cycle-alike alike class) ∙ open_ c.requires.1.1.1.0 class)
+    loop-none g.wiring (λ class below. sym (is_on_cycle-alike alike class) ∙ open_ c.requires.1.1.1.0 class)
 
 pub returns-in-Some-2-clause-refused : goal.returns-in-Some-2-clause-refused
-returns-in-Some-2-clause-refused g c = λ device.
+returns-in-Some-2-clause-refused g c =
     let cycle = rw c.in-Some-2.is at c.in_ok-nets-in-None.ensures.cycle in
     let within = rw c.in-Some-2.is at c.in_ok-nets-in-None.ensures.within in
     let lies = rw c.in-Some-2.is at c.in_ok-nets-in-None.ensures.lies in
     let least = rw c.in-Some-2.is at c.in_ok-nets-in-None.ensures.least in
-    loop-told g.fabric c.args.driven.now c.args.reads.now c.requires.1.1.1.1 c.requires.1.1.1.0 c.in-Some-2.nets.items c.index.result.now cycle c.index.ensures within lies least
+    loop-told g.wiring c.args.driven.now c.args.reads.now c.requires.1.1.1.1 c.requires.1.1.1.0 c.in-Some-2.nets.items c.index.result.now cycle c.index.ensures within lies least

@@ -9,6 +9,9 @@ ghost-order g a = g.fabric
 abbrev pub ghost-clock_ends : goal.ghost-clock_ends
 ghost-clock_ends g a = g.fabric
 
+abbrev pub ghost-clocked_order : goal.ghost-clocked_order
+ghost-clocked_order g a = g.fabric
+
 abbrev pub ghost-clocked : goal.ghost-clocked
 ghost-clocked g a = g.fabric
 

@@ -7,7 +7,7 @@ use Rattle.image_explain.specs.Explained.{explained}
 use Rattle.ice_gen.specs.Events.{generated_events}
 use Rattle.fabric_model.specs.declared.options.FabricOptions.{FabricOptions}
 use Rattle.fabric_model.specs.Fabric.{fabric_with}
-use Rattle.fabric_model.specs.Wiring.{wiring_of}
+use Rattle.fabric_model.specs.Wiring.{clocked_wiring}
 use Rattle.design_answers.specs.Order.{write_order}
 use Rattle.design_answers.proofs.Order.{order-is}
 use Rattle.selfrun_tool.specs.Counted.{counts_of}
@@ -32,7 +32,7 @@ returns c entries run =
     let made = generated_events c.args.request.seed c.args.request.events in
     let ran = subst (λ (options : FabricOptions). HasRun options db image made c.in_ok-ran.ran) c.requires.options (c.in_ok-ran.ensures db image c.requires.design) in
     same-counts _ _ c.requires.bytes c.net_count.ensures (ap length (c.lcs.ensures.lcs ∙ kept.parts.lcs)) (ap length (c.rams.ensures.rams ∙ kept.parts.rams))
-    (ap length (c.order.ensures.order ∙ order-is (wiring_of (fabric_with design.parts.options db image)) design.order kept.order)
-    ∙ ap (λ (options : FabricOptions). length (write_order (wiring_of (fabric_with options db image)))) c.requires.options)
+    (ap length (c.order.ensures.order ∙ order-is (clocked_wiring (fabric_with design.parts.options db image)) design.order kept.order)
+    ∙ ap (λ (options : FabricOptions). length (write_order (clocked_wiring (fabric_with options db image)))) c.requires.options)
     ran.events
     (c.in_ok-explained.ensures ∙ ap (λ (one : Configuration). length (lines_of (explained db one None))) c.requires.image) (ran.ones entries run)

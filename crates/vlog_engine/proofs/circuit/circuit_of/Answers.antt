@@ -4,6 +4,7 @@ use Rattle.vlog_engine.specs.Groups.{IsGroup}
 use Rattle.vlog_engine.specs.Marks.{AreWithin, IsRead}
 use Rattle.vlog_engine.specs.Resolved.{resolved, resolved_settle}
 use Rattle.vlog_engine.specs.Roots.{held_by, root, roots_of}
+use Rattle.vlog_engine.specs.StepKinds.Step.{at_event}
 use Rattle.vlog_engine.proofs.Joining.{roots-below}
 use Rattle.vlog_engine.proofs.Wired.{kept-within}
 use Rattle.vlog_engine.proofs.circuit.circuit_of.Goals as goal
@@ -38,9 +39,9 @@ returns-clause-circuit c =
       outputs = c.in_ok-outputs.ensures ∙ ap (λ known. map (resolved bits words known) c.deref-9.result.now) c.deref-8.ensures.value
           ∙ ap (map (resolved bits words roots)) c.deref-9.ensures.value;
       rising = λ pin none inside.
-          subst (λ known. IsGroup (record { pin = pin; bit = true }) first bits words known plan (get_or c.in_ok-rising.rising.items pin none)) c.deref-10.ensures.value
+          subst (λ known. IsGroup (at_event (record { pin = pin; bit = true })) first bits words known plan (get_or c.in_ok-rising.rising.items pin none)) c.deref-10.ensures.value
           (c.in_ok-rising.ensures.each pin none (subst (λ count. pin < count) c.in_ok-rising.ensures.count inside));
       falling = λ pin none inside.
-          subst (λ known. IsGroup (record { pin = pin; bit = false }) first bits words known plan (get_or c.in_ok-falling.falling.items pin none)) c.deref-11.ensures.value
+          subst (λ known. IsGroup (at_event (record { pin = pin; bit = false })) first bits words known plan (get_or c.in_ok-falling.falling.items pin none)) c.deref-11.ensures.value
           (c.in_ok-falling.ensures.each pin none (subst (λ count. pin < count) c.in_ok-falling.ensures.count inside));
     }

@@ -27,6 +27,7 @@ returns-clause-started g c =
     let last_marks = with_items marks c.settle_first.new.marks in
     record {
       circuit = known;
+      waves = c.in_ok-circuit.ensures.waves;
       rising = c.in_ok-circuit.ensures.rising;
       falling = c.in_ok-circuit.ensures.falling;
       cells_room = omega (arith, cells_count, c.settle_first.auto.cells, ap length c.deref_mut.ensures.value, c.in_ok-cells.ensures.count);

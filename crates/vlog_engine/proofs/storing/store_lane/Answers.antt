@@ -5,6 +5,7 @@ use Rattle.vlog_engine.specs.Lanes.{lane_bits, list_of}
 use Rattle.vlog_engine.specs.Passing.{IsStored}
 use Rattle.vlog_engine.proofs.Lists.{lanes-set, list-at, list-here, list-other}
 use Rattle.vlog_engine.proofs.Stored.{stored-idle, stored-like}
+use Rattle.vlog_engine.specs.Triggers.{step_by}
 use Rattle.vlog_engine.proofs.storing.store_lane.Goals as goal
 
 pub store-requires-clause-room : goal.store-requires-clause-room
@@ -41,8 +42,8 @@ returns-then-bit-clause-stored g c =
     let memories_at = c.deref_mut-then-bit.ensures.value ∙ list-at memories lane c.index-memories-place.result held in
     let words_now = list-here words lane (with_items word_list c.store.new.words) within ∙ with_items_is word_list c.store.new.words (omega (arith, c.store.auto.words, many_words, word_list.ok.0)) in
     let memories_now = list-here memories lane (with_items memory_list c.store.new.memories) held ∙ with_items_is memory_list c.store.new.memories (omega (arith, c.store.auto.memories, many_memories, memory_list.ok.0)) in
-    stored-like (at c.args.trigger.now.active lane) c.args.trigger.now.bits c.args.trigger.now.event c.args.trigger.now.group.now (list_of lane words) c.deref_mut.result.now c.store.new.words _ (list_of lane memories) c.deref_mut-then-bit.result.now c.store.new.memories _ before before after after
-    (subst (λ a. IsStored a c.args.trigger.now.bits c.args.trigger.now.event c.args.trigger.now.group.now c.deref_mut.result.now c.store.new.words c.deref_mut-then-bit.result.now c.store.new.memories before after) (sym on) c.store.ensures.stored)
+    stored-like (at c.args.trigger.now.active lane) c.args.trigger.now.bits (step_by c.args.trigger.now.cause (lane_bits at lane c.args.trigger.now.earlier.now) (lane_bits at lane c.args.cells.now)) c.args.trigger.now.group.now (list_of lane words) c.deref_mut.result.now c.store.new.words _ (list_of lane memories) c.deref_mut-then-bit.result.now c.store.new.memories _ before before after after
+    (subst (λ a. IsStored a c.args.trigger.now.bits (step_by c.args.trigger.now.cause (lane_bits at lane c.args.trigger.now.earlier.now) (lane_bits at lane c.args.cells.now)) c.args.trigger.now.group.now c.deref_mut.result.now c.store.new.words c.deref_mut-then-bit.result.now c.store.new.memories before after) (sym on) c.store.ensures.stored)
     words_at (sym words_now) memories_at (sym memories_now) refl refl
 
 pub returns-then-bit-clause-other_words : goal.returns-then-bit-clause-other_words
@@ -71,5 +72,5 @@ returns-else-bit-clause-stored g c =
     let words = list_of lane c.args.words.now in
     let memories = list_of lane c.args.memories.now in
     let cells = lane_bits at lane c.args.cells.now in
-    subst (λ a. IsStored a c.args.trigger.now.bits c.args.trigger.now.event c.args.trigger.now.group.now words words memories memories cells cells) (sym (sym c.bit.ensures ∙ c.if-bit.false))
-    (stored-idle c.args.trigger.now.bits c.args.trigger.now.event c.args.trigger.now.group.now words memories cells)
+    subst (λ a. IsStored a c.args.trigger.now.bits (step_by c.args.trigger.now.cause (lane_bits at lane c.args.trigger.now.earlier.now) (lane_bits at lane c.args.cells.now)) c.args.trigger.now.group.now words words memories memories cells cells) (sym (sym c.bit.ensures ∙ c.if-bit.false))
+    (stored-idle c.args.trigger.now.bits (step_by c.args.trigger.now.cause (lane_bits at lane c.args.trigger.now.earlier.now) (lane_bits at lane c.args.cells.now)) c.args.trigger.now.group.now words memories cells)

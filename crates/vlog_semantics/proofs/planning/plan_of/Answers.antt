@@ -4,7 +4,7 @@ use Rattle.std.specs.List.{filter_map}
 use Rattle.vlog_module.specs.WellFormed.{IsShaped}
 use Rattle.vlog_semantics.specs.Found.{places_in}
 use Rattle.vlog_semantics.specs.Named.{values_of}
-use Rattle.vlog_semantics.specs.Plans.{Places, blank_output, flip_steps, outputs_of, read_of, settle_of, write_of}
+use Rattle.vlog_semantics.specs.Plans.{Places, blank_output, flip_steps, outputs_of, read_of, settle_of, wave_edge, write_of}
 use Rattle.vlog_semantics.proofs.Beginning.{all-shaped}
 use Rattle.vlog_semantics.proofs.planning.plan_of.Goals as goal
 
@@ -31,4 +31,5 @@ returns-clause-plan c =
       settles = c.in_ok-settles_of.ensures ∙ ap₂ (λ (p : Places) list. filter_map (settle_of p) list) at items;
       reads = c.in_ok-reads_of.ensures ∙ ap₂ (λ (p : Places) list. filter_map (read_of p) list) at items;
       writes = c.in_ok-writes_of.ensures ∙ ap₂ (λ (p : Places) list. filter_map (write_of p) list) at items;
+      clocks = c.in_ok-clocks_of.ensures ∙ ap₂ (λ (p : Places) list. filter_map (wave_edge p) list) at items;
     }

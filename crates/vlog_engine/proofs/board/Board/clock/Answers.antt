@@ -1,26 +1,30 @@
-use Rattle.std.proofs.Common.{List, ℕ, ap, arith, length, refl, subst, sym, ◌∙◌}
+use Rattle.std.proofs.Common.{◌≡◌, List, [], ℕ, true, ap, ap₂, arith, length, refl, subst, sym, ◌∙◌}
 use Rattle.std.proofs.lemmas.List.{with_items_is}
 use Rattle.std.specs.Vec.{with_items}
 use Rattle.vlog_engine.specs.Lanes.{AreLanes, lane_bits, list_of}
 use Rattle.vlog_engine.specs.Marks.{IsRead, IsTracked}
 use Rattle.vlog_engine.specs.Passing.{IsClocked}
+use Rattle.vlog_engine.specs.StepKinds.{Step}
+use Rattle.vlog_engine.specs.Triggers.{step_by}
+use Rattle.vlog_engine.specs.Waves.{earlier_in}
+use Rattle.vlog_engine.specs.Boards.{cells_in}
 use Rattle.vlog_engine.proofs.Bits.{no-both}
 use Rattle.vlog_engine.proofs.Rooms.{flips-few, writes-few}
 use Rattle.vlog_engine.proofs.Stored.{clocked-idle, clocked-like}
 use Rattle.vlog_engine.proofs.board.Board.clock.Goals as goal
 
--- what the event runs is what the plan has for it
+-- what the step runs is what the plan has for it
 pub clock-requires-clause-written : goal.clock-requires-clause-written
 clock-requires-clause-written g c =
     let r = c.args.self.now in
-    let grouped = c.group.ensures r.layout.first_wire r.circuit.bits r.next_words.len r.layout.plan r.circuit_is in
-    omega (arith, writes-few c.args.event r.layout.first_wire r.circuit.bits r.next_words.len r.circuit.roots.items r.layout.plan c.group.result.now grouped, r.writes_room, r.layout.plan.writes.ok.0, r.written.ok.0, c.deref_mut-6.ensures.len)
+    let grouped = c.group_by.ensures r.layout.input_count r.layout.first_wire r.circuit.bits r.next_words.len r.layout.plan [] [] r.circuit_is r.waves_are c.requires.cause in
+    omega (arith, writes-few (step_by c.args.cause [] []) r.layout.first_wire r.circuit.bits r.next_words.len r.circuit.roots.items r.layout.plan c.group_by.result.now grouped, r.writes_room, r.layout.plan.writes.ok.0, r.written.ok.0, c.deref_mut-6.ensures.len)
 
 pub clock-requires-clause-changes : goal.clock-requires-clause-changes
 clock-requires-clause-changes g c =
     let r = c.args.self.now in
-    let grouped = c.group.ensures r.layout.first_wire r.circuit.bits r.next_words.len r.layout.plan r.circuit_is in
-    omega (arith, flips-few c.args.event r.layout.first_wire r.circuit.bits r.next_words.len r.circuit.roots.items r.layout.plan c.group.result.now grouped, r.flips_room, r.layout.plan.flips.ok.0, r.changes.ok.0, c.deref_mut-7.ensures.len)
+    let grouped = c.group_by.ensures r.layout.input_count r.layout.first_wire r.circuit.bits r.next_words.len r.layout.plan [] [] r.circuit_is r.waves_are c.requires.cause in
+    omega (arith, flips-few (step_by c.args.cause [] []) r.layout.first_wire r.circuit.bits r.next_words.len r.circuit.roots.items r.layout.plan c.group_by.result.now grouped, r.flips_room, r.layout.plan.flips.ok.0, r.changes.ok.0, c.deref_mut-7.ensures.len)
 
 pub clock-requires-clause-words : goal.clock-requires-clause-words
 clock-requires-clause-words g c =
@@ -37,19 +41,24 @@ returns-clause-clocked g c lane within on =
     let new_marks = with_items_is r.marks c.clock.new.marks (omega (arith, c.clock.auto.marks, r.marks.ok.0, ap (λ (list : List ℕ). length list) c.deref_mut-2.ensures.value)) in
     let new_words = with_items_is r.words c.clock.new.words (omega (arith, c.clock.auto.words, r.words.ok.0, ap length c.deref_mut-3.ensures.value)) in
     let new_memories = with_items_is r.memories c.clock.new.memories (omega (arith, c.clock.auto.memories, r.memories.ok.0, ap length c.deref_mut-5.ensures.value)) in
+    let step : Step = step_by c.args.cause (earlier_in r lane) (cells_in r lane) in
+    let step_is : step_by c.args.cause (lane_bits at lane c.deref.result.now) (lane_bits at lane c.deref_mut.result.now) ≡ step =
+    ap₂ (λ earlier now. step_by c.args.cause earlier now) (ap (lane_bits at lane) c.deref.ensures.value) (ap (lane_bits at lane) c.deref_mut.ensures.value) in
     record {
-      group = c.group.result.now;
-      grouped = c.group.ensures r.layout.first_wire bits r.next_words.len r.layout.plan r.circuit_is;
-      clocked = clocked-like bits c.args.event c.group.result.now (list_of lane r.words.items) (list_of lane c.deref_mut-3.result.now) (list_of lane c.clock.new.words) _
+      group = c.group_by.result.now;
+      grouped = c.group_by.ensures r.layout.input_count r.layout.first_wire bits r.next_words.len r.layout.plan (earlier_in r lane) (cells_in r lane) r.circuit_is r.waves_are c.requires.cause;
+      clocked = clocked-like bits step c.group_by.result.now (list_of lane r.words.items) (list_of lane c.deref_mut-3.result.now) (list_of lane c.clock.new.words) _
           (list_of lane r.memories.items) (list_of lane c.deref_mut-5.result.now) (list_of lane c.clock.new.memories) _ (lane_bits at lane r.cells.items) (lane_bits at lane c.deref_mut.result.now) (lane_bits at lane c.clock.new.cells) _
-          (subst (λ a. IsClocked a bits c.args.event c.group.result.now (list_of lane c.deref_mut-3.result.now) (list_of lane c.clock.new.words) (list_of lane c.deref_mut-5.result.now) (list_of lane c.clock.new.memories)
-          (lane_bits at lane c.deref_mut.result.now) (lane_bits at lane c.clock.new.cells)) on (c.clock.ensures.clocked lane within))
+          (subst (λ s. IsClocked true bits s c.group_by.result.now (list_of lane c.deref_mut-3.result.now) (list_of lane c.clock.new.words) (list_of lane c.deref_mut-5.result.now) (list_of lane c.clock.new.memories)
+          (lane_bits at lane c.deref_mut.result.now) (lane_bits at lane c.clock.new.cells)) step_is
+          (subst (λ a. IsClocked a bits (step_by c.args.cause (lane_bits at lane c.deref.result.now) (lane_bits at lane c.deref_mut.result.now)) c.group_by.result.now (list_of lane c.deref_mut-3.result.now) (list_of lane c.clock.new.words)
+          (list_of lane c.deref_mut-5.result.now) (list_of lane c.clock.new.memories) (lane_bits at lane c.deref_mut.result.now) (lane_bits at lane c.clock.new.cells)) on (c.clock.ensures.clocked lane within)))
           (ap (list_of lane) c.deref_mut-3.ensures.value) (sym (ap (list_of lane) new_words)) (ap (list_of lane) c.deref_mut-5.ensures.value) (sym (ap (list_of lane) new_memories))
           (ap (lane_bits at lane) c.deref_mut.ensures.value) (sym (ap (lane_bits at lane) new_cells));
       tracked = λ first count rising room tracked.
           subst (λ k. IsTracked r.circuit.gates.items k (with_items r.marks c.clock.new.marks).items) (sym (ap (lane_bits at lane) new_cells))
           (subst (IsTracked r.circuit.gates.items (lane_bits at lane c.clock.new.cells)) (sym new_marks)
-          (c.clock.ensures.tracked lane r.circuit.gates.items (subst (IsRead r.circuit.gates.items) (sym c.deref.ensures.value) r.circuit_is.read)
+          (c.clock.ensures.tracked lane r.circuit.gates.items (subst (IsRead r.circuit.gates.items) (sym c.deref-2.ensures.value) r.circuit_is.read)
           (subst (λ k. IsTracked r.circuit.gates.items k c.deref_mut-2.result.now) (sym (ap (lane_bits at lane) c.deref_mut.ensures.value))
           (subst (IsTracked r.circuit.gates.items (lane_bits at lane r.cells.items)) (sym c.deref_mut-2.ensures.value) tracked))));
     }
@@ -68,7 +77,7 @@ returns-clause-idle g c lane within off =
     let new_marks = with_items_is r.marks c.clock.new.marks (omega (arith, c.clock.auto.marks, r.marks.ok.0, ap (λ (list : List ℕ). length list) c.deref_mut-2.ensures.value)) in
     let new_words = with_items_is r.words c.clock.new.words (omega (arith, c.clock.auto.words, r.words.ok.0, ap length c.deref_mut-3.ensures.value)) in
     let new_memories = with_items_is r.memories c.clock.new.memories (omega (arith, c.clock.auto.memories, r.memories.ok.0, ap length c.deref_mut-5.ensures.value)) in
-    let stays = clocked-idle (at c.args.active lane) r.circuit.bits c.args.event c.group.result.now (list_of lane c.deref_mut-3.result.now) (list_of lane c.clock.new.words) (list_of lane c.deref_mut-5.result.now) (list_of lane c.clock.new.memories)
+    let stays = clocked-idle (at c.args.active lane) r.circuit.bits (step_by c.args.cause (lane_bits at lane c.deref.result.now) (lane_bits at lane c.deref_mut.result.now)) c.group_by.result.now (list_of lane c.deref_mut-3.result.now) (list_of lane c.clock.new.words) (list_of lane c.deref_mut-5.result.now) (list_of lane c.clock.new.memories)
     (lane_bits at lane c.deref_mut.result.now) (lane_bits at lane c.clock.new.cells) (c.clock.ensures.clocked lane within) off in
     record {
       cells = ap (lane_bits at lane) new_cells ∙ stays.1.1 ∙ ap (lane_bits at lane) c.deref_mut.ensures.value;
@@ -78,7 +87,7 @@ returns-clause-idle g c lane within off =
       tracked = λ first count rising room tracked.
           subst (λ k. IsTracked r.circuit.gates.items k (with_items r.marks c.clock.new.marks).items) (sym (ap (lane_bits at lane) new_cells))
           (subst (IsTracked r.circuit.gates.items (lane_bits at lane c.clock.new.cells)) (sym new_marks)
-          (c.clock.ensures.tracked lane r.circuit.gates.items (subst (IsRead r.circuit.gates.items) (sym c.deref.ensures.value) r.circuit_is.read)
+          (c.clock.ensures.tracked lane r.circuit.gates.items (subst (IsRead r.circuit.gates.items) (sym c.deref-2.ensures.value) r.circuit_is.read)
           (subst (λ k. IsTracked r.circuit.gates.items k c.deref_mut-2.result.now) (sym (ap (lane_bits at lane) c.deref_mut.ensures.value))
           (subst (IsTracked r.circuit.gates.items (lane_bits at lane r.cells.items)) (sym c.deref_mut-2.ensures.value) tracked))));
     }

@@ -25,7 +25,7 @@ returns-clause-shows g c lane m entry shows =
     event-shows m entry r lane shows c.change.new.self (record { pin = c.args.pin; bit = at c.args.bits lane }) (at c.args.active lane) changed (at c.cell_at.result lane)
     c.change.ensures.same c.requires
     (c.cell_at.ensures.bits lane shows.within ∙ ap (λ list. get_or (lane_bits at lane list) c.args.pin false) c.deref.ensures.value)
-    (c.changed_lanes-changed.ensures lane shows.within) (c.change.ensures.changed lane shows.within) (c.change.ensures.idle lane shows.within)
+    (c.changed_lanes-changed.ensures lane shows.within) (λ on. c.change.ensures.changed lane m entry on shows) (c.change.ensures.idle lane shows.within)
 
 pub returns-clause-inputs : goal.returns-clause-inputs
 returns-clause-inputs g c = ap (λ (k : SlotLayout). k.input_count) c.change.ensures.same.layout

@@ -1,5 +1,8 @@
-use Rattle.std.proofs.Common.{◌+◌, ◌/◌, ℕ, Bool, List, ap, arith, length, subst, sym, ◌∙◌}
-use Rattle.vlog_engine.specs.Circuits.{IsCircuit}
+use Rattle.std.proofs.Common.{◌+◌, ◌++◌, ◌/◌, ℕ, Bool, List, ap, arith, length, length-append, subst, sym, ◌∙◌}
+use Rattle.vlog_semantics.specs.ModuleSlots.{register_names, wire_names}
+use Rattle.vlog_semantics.specs.Run.{input_names}
+use Rattle.vlog_semantics.proofs.Showing.{start-bits}
+use Rattle.vlog_engine.specs.Circuits.{AreWaves, IsCircuit}
 use Rattle.vlog_engine.specs.Lanes.{AreLanes}
 use Rattle.vlog_engine.proofs.First.{cells-room, few-room, first-lane}
 use Rattle.vlog_engine.proofs.board.Board.new.Goals as goal
@@ -12,7 +15,7 @@ returns g c lane within =
     let made = c.in_ok-started.started in
     let known = c.in_ok-started.ensures in
     let here = first-lane g.V.Value.LANES g.V.Value.at m first begins c.deref.result.now c.deref-2.result.now c.deref-3.result.now made known c.deref.ensures.value c.deref-2.ensures.value c.deref-3.ensures.value lane within in
-    record { within = within; laid_out = begins.laid_out; bit_count = here.bit_count; cells = here.cells; shown = here.shown; tracked = here.tracked }
+    record { within = within; whole = c.items.ensures.well_formed; laid_out = begins.laid_out; bit_count = here.bit_count; cells = here.cells; shown = here.shown; tracked = here.tracked }
 
 pub started_of-requires : goal.started_of-requires
 started_of-requires g c =
@@ -75,3 +78,26 @@ pub invariant_of-result-clause-settles_room : goal.invariant_of-result-clause-se
 invariant_of-result-clause-settles_room g c =
     few-room c.in_ok-start.start.layout.plan.settles.len (length c.in_ok-start.start.layout.plan.settles.items) (length c.in_ok-started.started.wires.changes.items) c.in_ok-started.started.wires.changes.len
     c.in_ok-start.start.layout.plan.settles.ok.0 c.in_ok-started.ensures.wires.settles_room c.in_ok-started.started.wires.changes.ok.0
+
+pub invariant_of-result-clause-waves_are : goal.invariant_of-result-clause-waves_are
+invariant_of-result-clause-waves_are g c =
+    let first = c.in_ok-start.start in
+    let layout = first.layout in
+    let circuit = c.in_ok-started.started.wires.circuit in
+    let known = c.in_ok-started.ensures.wires in
+    subst (λ n. AreWaves layout.input_count layout.first_wire n first.words.len circuit.roots.items layout.plan circuit.waves) (sym known.circuit.bits_are)
+    (subst (λ n. AreWaves layout.input_count layout.first_wire (length c.deref.result.now) n circuit.roots.items layout.plan circuit.waves)
+    (ap (λ (list : List ℕ). length list) c.deref-2.ensures.value ∙ sym first.words.ok.0) known.waves)
+
+pub invariant_of-result-clause-sources_room : goal.invariant_of-result-clause-sources_room
+invariant_of-result-clause-sources_room g c =
+    let m = c.args.module.now in
+    let begins = c.in_ok-start.ensures in
+    omega (
+      arith,
+      begins.laid_out.first_wire,
+      length-append (input_names m.ports ++ register_names m.items) (wire_names m.items),
+      start-bits m c.in_ok-start.start.bits.items begins.bits,
+      ap (λ (list : List Bool). length list) c.deref.ensures.value,
+      c.in_ok-started.ensures.wires.circuit.bits_are,
+    )

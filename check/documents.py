@@ -1,19 +1,26 @@
 #!/usr/bin/env python3
 """Checks what the documents say of the sources, and one another.
 
-Usage: check/documents.py          checks
-       check/documents.py --types  prints docs/TYPES.md as the sources make it
+Usage: check/documents.py           checks
+       check/documents.py --types   prints docs/TYPES.md as the sources make it
+       check/documents.py --causes  prints crates/cause_texts/src/texts.rt as docs/FORMATS.md makes it
 
 Each link between the documents leads to a file, and to a heading of it. Each row of docs/DEFINITIONS.md names files of crates that are
 there and have what the row names. docs/TYPES.md is what the sources make. The table of crates in docs/ARCHITECTURE.md has each crate of
-crates.txt once. The last line is 'N passed, M failed'.
+crates.txt once. The tables of causes in docs/FORMATS.md have each cause that the tools' sources write in messages, with an example and what
+to do; crates/cause_texts/src/texts.rt is what that page makes, if it is there. The last line is 'N passed, M failed'.
 """
 import pathlib
 import re
 import sys
 
+from modules import causes
+
 TOP = pathlib.Path(__file__).resolve().parent.parent
 TESTS = ("base_tests", "format_tests", "fabric_tests", "vlog_tests", "sample_images")
+# crates that write messages, and a cause in a literal of theirs
+SPEAKERS = re.compile(r"\w+_tools?|tool_inputs|design_answers")
+SPOKEN = re.compile(r'"(?:: )?([A-Z][a-z][A-Za-z]*)(?: expected \w+| net)? ?"')
 TYPE = re.compile(r"(?:\s*(?:pub(?:\(\w+\))? )?(struct|enum|trait)|(?:pub(?:\(\w+\))? )?(type)) (\w+)")
 
 
@@ -115,14 +122,28 @@ def wrong_crates():
             yield "docs/ARCHITECTURE.md: the table of crates has %s, which isn't one" % name
 
 
+def spoken_causes():
+    files = [file for crate in crates() if SPEAKERS.fullmatch(crate) for file in (TOP / "crates" / crate / "src").rglob("*.rt")]
+    return {word for file in files for word in SPOKEN.findall(file.read_text())}
+
+
+def wrong_causes():
+    told = causes.read()
+    yield from ("docs/FORMATS.md: %s" % fault for fault in causes.faults(told, spoken_causes()))
+    page = TOP / "crates/cause_texts/src/texts.rt"
+    if page.exists() and page.read_text() != causes.source(told):
+        yield "crates/cause_texts/src/texts.rt isn't what docs/FORMATS.md makes: check/documents.py --causes >crates/cause_texts/src/texts.rt"
+
+
 def main():
-    if sys.argv[1:] == ["--types"]:
-        sys.stdout.write(types_page())
+    prints = {"--types": types_page, "--causes": lambda: causes.source(causes.read())}
+    if len(sys.argv) == 2 and sys.argv[1] in prints:
+        sys.stdout.write(prints[sys.argv[1]]())
         return 0
     if sys.argv[1:]:
         print(__doc__)
         return 2
-    checks = (broken_links, wrong_definitions, wrong_types, wrong_crates)
+    checks = (broken_links, wrong_definitions, wrong_types, wrong_crates, wrong_causes)
     failures = [list(check()) for check in checks]
     for told in failures:
         print("\n".join(told), end="\n" if told else "")

@@ -3,18 +3,18 @@
 
 Usage: check/documents.py           checks
        check/documents.py --types   prints docs/TYPES.md as the sources make it
-       check/documents.py --causes  prints crates/cause_texts/src/texts.rt as docs/FORMATS.md makes it
+       check/documents.py --causes  writes the files of crates/cause_texts that docs/FORMATS.md makes
 
 Each link between the documents leads to a file, and to a heading of it. Each row of docs/DEFINITIONS.md names files of crates that are
 there and have what the row names. docs/TYPES.md is what the sources make. The table of crates in docs/ARCHITECTURE.md has each crate of
 crates.txt once. The tables of causes in docs/FORMATS.md have each cause that the tools' sources write in messages, with an example and what
-to do; crates/cause_texts/src/texts.rt is what that page makes, if it is there. The last line is 'N passed, M failed'.
+to do, and the files of crates/cause_texts that are made of that page are what it makes. The last line is 'N passed, M failed'.
 """
 import pathlib
 import re
 import sys
 
-from modules import causes
+from modules import cause_sources, causes
 
 TOP = pathlib.Path(__file__).resolve().parent.parent
 TESTS = ("base_tests", "format_tests", "fabric_tests", "vlog_tests", "sample_images")
@@ -130,15 +130,22 @@ def spoken_causes():
 def wrong_causes():
     told = causes.read()
     yield from ("docs/FORMATS.md: %s" % fault for fault in causes.faults(told, spoken_causes()))
-    page = TOP / "crates/cause_texts/src/texts.rt"
-    if page.exists() and page.read_text() != causes.source(told):
-        yield "crates/cause_texts/src/texts.rt isn't what docs/FORMATS.md makes: check/documents.py --causes >crates/cause_texts/src/texts.rt"
+    yield from ("%s: check/modules/cause_sources.py has no group for the chapter that has it first" % word for word in cause_sources.lacking(told))
+    for name, text in cause_sources.files(told).items():
+        page = TOP / name
+        if not page.exists() or page.read_text() != text:
+            yield "%s isn't what docs/FORMATS.md makes: check/documents.py --causes" % name
+
+
+def write_causes():
+    for name, text in cause_sources.files(causes.read()).items():
+        (TOP / name).write_text(text)
 
 
 def main():
-    prints = {"--types": types_page, "--causes": lambda: causes.source(causes.read())}
-    if len(sys.argv) == 2 and sys.argv[1] in prints:
-        sys.stdout.write(prints[sys.argv[1]]())
+    does = {"--types": lambda: sys.stdout.write(types_page()), "--causes": write_causes}
+    if len(sys.argv) == 2 and sys.argv[1] in does:
+        does[sys.argv[1]]()
         return 0
     if sys.argv[1:]:
         print(__doc__)

@@ -184,19 +184,28 @@ def try_arguments(tries, seed):
     tries.close_part("selfrun")
 
 
+def own_answer(words):
+    """The status, and what goes to standard error, for words of which the first is no tool's name and none is a cause."""
+    if words in (["--help"], ["--version"], ["--explain"]):
+        return 0, b""
+    if len(words) == 2 and words[0] == "--explain":
+        return 1, b"icestorm: no message has this cause: icestorm --explain lists all\n"
+    return 2, b"icestorm: usage: TOOL ...\n"
+
+
 def try_names(tries, seed):
-    """Gives the program words that are no tool's name. It writes a text where it is asked for its help or its version alone."""
+    """Gives the program words that are no tool's name. It writes a text where it is asked for its help, its version or the causes alone. None of
+    the words is a cause."""
     draws = random.Random("%s names" % seed)
-    odd = ["", " ", "-", "--", "--help", "--version", "-h", "-V", "help", "TOOL", "icestorm", "Icepack", "icepack ", "icepack\n", "vlogrun.v",
-           "--help=1", "\u0661", "\x01", "a" * 100000]
+    odd = ["", " ", "-", "--", "--help", "--version", "--explain", "-h", "-V", "help", "TOOL", "icestorm", "Icepack", "icepack ", "icepack\n",
+           "vlogrun.v", "--help=1", "\u0661", "\x01", "a" * 100000]
     for _ in range(100 // (SHORT_PART if tries.is_short else 1)):
         words = [draws.choice(odd)] + draws.choices(odd + list(TOOLS), k=draws.choice((0, 0, 0, 1, 2)))
-        is_asked = words in (["--help"], ["--version"])
         ended = tries.run(words, memory=64 * MIB)
         tries.statuses[ended.status] = tries.statuses.get(ended.status, 0) + 1
-        wanted = (0, b"") if is_asked else (2, b"icestorm: usage: TOOL ...\n")
+        wanted = own_answer(words)
         fault = (ended.status, ended.errors) != wanted and "status %s, and it says: %s" % (ended.status, ended.said())
-        fault = fault or (bool(tries.output()) != is_asked and "it writes what it shouldn't")
+        fault = fault or (bool(tries.output()) != (wanted[0] == 0) and "it writes what it shouldn't")
         tries.tell("icestorm %s" % " ".join(word[:30] for word in words), fault, False)
     tries.close_part("icestorm")
 

@@ -8,7 +8,7 @@ Usage: check/installed.py [-q]     -q leaves out what runs the program over the 
   tells what it gets. This is done in each shell of SHELLS that is there.
 - Where there is no database, or the input can't be copied, a script says so and ends with exit status 3. No temporary file is left.
 - Each tool has a manual page, which groff shows without a warning, and which has each option of the help.
-- bash completes the tools' names and options.
+- bash completes the tools' names and options, and the causes behind `icestorm --explain`.
 - The stock tools' calls work over an HX1K and an HX8K, and `make` over stock.mk, a Makefile as those of IceStorm's examples.
 
 What this machine lacks a program for is skipped: the manual pages without groff, the completions without bash, the real devices without the
@@ -31,11 +31,11 @@ from modules.tries import TOOLS, Tries
 
 SHELLS = ("sh",), ("dash",), ("bash", "--posix"), ("busybox", "sh"), ("ksh",), ("yash", "-o", "posix"), ("mksh",)
 
-# what stands in the program's place: it runs the program for a help or the version, and where install or a script asks it itself; else it
-# writes its arguments, a line each, and standard input
+# what stands in the program's place: it runs the program for a help, the version or the causes, and where install or a script asks it itself;
+# else it writes its arguments, a line each, and standard input
 TELLER = """#!/bin/sh
 case $*,$# in
-iceunpack,1 | icepack,1 | --version,1 | --help,1 | *" --help",2) exec "%s" "$@" ;;
+iceunpack,1 | icepack,1 | --version,1 | --help,1 | --explain,1 | *" --help",2) exec "%s" "$@" ;;
 esac
 printf '%%s\\n' "$@"
 exec cat
@@ -278,7 +278,8 @@ def try_completions(tries, prefix):
     found, said = completed(prefix, "iceverify", ["iceverify", "-"])
     tries.tell("bash completes iceverify", "" if found == options(prefix, "iceverify") and said else "to: " + " ".join(found))
     for words, wanted in ((["icestorm", "icebox_"], ["icebox_explain", "icebox_stat", "icebox_vlog"]), (["icepack", "--la"], ["--layout"]),
-                          (["icestorm", "icebram", "--b"], ["--by-mode"]), (["icepack", "a"], []), (["icestorm", "icepack", ""], [])):
+                          (["icestorm", "icebram", "--b"], ["--by-mode"]), (["icestorm", "--e"], ["--explain"]),
+                          (["icestorm", "--explain", "Lo"], ["LongPayload", "Loop"]), (["icepack", "a"], []), (["icestorm", "icepack", ""], [])):
         found, _ = completed(prefix, words[0], words)
         tries.tell("bash completes: %s" % " ".join(words), "" if found == wanted else "to: " + " ".join(found))
 

@@ -52,9 +52,10 @@ class Example:
 
 @dataclasses.dataclass
 class Cause:
-    """A cause in one place. The forms are those of its message, none if that is the word alone. Of what to do, the texts after the first one are
-    items of a list."""
+    """A cause in one place, and the chapter of the page where it stands. The forms are those of its message, none if that is the word alone. Of
+    what to do, the texts after the first one are items of a list."""
     word: str
+    chapter: str
     where: str
     forms: list
     meaning: str
@@ -98,14 +99,15 @@ def sentence(text):
 
 
 def sections(lines):
-    """For each table of causes: where these come, and the numbered lines up to the next such table or heading."""
-    found, current = [], None
+    """For each table of causes: the chapter, where these come, and the numbered lines up to the next such table or heading."""
+    found, chapter, current = [], None, None
     for number, line in enumerate(lines, 1):
         begun = BEGIN.match(line)
         if begun:
             current = []
-            found.append((begun.group(1), current))
+            found.append((chapter, begun.group(1), current))
         elif line.startswith("#"):
+            chapter = line[3:] if line.startswith("## ") else chapter
             current = None
         elif current is not None:
             current.append((number, line))
@@ -187,19 +189,19 @@ def read(page=PAGE):
     """The causes of the page, in its order."""
     text = page.read_text()
     commands, _ = transcripts.read(text)
-    return [cause for where, lines in sections(text.splitlines()) for cause in causes_in(where, lines, commands)]
+    return [cause for chapter, where, lines in sections(text.splitlines()) for cause in causes_in(chapter, where, lines, commands)]
 
 
-def causes_in(where, lines, commands):
+def causes_in(chapter, where, lines, commands):
     """The causes of a table, with what stands below it."""
     examples, items, grouped = [*examples_by_paragraphs(lines, commands), *examples_by_notes(lines)], items_of(lines), {}
     for row in rows_of(lines):
         word = WORD.search(row["cause"]) or re.search(r"\w+", row["cause"])
         grouped.setdefault(word.group(), []).append(row)
-    return [cause_of(word, where, rows, [item[1:] for item in items if item[0] == word], examples) for word, rows in grouped.items()]
+    return [cause_of(word, chapter, where, rows, [item[1:] for item in items if item[0] == word], examples) for word, rows in grouped.items()]
 
 
-def cause_of(word, where, rows, items, examples):
+def cause_of(word, chapter, where, rows, items, examples):
     """A cause, of its rows in a table, of what lists say of it, and of all examples there."""
     forms = [form for cell in told(rows, "cause") for form in re.findall(r"`(.*?)`", cell)]
     where += "".join(" (%s)" % plain(tools) for tools in told(rows, "told by"))
@@ -208,7 +210,7 @@ def cause_of(word, where, rows, items, examples):
     firsts = [sentence(text) for text in [*told(rows, "what to do"), *(texts[0] for is_to_do, texts in items if is_to_do)]]
     rest = [sentence(text) for is_to_do, texts in items if is_to_do for text in texts[1:]]
     example = next((example for example in examples if example.has(word)), None)
-    return Cause(word, where, [] if forms == [word] else forms, " ".join(meaning), example, [" ".join(firsts), *rest] if firsts else [])
+    return Cause(word, chapter, where, [] if forms == [word] else forms, " ".join(meaning), example, [" ".join(firsts), *rest] if firsts else [])
 
 
 def told(rows, column):
@@ -228,39 +230,3 @@ def faults(causes, words):
     yield from ("%s: a message of the sources has this cause, and no table does" % word for word in sorted(words - have))
     yield from ("%s: a table has this cause, and no message of the sources does" % word for word in sorted(have - words) if WORD.match(word))
 
-
-# ---- the source file
-
-HEAD = """\
-// What each cause means, with an example, and what to do about it. check/documents.py --causes makes this file of docs/FORMATS.md.
-
-/// A cause in one of the places where it comes.
-#[derive(Clone, Copy, Debug, PartialEq, Eq)]
-pub struct Entry {
-    /// The cause, as it stands in messages.
-    pub word: &'static str,
-    /// Where it comes, what it means, an example, and what to do, in lines of at most 80 columns.
-    pub text: &'static str,
-}
-
-/// All entries, in the order of their words. Those of one word stand as they do in docs/FORMATS.md.
-pub static ENTRIES: [Entry; %d] = [
-"""
-ENTRY = """\
-    Entry {
-        word: "%s",
-        text: "\\
-%s",
-    },
-"""
-
-
-def source(causes):
-    """The source file with the entries."""
-    rows = sorted(causes, key=lambda cause: (cause.word.lower(), cause.word))
-    return HEAD % len(rows) + "".join(ENTRY % (cause.word, escaped(cause.text())) for cause in rows) + "];\n"
-
-
-def escaped(text):
-    """A text as it stands in a literal."""
-    return text.replace("\\", "\\\\").replace('"', '\\"')

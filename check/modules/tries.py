@@ -153,7 +153,7 @@ def events_of(module):
 
 def own_words():
     """The arguments that ask for a text of the program itself."""
-    return [["--help"], ["--version"]] + [[tool, "--help"] for tool in TOOLS]
+    return [["--help"], ["--version"], ["--explain"], ["--explain", "Loop"]] + [[tool, "--help"] for tool in TOOLS]
 
 
 def speaker(words):

@@ -58,6 +58,8 @@ digits.
 Exit status: 0 done; 1 FROM, TO or the text is refused; 2 the command line isn't
 taken; 3 reading failed; 4 writing failed; 5 out of memory; 6 an input is longer
 than its limit.
+
+icestorm --explain CAUSE tells what the cause in a message means.
 ";
 
 /// Replaces the contents of RAMs in a text, from the two files of words that it loads first.

@@ -41,6 +41,8 @@ below 2 to the power of 24.
 Exit status: 0 done; 1 the images or options are refused; 2 the command line
 isn't taken; 3 reading failed; 4 writing failed; 5 out of memory; 6 an image is
 longer than its limit.
+
+icestorm --explain CAUSE tells what the cause in a message means.
 ";
 
 /// Joins the images that it loads.

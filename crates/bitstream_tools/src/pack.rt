@@ -48,6 +48,8 @@ Exit status: 0 done; 1 FILE or the input is refused, with its first faulty line
 or the offset of its first fault; 2 the command line isn't taken; 3 reading
 failed; 4 writing failed; 5 out of memory; 6 FILE or the input is longer than
 its limit.
+
+icestorm --explain CAUSE tells what the cause in a message means.
 ";
 
 /// Packs the text that it takes, under the layouts of a layout file if one is named. If `no_sleep` is true, the flash stays awake,

@@ -48,6 +48,8 @@ Limits: a boot file has at most 67108864 bytes, N has at most 3 digits.
 Exit status: 0 done; 1 the boot file is refused, or it has no image N; 2 the
 command line isn't taken; 3 reading failed; 4 writing failed; 5 out of memory; 6
 the boot file is longer than its limit.
+
+icestorm --explain CAUSE tells what the cause in a message means.
 ";
 
 /// The most bytes that a boot file may have.

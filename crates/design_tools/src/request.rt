@@ -129,6 +129,8 @@ fault. A design is refused for these causes, looked for in this order:
 Exit status: 0 done; 1 a file or the design is refused; 2 the command line isn't
 taken; 3 reading failed; 4 writing failed; 5 out of memory; 6 an input is longer
 than its limit.
+
+icestorm --explain CAUSE tells what the cause in a message means.
 ";
 
 /// A pin file, and the package whose pins it names.

@@ -79,6 +79,8 @@ fault. An image is refused for these causes, looked for in this order:
 Exit status: 0 done; 1 FILE, the database or the image is refused, with its
 first fault; 2 the command line isn't taken; 3 reading failed; 4 writing failed;
 5 out of memory; 6 an input is longer than its limit.
+
+icestorm --explain CAUSE tells what the cause in a message means.
 ";
 
 /// Counts what an image uses, by a database. The image is read under the layouts of a layout file if one is named.

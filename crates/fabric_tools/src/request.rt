@@ -38,6 +38,8 @@ Limits: a database has at most 268435456 bytes, an image 16777216, FILE 65536.
 Exit status: 0 done; 1 FILE, the database or the image is refused, with its
 first fault; 2 the command line isn't taken; 3 reading failed; 4 writing failed;
 5 out of memory; 6 an input is longer than its limit.
+
+icestorm --explain CAUSE tells what the cause in a message means.
 ";
 
 /// What the arguments ask for: a layout file, a database, an image, and one tile or all.

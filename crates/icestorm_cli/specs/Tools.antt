@@ -1,6 +1,8 @@
 -- The tools, each by the first word of the command line, and the program's own answers if the arguments name no tool.
 use Rattle.std.specs.Prelude.{◌≡◌, ℕ, bytes_eq, codes, if◌then◌else◌, List, [], ◌∷◌, Option, None, Some}
-use Rattle.tool_run.specs.Tasks.{Answer, Done, Task, at_once, usage_error}
+use Rattle.tool_run.specs.Tasks.{Answer, Done, Refused, Task, at_once, usage_error}
+use Rattle.cause_texts.specs.Explained.{explained}
+use Rattle.cause_texts.specs.declared.texts.TheConstants.{WORDS}
 use Rattle.bitstream_tools.specs.Bram.{icebram_outcome}
 use Rattle.bitstream_tools.specs.Multi.{icemulti_outcome}
 use Rattle.bitstream_tools.specs.Pack.{icepack_outcome}
@@ -40,18 +42,31 @@ tool_of (word ∷ args) = tool_named word
 abbrev pub program_name : List ℕ
 program_name = codes "icestorm"
 
--- the program's own arguments: `--help` and `--version`, each alone
+-- the program's own arguments of one word: `--help`, `--version`, and `--explain`, which lists the causes
 abbrev pub own_outcome : List ℕ → Task
 own_outcome word =
     if bytes_eq word (codes "--help") then at_once program_name None (Done HELP.now)
     else if bytes_eq word (codes "--version") then at_once program_name None (Done VERSION.now)
+    else if bytes_eq word (codes "--explain") then at_once program_name None (Done WORDS.now)
+    else usage_error program_name (codes "TOOL ...")
+
+-- what is told of a cause: its text, or that there is no such cause
+abbrev pub told_cause : Option (List ℕ) → Answer
+told_cause (Some text) = Done text
+told_cause None = Refused (codes "no message has this cause: icestorm --explain lists all")
+
+-- the program's own arguments of two words: `--explain` and a cause
+abbrev pub cause_outcome : List ℕ → List ℕ → Task
+cause_outcome word cause =
+    if bytes_eq word (codes "--explain") then at_once program_name None (told_cause (explained cause))
     else usage_error program_name (codes "TOOL ...")
 
 -- what arguments that name no tool ask for
 unfoldable pub other_outcome : List (List ℕ) → Task
 other_outcome [] = usage_error program_name (codes "TOOL ...")
 other_outcome (word ∷ []) = own_outcome word
-other_outcome (word ∷ next ∷ args) = usage_error program_name (codes "TOOL ...")
+other_outcome (word ∷ next ∷ []) = cause_outcome word next
+other_outcome (word ∷ next ∷ more ∷ args) = usage_error program_name (codes "TOOL ...")
 
 -- ---- what arguments ask for
 

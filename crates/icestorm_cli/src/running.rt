@@ -1,5 +1,5 @@
 // The top call: arguments, files and streams to a status.
-ghost use Rattle.std.specs.Prelude.{◌≡◌, None, Some, map, string_bytes};
+ghost use Rattle.std.specs.Prelude.{◌≡◌, None, Some, map, option_map, string_bytes};
 ghost use Rattle.tool_run.specs.AtOnce.{at_once_answer};
 ghost use Rattle.tool_run.specs.Runs.{Does};
 ghost use Rattle.tool_run.specs.Tasks.{Task, at_once};
@@ -7,15 +7,17 @@ ghost use Rattle.design_tools.specs.Fabric.{PromisesFabric};
 ghost use Rattle.fabric_model.specs.Unique.{ExactlyOne};
 ghost use Rattle.selfrun_tool.specs.Selfrun.{IsSelfrunAnswer};
 ghost use Rattle.icestorm_cli.specs.Runs.{PromisesRun};
-ghost use Rattle.icestorm_cli.specs.Tools.{IsOutcome, other_outcome, own_outcome, program_name, tool_of};
+ghost use Rattle.icestorm_cli.specs.Tools.{IsOutcome, cause_outcome, other_outcome, own_outcome, program_name, told_cause, tool_of};
 
 use crate::tool::{HELP, Tool, VERSION, tool_of};
 use bitstream_tools::{run_icebram, run_icemulti, run_icepack, run_icesplit, run_iceunpack};
+use cause_texts::{WORDS, explained};
 use design_tools::run_icebox_vlog;
 use fabric_tools::{run_icebox_explain, run_icebox_stat};
 use module_tools::{run_vlogrun, run_vlogsweep};
 use selfrun_tool::run_selfrun;
 use std::alloc::Global;
+use tool_inputs::whole;
 use tool_run::{AtOnce, Host};
 
 // The program's own answer to a single word that names no tool.
@@ -25,6 +27,27 @@ fn answer_to(word: &str) -> AtOnce
     match word {
         "--help" => AtOnce::Tells(HELP),
         "--version" => AtOnce::Tells(VERSION),
+        "--explain" => AtOnce::Tells(WORDS),
+        _ => AtOnce::UsageError("TOOL ..."),
+    }
+}
+
+// What is told of a cause: its text, or that there is no such cause.
+fn told_cause(text_of_cause: Option<&'static str>) -> AtOnce
+    ensures { at_once_answer result ≡ told_cause (option_map (λ text. text.now) text_of_cause.entry) }
+{
+    match text_of_cause {
+        Some(told) => AtOnce::Tells(told),
+        None => AtOnce::Refuses(whole("no message has this cause: icestorm --explain lists all")),
+    }
+}
+
+// The program's own answer to two words, the first of which names no tool.
+fn answer_to_two(word: &str, cause: &str) -> AtOnce
+    ensures { at_once program_name None (at_once_answer result) ≡ cause_outcome word.now cause.now }
+{
+    match word {
+        "--explain" => told_cause(explained(cause)),
         _ => AtOnce::UsageError("TOOL ..."),
     }
 }
@@ -36,6 +59,7 @@ fn own_answer(args: &[String]) -> AtOnce
 {
     match args {
         [word] => answer_to(word.as_str()),
+        [word, cause] => answer_to_two(word.as_str(), cause.as_str()),
         _ => AtOnce::UsageError("TOOL ..."),
     }
 }

@@ -38,6 +38,7 @@ icestorm: the tools of Project IceStorm for the iCE40 HX1K, HX8K and LP384.
 
 Usage: icestorm TOOL ...
        icestorm TOOL --help
+       icestorm --explain [CAUSE]
        icestorm --help
        icestorm --version
 
@@ -55,7 +56,11 @@ Tools:
   vlogsweep    runs a module over up to 64 lists of events, each on its own
   selfrun      makes a design from a number, and packs, explains and runs it
 
-Example: icestorm icepack blink.asc blink.bin
+With --explain the program tells what the cause in a message means, with an
+example and what to do about it; without CAUSE it lists all causes.
+
+Examples: icestorm icepack blink.asc blink.bin
+          icestorm --explain TwoDrivers
 
 Exit status: 0 done; 1 the input is refused; 2 the command line isn't taken;
 3 reading failed; 4 writing failed; 5 out of memory; 6 an input is longer than

@@ -48,6 +48,8 @@ Exit status: 0 done; 1 the module is refused, with the offset of its first
 fault, or the list of events, with its first faulty line; 2 the command line
 isn't taken; 3 reading failed; 4 writing failed; 5 out of memory; 6 an input is
 longer than its limit.
+
+icestorm --explain CAUSE tells what the cause in a message means.
 ";
 
 /// What the arguments ask for: what the run tells, the module, and the events.

@@ -36,6 +36,8 @@ Exit status: 0 done; 1 the module is refused, with the offset of its first
 fault, or a list of events, with its name and its first faulty line; 2 the
 command line isn't taken; 3 reading failed; 4 writing failed; 5 out of memory;
 6 a file is longer than its limit.
+
+icestorm --explain CAUSE tells what the cause in a message means.
 ";
 
 /// The most lists of events that a run takes: each is one of 64 bit-parallel lanes.

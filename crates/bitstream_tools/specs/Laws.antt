@@ -1,13 +1,14 @@
 -- Laws of the command lines of the tools: each command is simple, as `clap`'s statement needs it, and each task has the name of its tool.
-use Rattle.std.specs.Prelude.{◌≡◌, Bool, true, false, List, codes, length, map, refl, Option, None, Some}
+use Rattle.std.specs.Prelude.{◌≡◌, ℕ, Bool, true, false, ◌&&◌, if◌then◌else◌, List, codes, length, map, refl, Option, None, Some}
 use Rattle.clap.specs.Words.{Row, Text, first_of, is_simple_and_free}
 use Rattle.clap.proofs.OnLiterals.{clap_on_literals}
 use Rattle.boot_file.specs.declared.options.Options.{Options}
 use Rattle.boot_file.specs.declared.multi_fault.MultiFault.{MultiFault}
 use Rattle.boot_file.specs.Refusals.{check_fault}
+use Rattle.random_words.specs.Draws.{is_depth, is_width}
 use Rattle.tool_run.specs.Needs.{Need}
 use Rattle.tool_inputs.specs.Commands.{has_flag, values_of}
-use Rattle.bitstream_tools.specs.Bram.{icebram_command, icebram_name, icebram_task_by, icebram_task_of}
+use Rattle.bitstream_tools.specs.Bram.{generate_task, generate_task_of, icebram_command, icebram_name, icebram_task_by, icebram_task_of, not_taken, number_in, replace_task_of, seed_given}
 use Rattle.bitstream_tools.specs.Multi.{icemulti_command, icemulti_name, icemulti_task_by, icemulti_task_of, image_need, join_task, options_in}
 use Rattle.bitstream_tools.specs.Pack.{icepack_command, icepack_name, icepack_task_by, icepack_task_of}
 use Rattle.bitstream_tools.specs.Unpack.{iceunpack_command, iceunpack_name, iceunpack_task_by}
@@ -59,10 +60,26 @@ pub icebram-simple : is_simple_and_free icebram_command ≡ true
 unfolding clap_on_literals
 icebram-simple = refl
 
-bram-speaks : (by_mode : Bool) (from to : Option Text) → (icebram_task_of by_mode from to).tool_name ≡ icebram_name
-bram-speaks by_mode (Some from) (Some to) = refl
-bram-speaks by_mode (Some from) None = refl
-bram-speaks by_mode None to = refl
+replace-speaks : (by_mode : Bool) (from to : Option Text) → (replace_task_of by_mode from to).tool_name ≡ icebram_name
+replace-speaks by_mode (Some from) (Some to) = refl
+replace-speaks by_mode (Some from) None = refl
+replace-speaks by_mode None to = refl
+
+sized-speaks : (taken : Bool) (width depth seed : ℕ) → (if taken then generate_task width depth seed else not_taken).tool_name ≡ icebram_name
+sized-speaks true width depth seed = refl
+sized-speaks false width depth seed = refl
+
+generate-speaks : (width depth seed : Option ℕ) → (generate_task_of width depth seed).tool_name ≡ icebram_name
+generate-speaks (Some width) (Some depth) (Some seed) = sized-speaks (is_width width && is_depth depth) width depth seed
+generate-speaks (Some width) (Some depth) None = refl
+generate-speaks (Some width) None seed = refl
+generate-speaks None depth seed = refl
+
+bram-speaks : (generates : Bool) (seed : Option Text) (by_mode : Bool) (first second : Option Text) → (icebram_task_of generates seed by_mode first second).tool_name ≡ icebram_name
+bram-speaks true seed by_mode width depth = generate-speaks (number_in width) (number_in depth) (seed_given seed)
+bram-speaks false None by_mode from to = replace-speaks by_mode from to
+bram-speaks false (Some seed) by_mode from to = refl
 
 pub icebram-speaks : (rows : List Row) → (icebram_task_by rows).tool_name ≡ icebram_name
-icebram-speaks rows = bram-speaks (has_flag (codes "by-mode") rows) (first_of (codes "from") rows) (first_of (codes "to") rows)
+icebram-speaks rows =
+    bram-speaks (has_flag (codes "generate") rows) (first_of (codes "seed") rows) (has_flag (codes "by-mode") rows) (first_of (codes "from") rows) (first_of (codes "to") rows)

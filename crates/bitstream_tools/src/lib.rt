@@ -10,6 +10,7 @@ mod faults;
 mod multi;
 mod pack;
 mod packing;
+mod random;
 mod reading;
 mod split;
 mod split_faults;

@@ -1,5 +1,5 @@
 // Columns of 256 bits, and the index of a column among the columns of a file.
-ghost use Rattle.std.specs.Prelude.{◌≡◌, ◌≤◌, ◌<◌, ◌+◌, ◌-◌, ◌*◌, ◌^◌, ℕ, Bool, List, Some, None, false, cond, length, get_or, IfOk, OnOk, IfErr, IfSome};
+ghost use Rattle.std.specs.Prelude.{◌≡◌, ◌≤◌, ◌<◌, ◌+◌, ◌-◌, ◌*◌, ◌^◌, ℕ, Bool, List, Some, None, false, cond, length, get_or, is_none, IfOk, OnOk, IfErr, IfSome};
 ghost use Rattle.std.specs.Ordering.{nat_cmp};
 ghost use Rattle.std.specs.Cmp.Lexicographic.{slice_cmp};
 ghost use Rattle.std.specs.BTreeMap.{get, is_at};
@@ -155,5 +155,16 @@ impl<'a> Columns<'a> {
             Some(place) => Some(*place as usize),
             None => None,
         }
+    }
+}
+
+/// Whether the columns of a file are all different, as those of the first file of [`replace`](crate::replace) have to be.
+pub fn are_different(alloc: Global, file: &HexFile) -> Result<bool, AllocError>
+    ensures { IfOk result (λ different. different ≡ is_none (same_fault file.now)) }
+{
+    match Columns::of(alloc, file) {
+        Ok(_) => Ok(true),
+        Err(BramFault::Memory(e)) => Err(e),
+        Err(_) => Ok(false),
     }
 }

@@ -18,6 +18,7 @@ mod order;
 mod ram;
 mod replacing;
 
+pub use columns::are_different;
 pub use fault::{BramFault, HexFault};
 pub use hex_file::HexFile;
 pub use law::ram_columns_are_its_words;

@@ -10,8 +10,6 @@ mod Devices
 mod Ran
 -- what is counted while a module runs
 mod Runs
--- numbers of at most twenty digits
-mod Seeds
 -- the image of a generated design has the standard layout
 mod StandardImage
 -- the command line of `selfrun`: it is simple, and what is found in the arguments is the request

@@ -11,7 +11,8 @@ use Rattle.plane_map.specs.DeviceWords.{database_device_named, device_named, wit
 use Rattle.tool_run.specs.Needs.{text_of}
 use Rattle.tool_inputs.specs.Commands.{is_taken}
 use Rattle.selfrun_tool.specs.declared.request.Request.{Request}
-use Rattle.selfrun_tool.specs.Selfrun.{events_count, given, request_by, request_with, seed_of, selfrun_command, selfrun_request}
+use Rattle.seeds.specs.Seeds.{seed_of}
+use Rattle.selfrun_tool.specs.Selfrun.{events_count, given, request_by, request_with, selfrun_command, selfrun_request}
 
 pub selfrun-is_simple : is_simple_and_free selfrun_command ≡ true
 unfolding clap_on_literals

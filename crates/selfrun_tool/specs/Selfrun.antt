@@ -1,9 +1,8 @@
 -- `selfrun`: makes a design from a number, and takes it from its database and its image to its run.
 use Rattle.std.specs.Prelude.{◌≡◌, ℕ, ◌^◌, ◌&&◌, List, [], ◌∷◌, length, codes, nat_lt, nat_le, if◌then◌else◌, Option, None, Some, Result, Ok, Err}
-use Rattle.std.specs.List.{list_all}
-use Rattle.std.specs.Char.{is_ascii_digit}
 use Rattle.clap.specs.Words.{App, Row, Text, first_of, matches_of}
-use Rattle.text_lines.specs.Words.{digits_value, number_of}
+use Rattle.text_lines.specs.Words.{number_of}
+use Rattle.seeds.specs.Seeds.{seed_of}
 use Rattle.plane_map.specs.declared.device.DeviceName.{DeviceName}
 use Rattle.ice_image.specs.Configuration.{Configuration}
 use Rattle.plane_map.specs.DeviceWords.{database_device_named}
@@ -66,13 +65,6 @@ selfrun_command = command selfrun_name (positional (codes "device") ∷ position
 -- the greatest number of events
 abbrev pub events_limit : ℕ
 events_limit = 100000
-
--- a seed: 1 to 20 decimal digits, of a number below 2^64
-unfoldable pub seed_of : Text → Option ℕ
-seed_of word =
-    if nat_lt 0 (length word) && (nat_le (length word) 20 && list_all is_ascii_digit word)
-    then (if nat_lt (digits_value word) (2 ^ 64) then Some (digits_value word) else None)
-    else None
 
 abbrev pub within_limit : Option ℕ → Option ℕ
 within_limit None = None

@@ -1,15 +1,15 @@
 // What the command line of `selfrun` asks for.
 ghost use Rattle.std.specs.Prelude.{◌≡◌, ◌<◌, ◌≤◌, ◌^◌, ◌&&◌, length, map, string_bytes, IfOk, Some, nat_lt, nat_le, true};
-ghost use Rattle.std.specs.Char.{is_ascii_digit};
-ghost use Rattle.std.specs.List.{list_all};
 ghost use Rattle.clap.specs.Words.{app_of};
-ghost use Rattle.text_lines.specs.Words.{digits_value, number_of};
+ghost use Rattle.text_lines.specs.Words.{number_of};
+ghost use Rattle.seeds.specs.Seeds.{seed_of};
 ghost use Rattle.plane_map.specs.DeviceWords.{database_device_named};
 ghost use Rattle.tool_run.specs.Needs.{text_of};
-ghost use Rattle.selfrun_tool.specs.Selfrun.{events_count, given, request_with, seed_of, selfrun_command, selfrun_request, within_limit};
+ghost use Rattle.selfrun_tool.specs.Selfrun.{events_count, given, request_with, selfrun_command, selfrun_request, within_limit};
 
 use clap::Command;
 use plane_map::DeviceName;
+use seeds::seed_of;
 use std::alloc::{AllocError, Global};
 use text_lines::number;
 use tool_inputs::{parse, positional, value, with};
@@ -52,9 +52,6 @@ isn't taken; 4 writing failed; 5 out of memory.
 /// The greatest number of events.
 const EVENTS_LIMIT: u32 = 100_000;
 
-/// The most digits of a seed.
-const SEED_DIGITS: usize = 20;
-
 /// What the arguments ask for: a device, the seed of its design, and how many events are made.
 #[derive(Clone, Copy, Debug, PartialEq, Eq)]
 pub(crate) struct Request {
@@ -68,47 +65,6 @@ fn device_named(word: &str) -> Option<DeviceName>
     ensures { result ≡ database_device_named word.now }
 {
     DeviceName::named_with_database(word.as_bytes())
-}
-
-// Whether each byte is a decimal digit.
-fn are_digits(word: &[u8]) -> bool
-    ensures { result ≡ list_all is_ascii_digit word.now }
-{
-    word.iter().all(|byte| byte.is_ascii_digit())
-}
-
-// Whether a word can be a seed by its length and its bytes.
-fn is_seed(word: &[u8]) -> bool
-    ensures { result ≡ (nat_lt 0 (length word.now) && (nat_le (length word.now) 20 && list_all is_ascii_digit word.now)) }
-{
-    0 < word.len() && word.len() <= SEED_DIGITS && are_digits(word)
-}
-
-// The number that at most twenty digits write, the most significant first.
-fn digits_value(digits: &[u8]) -> u128
-    requires digits { list_all is_ascii_digit digits.now ≡ true }
-    requires few { length digits.now ≤ 20 }
-    ensures { result ≡ digits_value digits.now }
-{
-    let mut value = 0;
-    for digit in digits {
-        value = 10 * value + u128::from(*digit - b'0');
-    }
-    value
-}
-
-// The seed that a word writes, if it writes one.
-#[tactic(auto, unfolding(crate::specs::Selfrun::seed_of))]
-fn seed_of(word: &[u8]) -> Option<u64>
-    ensures { result ≡ seed_of word.now }
-{
-    if is_seed(word) {
-        let value = digits_value(word);
-        if value <= u64::MAX as u128 {
-            return Some(value as u64);
-        }
-    }
-    None
 }
 
 // How many events a word asks for, if it writes a number within the limit.

@@ -1,6 +1,6 @@
 use Rattle.std.proofs.Common.{◌<◌, arith}
-use Rattle.selfrun_tool.proofs.Seeds.{below_twenty}
-use Rattle.selfrun_tool.proofs.request.digits_value.Goals as goal
+use Rattle.seeds.proofs.Seeds.{below_twenty}
+use Rattle.seeds.proofs.digits_value.Goals as goal
 
 pub overflow_mul-value : goal.overflow_mul-value
 overflow_mul-value c =

@@ -1,6 +1,6 @@
 use Rattle.std.proofs.Common.{◌≡◌, ◌<◌, ◌^◌, take}
 use Rattle.text_lines.specs.Words.{digits_value}
-use Rattle.selfrun_tool.proofs.request.digits_value.Given as goal
+use Rattle.seeds.proofs.digits_value.Given as goal
 
 abbrev pub invariant-loop-digit : goal.invariant-loop-digit
 invariant-loop-digit l = record {

@@ -1,0 +1,2 @@
+-- numbers of at most twenty digits
+mod Seeds

@@ -68,6 +68,8 @@ def places(files):
         (["icebram", known, "@@"], ("words",)),
         (["icebox_explain", database, "@@"], ("text", "stream")),
         (["icebox_explain", "@@", text], ("database",)),
+        (["icebox_diff", database, text, "@@"], ("text", "stream")),
+        (["icebox_diff", "@@", text, player], ("database",)),
         (["icebox_stat", database, "@@"], ("text", "stream")),
         (["icebox_stat", "--layout", "@@", database, text], ("layout",)),
         (["icebox_stat", "@@", text], ("database",)),

@@ -321,10 +321,12 @@ def grown(files):
     yield "text", texts, 100000, ["icebox_stat", database, "FILE"], None
     yield "bitstream", streams, 250000, ["iceunpack", "FILE", "TARGET"], None
     yield "bitstream", streams, 250000, ["icebox_explain", database, "FILE"], None
+    yield "bitstream", streams, 250000, ["icebox_diff", database, stream, "FILE"], None
     yield "boot file", boots, 1000000, ["icesplit", "FILE"], None
     yield "layout", layouts, 8000, ["icepack", "--layout", "FILE", text, "TARGET"], None
     yield "words", words, 60, ["icebram", "FILE", "FILE"], player
     yield "database", databases, 50000, ["icebox_explain", "FILE", small], None
+    yield "database", databases, 50000, ["icebox_diff", "FILE", small, text], None
     yield "database", databases, 50000, ["icebox_vlog", "FILE", small], None
     yield "database", databases, 50000, ["icebox_stat", "FILE", small], None
     yield "module", modules, 20000, ["vlogrun", "FILE"], None

@@ -163,6 +163,19 @@ def try_arguments(tries):
     gets(["icebox_vlog", "none.asc"], vlog + [small, "none.asc"])
     gets(["icebox_stat", "odd.asc"], stat + [small, "odd.asc"])
 
+    # two images: the device is that of the first one that is a file
+    gets(["icebox_diff", "a.asc", "b.asc"], layout + [small, "a.asc", "b.asc"], source=b"not read")
+    gets(["icebox_diff", "b.bin", "b.asc"], layout + [large, "b.bin", "b.asc"])
+    gets(["icebox_diff", "-q", "with a space.asc", "a.asc"], layout + [large, "-q", "with a space.asc", "a.asc"])
+    gets(["icebox_diff", "/dev/null", "b.asc", "-q"], layout + [large, "/dev/null", "b.asc", "-q"])
+    gets(["icebox_diff", "missing.asc", "b.asc"], layout + [large, "missing.asc", "b.asc"])
+    gets(["icebox_diff", "--", "-n", "a.asc"], layout + [large, "--", "-n", "a.asc"])
+    gets(["icebox_diff", "a.asc"], layout + ["a.asc"], source=TEXT_1K)
+    gets(["icebox_diff"], layout, source=TEXT_1K)
+    gets(["icebox_diff", small, "a.asc"], layout + [small, "a.asc"])
+    gets(["icebox_diff", small, "b.asc", "a.asc"], layout + [small, "b.asc", "a.asc"])
+    gets(["icebox_diff", "--layout", "a.asc", "b.asc", "a.asc"], [large, "--layout", "a.asc", "b.asc", "a.asc"])
+
     # options with values, names after --
     gets(["icebox_explain", "-t", "1 1", "b.asc"], layout + [large, "-t", "1 1", "b.asc"])
     gets(["icebox_explain", "b.asc", "-t", "1 1"], layout + [large, "b.asc", "-t", "1 1"])
@@ -277,7 +290,7 @@ def try_completions(tries, prefix):
         tries.tell("bash completes %s" % tool, "" if found == wanted and is_bound else "to: %s; %s" % (" ".join(found), said))
     found, said = completed(prefix, "iceverify", ["iceverify", "-"])
     tries.tell("bash completes iceverify", "" if found == options(prefix, "iceverify") and said else "to: " + " ".join(found))
-    for words, wanted in ((["icestorm", "icebox_"], ["icebox_explain", "icebox_stat", "icebox_vlog"]), (["icepack", "--la"], ["--layout"]),
+    for words, wanted in ((["icestorm", "icebox_"], ["icebox_explain", "icebox_diff", "icebox_stat", "icebox_vlog"]), (["icepack", "--la"], ["--layout"]),
                           (["icestorm", "icebram", "--b"], ["--by-mode"]), (["icestorm", "--e"], ["--explain"]),
                           (["icestorm", "--explain", "Lo"], ["LongPayload", "Loop"]), (["icepack", "a"], []), (["icestorm", "icepack", ""], [])):
         found, _ = completed(prefix, words[0], words)

@@ -92,6 +92,9 @@ def try_all(tries):
     for device, text in (("1k", "least.asc"), ("8k", "full.asc")):
         database = str(CHIPDB / ("chipdb-%s.txt" % device))
         tries.try_run("icebox_explain of %s" % text, ["icebox_explain", database, path(text)])
+    large = str(CHIPDB / "chipdb-8k.txt")
+    tries.try_run("icebox_diff of the full 8k text and a busy 8k", ["icebox_diff", large, path("full.asc"), path("busy.asc")])
+    tries.try_run("icebox_diff of equal 8k texts", ["icebox_diff", "-q", large, path("busy.asc"), path("busy.asc")])
     tries.try_run("icebox_stat of a busy 8k", ["icebox_stat", str(CHIPDB / "chipdb-8k.txt"), path("busy.asc")])
     tries.try_run("icebox_vlog of an empty 1k", ["icebox_vlog", str(CHIPDB / "chipdb-1k.txt"), path("least.asc")])
     tries.try_run("icebox_vlog of a busy 8k", ["icebox_vlog", str(CHIPDB / "chipdb-8k.txt"), path("busy.asc")])

@@ -63,6 +63,7 @@ CALLS = (
     (["icebram", "from", "to"], ["from", "to", "ram_text"]),
     (["icebram", "--by-mode", "from", "to"], ["from", "to", "ram_text"]),
     (["icebox_explain", "--layout", "layout", "database", "text"], ["layout", "database", "text"]),
+    (["icebox_diff", "--layout", "layout", "database", "text", "stream"], ["layout", "database", "text", "stream"]),
     (["icebox_stat", "--layout", "layout", "database", "stream"], ["layout", "database", "stream"]),
     (["icebox_vlog", "--layout", "layout", "database", "text"], ["layout", "database", "text"]),
     (["icebox_vlog", "-p", "pins", "-d", "tq144", "--layout", "layout", "database"], ["layout", "pins", "database", "text"]),

@@ -75,6 +75,7 @@ def main(given):
         cycle = tries.put("cycle", database(length, True))
         pins, last = tries.put("pins", text_of((INPUT, OUTPUT))), tries.put("last", text_of((OUTPUT,)))
         tries.try_job(["icebox_explain", chain, pins], 0, None)
+        tries.try_job(["icebox_diff", chain, pins, last], 0, None)
         tries.try_job(["icebox_stat", chain, pins], 0, None)
         tries.try_job(["icebox_vlog", chain, pins], 0, module(length))
         tries.try_job(["icebox_vlog", cycle, last], 1, "", "icebox_vlog: net 0: Loop\n")

@@ -3,7 +3,7 @@
 #   here     the folder of the script
 #   tool     the name of the tool
 #   special  some of these words: `layout`, the tool gets the layout file of real chips; `database`, its chip database is looked for
-#            where the arguments name none; an option without a value, it gets this option
+#            where the arguments name none; `images`, the tool takes two images after it; an option without a value, it gets this option
 #
 # What the arguments have already isn't passed again. What is wrong with them is told by the program.
 # shellcheck shell=sh disable=SC2154
@@ -39,7 +39,16 @@ note() {
   for word in $special; do
     case $word in -*) printf '\nThe installed %s always has %s. icestorm %s runs without it.\n' "$tool" "$word" "$tool" ;; esac
   done
-  if has database; then
+  if has images; then
+    cat <<END
+
+The installed $tool needs no DB. If there are two names, and the first is
+no chip database, it takes the database of the device of A, or of B if A is no
+file: chipdb-1k.txt or chipdb-8k.txt. The variable ICEBOX_CHIPDB names its
+folder. Without the variable the folder is share/icestorm/chipdb where the tools
+are installed, or else /usr/share/fpga-icestorm/chipdb.
+END
+  elif has database; then
     cat <<END
 
 The installed $tool needs no DB. If there is no name, or the only one
@@ -58,9 +67,10 @@ END
   fi
 }
 
-# find_names ARGUMENT...: counts the names, and keeps the last one and its place; tells which options have a pin file and a package
+# find_names ARGUMENT...: counts the names, and keeps the last one and its place, and the one before; tells which options have a pin file and
+# a package
 find_names() {
-  names=0 place=0 pins=no package=no is_value=no is_behind=no index=0
+  names=0 place=0 before='' name='' pins=no package=no is_value=no is_behind=no index=0
   for word in "$@"; do
     index=$((index + 1))
     case $is_value,$is_behind,$word in
@@ -72,7 +82,7 @@ find_names() {
     no,no,--) is_behind=yes ;;
     no,no,-[dnpt] | no,no,--layout) is_value=yes ;;
     no,no,-?*) ;;
-    *) names=$((names + 1)) name=$word place=$index ;;
+    *) names=$((names + 1)) before=$name name=$word place=$index ;;
     esac
   done
 }
@@ -92,6 +102,15 @@ find_device() {
   [ -n "$device" ] || device=$("$here/icestorm" iceunpack <"$1" 2>/dev/null | device_words)
   device=${device%%[!0-9a-z]*}
   device=${device:-1k}
+}
+
+# find_device_of_two IMAGE IMAGE: the device of the first of them that is a file, unless a chip database comes first
+find_device_of_two() {
+  for image in "$@"; do
+    [ -f "$image" ] && [ -r "$image" ] || continue
+    is_database "$image" || find_device "$image"
+    return
+  done
 }
 
 # find_database: the database of the device
@@ -128,11 +147,14 @@ fi
 if has database; then
   find_names "$@"
   device=
-  case $names in
-  0)
+  case $names,$(! has images || echo images) in
+  2,images)
+    find_device_of_two "$before" "$name"
+    ;;
+  0,)
     [ -t 0 ] || take_copy
     ;;
-  1)
+  1,)
     if [ -f "$name" ] && [ -r "$name" ]; then
       is_database "$name" || find_device "$name"
     elif [ -r "$name" ] && [ ! -d "$name" ]; then

@@ -14,7 +14,7 @@ GROUPS = {
     "boot_files": ("Boot files", "Memory words"),
     "databases": ("Layout files", "The chip database"),
     "modules": ("The Verilog subset",),
-    "designs": ("Explained text", "Pin files", "Designs that aren't taken"),
+    "designs": ("Explained text", "Differences", "Pin files", "Designs that aren't taken"),
 }
 MADE = "check/documents.py --causes makes this file of docs/FORMATS.md."
 

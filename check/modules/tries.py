@@ -11,8 +11,8 @@ from modules.programs import CHIPDB, TOP, program
 
 MOST_SECONDS = 120
 BEFORE = b"what was there before\n"
-TOOLS = ("icepack", "iceunpack", "icemulti", "icesplit", "icebram", "icebox_explain", "icebox_stat", "icebox_vlog", "vlogrun", "vlogsweep",
-         "selfrun")
+TOOLS = ("icepack", "iceunpack", "icemulti", "icesplit", "icebram", "icebox_explain", "icebox_diff", "icebox_stat", "icebox_vlog", "vlogrun",
+         "vlogsweep", "selfrun")
 
 
 def limited(memory, closed, stack):
@@ -190,6 +190,10 @@ def places(files):
         (["icebox_explain", database, "FILE"], None, text),
         (["icebox_explain", "-t", "1 1", database], "FILE", stream),
         (["icebox_explain", "--layout", "FILE", database, stream], None, layout),
+        (["icebox_diff", "FILE", text, player], None, database),
+        (["icebox_diff", database, "FILE", player], None, text),
+        (["icebox_diff", database, player, "FILE"], None, stream),
+        (["icebox_diff", "--layout", "FILE", database, text, player], None, layout),
         (["icebox_stat", "FILE", text], None, database),
         (["icebox_stat", database, "FILE"], None, text),
         (["icebox_stat", "--layout", "FILE", database, text], None, layout),

@@ -10,4 +10,7 @@ mod writing;
 pub use fault::{AscCause, AscFault, TileXy};
 pub use file::{AscFile, ByteText, Symbol};
 pub use reading::{AscReader, read, read_image_with, read_with};
-pub use writing::{CanonicalText, tile_keyword, write};
+pub use writing::{
+    CanonicalText, append_grid_line, append_hexadecimal, append_number, end_line, tile_keyword,
+    write,
+};

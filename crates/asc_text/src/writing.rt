@@ -7,5 +7,6 @@ mod tiles;
 mod writer;
 
 pub use canonical::CanonicalText;
-pub use tiles::tile_keyword;
+pub use lines::{append_grid_line, append_number, end_line};
+pub use tiles::{append_hexadecimal, tile_keyword};
 pub use writer::write;

@@ -17,7 +17,7 @@ use Rattle.tool_run.specs.Lines.{refusal_text}
 use Rattle.tool_run.specs.Needs.{Need}
 use Rattle.tool_run.specs.Tasks.{Answer, Done, Refused, Task, at_once, usage_error}
 use Rattle.tool_run.specs.declared.tool.Stop.{Stop}
-use Rattle.tool_run.specs.declared.tool.Stop.TheVariants.{Refused as StopsRefused, UsageError as StopsUntaken, Memory}
+use Rattle.tool_run.specs.declared.tool.Stop.TheVariants.{Refused as StopsRefused, Quiet as StopsQuietly, UsageError as StopsUntaken, Memory}
 use Rattle.tool_inputs.specs.Outcomes.{Manual, outcome}
 use Rattle.tool_inputs.specs.Commands.{command, flag, has_flag, long_flag, required, short_option}
 use Rattle.bitstream_tools.specs.declared.bram.Replacement.{Replacement}
@@ -52,6 +52,7 @@ icebram_answer modes texts = replaced_answer modes (get_or texts 0 []) (get_or t
 -- a stop tells that reason, or that memory is out
 abbrev pub TellsWhy : Option (List ℕ) → Stop → Type 0
 TellsWhy why (StopsRefused refusal) = why ≡ Some (refusal_text refusal)
+TellsWhy why StopsQuietly = ⊥
 TellsWhy why (StopsUntaken refusal) = ⊥
 TellsWhy why Memory = Unit {0}
 

@@ -5,7 +5,7 @@ use Rattle.boot_file.specs.declared.split_fault.SplitFault.{SplitFault}
 use Rattle.boot_file.specs.declared.split_fault.SplitFault.TheVariants.{Short, Header, Address, PowerOn, Image, Memory}
 use Rattle.tool_run.specs.Lines.{refusal_text}
 use Rattle.tool_run.specs.declared.tool.Stop.{Stop}
-use Rattle.tool_run.specs.declared.tool.Stop.TheVariants.{Refused, UsageError, Memory as StopsMemory}
+use Rattle.tool_run.specs.declared.tool.Stop.TheVariants.{Refused, Quiet, UsageError, Memory as StopsMemory}
 use Rattle.tool_inputs.specs.Faults.{bin_fault_text}
 
 abbrev pub split_fault_text : SplitFault → List ℕ
@@ -20,5 +20,6 @@ split_fault_text (Memory e) = codes "out of memory"
 -- a stop tells the fault that was found, or that memory is out
 abbrev pub StopsSplit : Option SplitFault → Stop → Type 0
 StopsSplit found (Refused refusal) = (fault : SplitFault) × (found ≡ Some fault) × (refusal_text refusal ≡ split_fault_text fault)
+StopsSplit found Quiet = ⊥
 StopsSplit found (UsageError refusal) = ⊥
 StopsSplit found StopsMemory = Unit {0}

@@ -29,6 +29,7 @@ fn file_refusal(name: &'static str, place: Phrase<'static>, cause: &'static str)
     ensures { refusal_text result ≡ name.now ++ phrase_text place.entry ++ cause.now }
 {
     Refusal {
+        file: None,
         first: text(name),
         second: place,
         third: text(cause),

@@ -37,6 +37,7 @@ fn split_refusal(fault: SplitFault) -> Refusal<'static>
             index,
             fault: BinFault::At { offset, cause },
         } => Refusal {
+            file: None,
             first: decimal("image ", u64::from(index)),
             second: decimal(": offset ", offset),
             third: bin_cause(cause),

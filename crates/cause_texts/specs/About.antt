@@ -80,11 +80,12 @@ about_modules word =
     else if bytes_eq word (codes "Undeclared") then Some texts.UNDECLARED.now
     else None
 
--- what a cause about explained text, pin files or designs that aren't taken means
+-- what a cause about explained text, differences, pin files or designs that aren't taken means
 unfoldable pub about_designs : List ℕ → Option (List ℕ)
 about_designs word =
     if bytes_eq word (codes "Cascade") then Some texts.CASCADE.now
     else if bytes_eq word (codes "Clock") then Some texts.CLOCK.now
+    else if bytes_eq word (codes "Images") then Some texts.IMAGES.now
     else if bytes_eq word (codes "Loop") then Some texts.LOOP.now
     else if bytes_eq word (codes "NoTile") then Some texts.NO_TILE.now
     else if bytes_eq word (codes "Package") then Some texts.PACKAGE.now

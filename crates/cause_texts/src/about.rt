@@ -107,7 +107,7 @@ pub fn about_modules(word: &str) -> Option<&'static str>
     }
 }
 
-/// What a cause about explained text, pin files or designs that aren't taken means.
+/// What a cause about explained text, differences, pin files or designs that aren't taken means.
 #[tactic(auto, unfolding(crate::specs::About::about_designs))]
 pub fn about_designs(word: &str) -> Option<&'static str>
     ensures { option_map (λ text. text.now) result ≡ about_designs word.now }
@@ -115,6 +115,7 @@ pub fn about_designs(word: &str) -> Option<&'static str>
     match word {
         "Cascade" => Some(texts::CASCADE),
         "Clock" => Some(texts::CLOCK),
+        "Images" => Some(texts::IMAGES),
         "Loop" => Some(texts::LOOP),
         "NoTile" => Some(texts::NO_TILE),
         "Package" => Some(texts::PACKAGE),

@@ -267,6 +267,15 @@ Device, in a layout file:
   What to do:
     Write .layout 384, .layout 1k or .layout 8k.
 
+Device, of the two images that icebox_diff compares:
+  The database is for another device than A.
+  Example, the database of a 1k and two images of an 8k:
+    $ icestorm icebox_diff empty.chipdb large.asc large.asc
+    icebox_diff: Device
+  What to do:
+    Take the database of the images' device: chipdb-1k.txt or chipdb-8k.txt.
+    Images of an LP384 aren't compared.
+
 Device, in a chip database:
   It is a second .device, or one with another name or size, too many nets, or
   other words.
@@ -362,6 +371,17 @@ image, in a boot file that icesplit reads:
   What to do:
     Look up that cause. Pack the image and join the images anew, or copy the
     whole file again.
+";
+
+pub const IMAGES: &str = "\
+Images, of the two images that icebox_diff compares:
+  B is for another device than A.
+  Example, an image of a 1k and one of an 8k:
+    $ icestorm icebox_diff empty.chipdb examples/one_bit.asc large.asc
+    icebox_diff: Images
+  What to do:
+    Give two images of one device. The line .device of a text names it, and
+    iceunpack makes a text of a bitstream.
 ";
 
 pub const KIND: &str = "\
@@ -965,6 +985,7 @@ Form
 header
 Hex
 image
+Images
 Kind
 LongPayload
 Loop

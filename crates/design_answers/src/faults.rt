@@ -13,6 +13,7 @@ fn at_place(x: u32, y: u32, part: Phrase<'static>, cause: Phrase<'static>) -> Re
     ensures { refusal_text result ≡ tile_text x y ++ phrase_text part.entry ++ phrase_text cause.entry }
 {
     Refusal {
+        file: None,
         first: decimal("tile ", u64::from(x)),
         second: decimal(" ", u64::from(y)),
         third: part,

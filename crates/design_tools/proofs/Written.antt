@@ -23,7 +23,7 @@ use Rattle.pin_file.specs.Faults.{Tells, pin_fault_of, ports_of}
 use Rattle.pin_file.specs.Packages.{Package}
 use Rattle.port_names.specs.Named.{named_module, port_pins}
 use Rattle.tool_run.specs.declared.tool.Stop.{Stop}
-use Rattle.tool_run.specs.declared.tool.Stop.TheVariants.{Refused, UsageError, Memory}
+use Rattle.tool_run.specs.declared.tool.Stop.TheVariants.{Refused, Quiet, UsageError, Memory}
 use Rattle.tool_run.specs.Stops.{StopsWith}
 use Rattle.tool_run.specs.Tasks.{Answer, Done, Refused as Refuses}
 use Rattle.design_answers.specs.Faults.{StopsFor, design_fault_text, told_fault}
@@ -85,9 +85,11 @@ module _ (answer : Option Fault → Answer) (refuses : (fault : Fault) → answe
   stops-told : (cause told : Option Fault) (stop : Stop) → ((one : Fault) → told ≡ Some one → cause ≡ Some one) → StopsFor told stop → StopsWith (answer cause) stop
   stops-told cause (Some fault) (Refused refusal) same stops = ap answer (same fault refl) ∙ refuses fault ∙ ap Refuses stops
   stops-told cause None Memory same stops = tt
+  stops-told cause (Some fault) Quiet same stops = absurd stops
   stops-told cause (Some fault) (UsageError refusal) same stops = absurd stops
   stops-told cause (Some fault) Memory same stops = tt
   stops-told cause None (Refused refusal) same stops = absurd stops
+  stops-told cause None Quiet same stops = absurd stops
   stops-told cause None (UsageError refusal) same stops = absurd stops
 
   stops-caused : (device : DeviceName) (fabric : Fabric) (cause : Option Fault) (fault : FabricFault) (stop : Stop)

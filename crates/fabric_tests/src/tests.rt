@@ -10,6 +10,7 @@ mod clocks;
 mod counts;
 mod databases;
 mod designs;
+mod differences;
 mod explained;
 mod modules;
 mod nets;

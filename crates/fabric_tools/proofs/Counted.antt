@@ -12,7 +12,7 @@ use Rattle.image_stat.specs.declared.fault.StatFault.TheVariants.{Device, Plls, 
 use Rattle.image_stat.specs.Counts.{counts_of, stat_text}
 use Rattle.image_stat.specs.Faults.{IsCause, stat_fault}
 use Rattle.tool_run.specs.declared.tool.Stop.{Stop}
-use Rattle.tool_run.specs.declared.tool.Stop.TheVariants.{Refused, UsageError, Memory}
+use Rattle.tool_run.specs.declared.tool.Stop.TheVariants.{Refused, Quiet, UsageError, Memory}
 use Rattle.tool_run.specs.Stops.{StopsWith}
 use Rattle.tool_run.specs.Tasks.{Done, Refused as Refuses}
 use Rattle.design_answers.specs.Faults.{StopsFor, told_fault}
@@ -35,9 +35,11 @@ module _ (all : Bool) (db : Database) (image : Configuration) where
   stops-told : (cause told : Option Fault) (stop : Stop) → ((one : Fault) → told ≡ Some one → cause ≡ Some one) → StopsFor told stop → StopsWith (counted_with all db image cause) stop
   stops-told cause (Some fault) (Refused refusal) same stops = ap (counted_with all db image) (same fault refl) ∙ ap Refuses stops
   stops-told cause None Memory same stops = tt
+  stops-told cause (Some fault) Quiet same stops = absurd stops
   stops-told cause (Some fault) (UsageError refusal) same stops = absurd stops
   stops-told cause (Some fault) Memory same stops = tt
   stops-told cause None (Refused refusal) same stops = absurd stops
+  stops-told cause None Quiet same stops = absurd stops
   stops-told cause None (UsageError refusal) same stops = absurd stops
 
   pub stops_counted : (cause : Option Fault) (fault : StatFault) (stop : Stop) → IsCause cause fault → StopsFor (told_fault (of_counts fault)) stop → StopsWith (counted_with all db image cause) stop

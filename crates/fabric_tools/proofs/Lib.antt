@@ -1,2 +1,4 @@
 -- What is told if nothing is counted
 mod Counted
+-- What is answered of equal images, and of others
+mod Equal

@@ -1,4 +1,4 @@
--- Laws of the command lines of `icebox_explain` and `icebox_stat`: each command is simple, as `clap`'s statement needs it, and each task
+-- Laws of the command lines of `icebox_explain`, `icebox_diff` and `icebox_stat`: each command is simple, as `clap`'s statement needs it, and each task
 -- has the name of its tool.
 use Rattle.std.specs.Prelude.{◌≡◌, Bool, true, List, codes, refl, Option, None, Some}
 use Rattle.clap.specs.Words.{Row, Text, first_of, is_simple_and_free}
@@ -6,6 +6,7 @@ use Rattle.clap.proofs.OnLiterals.{clap_on_literals}
 use Rattle.asc_text.specs.declared.fault.TileXy.{TileXy}
 use Rattle.tool_inputs.specs.Commands.{has_flag}
 use Rattle.fabric_tools.specs.Explain.{explain_command, explain_name, explain_task_by, explain_task_of, tile_given}
+use Rattle.fabric_tools.specs.Diff.{diff_command, diff_name, diff_task_by, diff_task_of}
 use Rattle.fabric_tools.specs.Stat.{stat_command, stat_name, stat_task_by, stat_task_of}
 
 pub explain-simple : is_simple_and_free explain_command ≡ true
@@ -19,6 +20,22 @@ of-speaks None layout db image = refl
 
 pub explain-speaks : (rows : List Row) → (explain_task_by rows).tool_name ≡ explain_name
 explain-speaks rows = of-speaks (tile_given (first_of (codes "tile") rows)) (first_of (codes "layout") rows) (first_of (codes "db") rows) (first_of (codes "image") rows)
+
+-- ---- icebox_diff
+
+pub diff-simple : is_simple_and_free diff_command ≡ true
+unfolding clap_on_literals
+diff-simple = refl
+
+diff_of-speaks : (quiet : Bool) (layout db first second : Option Text) → (diff_task_of quiet layout db first second).tool_name ≡ diff_name
+diff_of-speaks quiet layout (Some db) (Some first) (Some second) = refl
+diff_of-speaks quiet layout (Some db) (Some first) None = refl
+diff_of-speaks quiet layout (Some db) None second = refl
+diff_of-speaks quiet layout None first second = refl
+
+pub diff-speaks : (rows : List Row) → (diff_task_by rows).tool_name ≡ diff_name
+diff-speaks rows =
+    diff_of-speaks (has_flag (codes "quiet") rows) (first_of (codes "layout") rows) (first_of (codes "db") rows) (first_of (codes "first") rows) (first_of (codes "second") rows)
 
 -- ---- icebox_stat
 

@@ -1,4 +1,6 @@
 pub mod Faults
 pub mod Explain
+pub mod Diff
+pub mod Equal
 pub mod Stat
 pub mod Laws

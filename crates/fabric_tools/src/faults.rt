@@ -1,11 +1,12 @@
-// The messages for faults of explaining and of counting.
+// The messages for faults of explaining, of comparing and of counting.
 ghost use Rattle.std.specs.Prelude.{◌≡◌};
 ghost use Rattle.tool_run.specs.Lines.{refusal_text};
 ghost use Rattle.design_answers.specs.Faults.{told_fault, StopsFor};
-ghost use Rattle.fabric_tools.specs.Faults.{explain_fault_text, of_counts};
+ghost use Rattle.fabric_tools.specs.Faults.{diff_fault_text, explain_fault_text, of_counts};
 
 use design_answers::design_stop;
 use fabric::FabricFault;
+use image_diff::DiffFault;
 use image_explain::ExplainFault;
 use image_stat::StatFault;
 use tool_inputs::whole;
@@ -18,12 +19,24 @@ pub(crate) fn explain_refusal(fault: ExplainFault) -> Refusal<'static>
     match fault {
         ExplainFault::Device => whole("Device"),
         ExplainFault::NoTile { x, y } => Refusal {
+            file: None,
             first: decimal("tile ", u64::from(x)),
             second: decimal(" ", u64::from(y)),
             third: text(": NoTile"),
             fourth: text(""),
         },
         ExplainFault::Memory(_) => whole("out of memory"),
+    }
+}
+
+/// The refusal to compare two images.
+pub(crate) fn diff_refusal(fault: DiffFault) -> Refusal<'static>
+    ensures { refusal_text result ≡ diff_fault_text fault }
+{
+    match fault {
+        DiffFault::Database => whole("Device"),
+        DiffFault::Images => whole("Images"),
+        DiffFault::Memory(_) => whole("out of memory"),
     }
 }
 

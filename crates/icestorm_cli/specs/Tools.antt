@@ -8,6 +8,7 @@ use Rattle.bitstream_tools.specs.Multi.{icemulti_outcome}
 use Rattle.bitstream_tools.specs.Pack.{icepack_outcome}
 use Rattle.bitstream_tools.specs.Split.{icesplit_outcome}
 use Rattle.bitstream_tools.specs.Unpack.{iceunpack_outcome}
+use Rattle.fabric_tools.specs.Diff.{diff_outcome}
 use Rattle.fabric_tools.specs.Explain.{explain_outcome}
 use Rattle.fabric_tools.specs.Stat.{stat_outcome}
 use Rattle.module_tools.specs.Vlogrun.{vlogrun_outcome}
@@ -15,7 +16,7 @@ use Rattle.module_tools.specs.Vlogsweep.{vlogsweep_outcome}
 use Rattle.design_tools.specs.Vlog.{vlog_outcome}
 use Rattle.selfrun_tool.specs.Selfrun.{IsSelfrunAnswer, selfrun_outcome}
 use Rattle.icestorm_cli.specs.declared.tool.Tool.{Tool}
-use Rattle.icestorm_cli.specs.declared.tool.Tool.TheVariants.{Icepack, Iceunpack, Icemulti, Icesplit, Icebram, IceboxExplain, IceboxStat, IceboxVlog, Vlogrun, Vlogsweep, Selfrun}
+use Rattle.icestorm_cli.specs.declared.tool.Tool.TheVariants.{Icepack, Iceunpack, Icemulti, Icesplit, Icebram, IceboxExplain, IceboxDiff, IceboxStat, IceboxVlog, Vlogrun, Vlogsweep, Selfrun}
 use Rattle.icestorm_cli.specs.declared.tool.TheConstants.{HELP, VERSION}
 
 -- the tool that a word names, if it names one
@@ -27,6 +28,7 @@ tool_named word =
     else if bytes_eq word (codes "icesplit") then Some Icesplit
     else if bytes_eq word (codes "icebram") then Some Icebram
     else if bytes_eq word (codes "icebox_explain") then Some IceboxExplain
+    else if bytes_eq word (codes "icebox_diff") then Some IceboxDiff
     else if bytes_eq word (codes "icebox_stat") then Some IceboxStat
     else if bytes_eq word (codes "icebox_vlog") then Some IceboxVlog
     else if bytes_eq word (codes "vlogrun") then Some Vlogrun
@@ -78,6 +80,7 @@ IsOutcomeOf (Some Icemulti) args task = task ≡ icemulti_outcome args
 IsOutcomeOf (Some Icesplit) args task = task ≡ icesplit_outcome args
 IsOutcomeOf (Some Icebram) args task = task ≡ icebram_outcome args
 IsOutcomeOf (Some IceboxExplain) args task = task ≡ explain_outcome args
+IsOutcomeOf (Some IceboxDiff) args task = task ≡ diff_outcome args
 IsOutcomeOf (Some IceboxStat) args task = task ≡ stat_outcome args
 IsOutcomeOf (Some IceboxVlog) args task = task ≡ vlog_outcome args
 IsOutcomeOf (Some Vlogrun) args task = task ≡ vlogrun_outcome args

@@ -17,6 +17,8 @@ pub enum Tool {
     Icebram,
     /// What the set bits of an image mean.
     IceboxExplain,
+    /// What two images differ in.
+    IceboxDiff,
     /// Counts of what an image uses.
     IceboxStat,
     /// The module of an image.
@@ -50,6 +52,7 @@ Tools:
   icebram      replaces the contents of RAMs in a text, without a new routing
   icebox_explain
                tells what the set bits of an image mean
+  icebox_diff  tells what two images differ in
   icebox_stat  counts what an image uses
   icebox_vlog  writes the design of an image in a subset of Verilog
   vlogrun      runs a module of that subset over a list of events
@@ -64,7 +67,8 @@ Examples: icestorm icepack blink.asc blink.bin
 
 Exit status: 0 done; 1 the input is refused; 2 the command line isn't taken;
 3 reading failed; 4 writing failed; 5 out of memory; 6 an input is longer than
-its limit. With each but 0 one line on standard error tells why.
+its limit. With each but 0 one line on standard error tells why, except where
+icebox_diff -q ends with 1 since two images differ.
 ";
 
 /// The tool that the arguments name by their first word, if they name one.
@@ -89,6 +93,7 @@ fn tool_named(word: &str) -> Option<Tool>
         "icesplit" => Some(Tool::Icesplit),
         "icebram" => Some(Tool::Icebram),
         "icebox_explain" => Some(Tool::IceboxExplain),
+        "icebox_diff" => Some(Tool::IceboxDiff),
         "icebox_stat" => Some(Tool::IceboxStat),
         "icebox_vlog" => Some(Tool::IceboxVlog),
         "vlogrun" => Some(Tool::Vlogrun),

@@ -66,9 +66,13 @@ item_line database x y (Buffer place) = link_line database.names (codes "buffer"
 item_line database x y (Routing place) = link_line database.names (codes "routing") x y (slice_get database.routings place)
 item_line database x y (Unknown row col) = unknown_line row col
 
--- a tile: its statement, and a line for each item
+-- a line for each item of a tile
+abbrev pub item_lines : Database → Configuration → ℕ → ℕ → TileKind → List (List ℕ)
+item_lines database image x y kind = map (item_line database x y) (items_of_tile database image x y kind)
+
+-- a tile: its statement, and the lines of its items
 unfoldable pub tile_lines : Database → Configuration → ℕ → ℕ → TileKind → List (List ℕ)
-tile_lines database image x y kind = grid_line (tile_keyword kind) x y ∷ map (item_line database x y) (items_of_tile database image x y kind)
+tile_lines database image x y kind = grid_line (tile_keyword kind) x y ∷ item_lines database image x y kind
 
 -- ---- all tiles
 

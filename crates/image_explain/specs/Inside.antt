@@ -1,4 +1,4 @@
--- What holds in the course of explaining. Only contracts within this crate use this.
+-- What holds in the course of explaining. Contracts of other crates use `lists_of` alone.
 use Rattle.std.specs.Prelude.{◌≡◌, ℕ, ◌+◌, ◌*◌, ◌<◌, Bool, true, false, ◌||◌, List, [], ◌∷◌, ◌++◌, get_or, length, map, set, slice_get, Some}
 use Rattle.std.specs.declared.vec.Vec.{Vec}
 use Rattle.index_search.specs.Places.{gathered_below}

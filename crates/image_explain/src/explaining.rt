@@ -10,15 +10,14 @@ ghost use Rattle.asc_text.specs.Canonical.{with_word};
 ghost use Rattle.chipdb_reader.specs.Kept.{database_in};
 ghost use Rattle.image_explain.specs.Explained.{all_tile_lines, explain_fault_of, explained, lines_of_kind, set_tile_lines, tile_fault, tile_lines, Tells};
 ghost use Rattle.image_explain.specs.Inside.{IsTileAt};
-ghost use Rattle.image_explain.specs.Keys.{FindsNets};
+ghost use Rattle.image_explain.specs.Known.{Explains};
 
-use crate::cells::Cells;
+use crate::explainer::Explainer;
 use crate::extras::append_extras;
 use crate::fault::ExplainFault;
 use crate::lines::append_tile;
-use crate::links::LinksOn;
-use crate::names::{NetNames, add_items, add_lists, no_nets};
-use crate::tile::{TileAt, active, items_of_tile};
+use crate::names::{add_items, no_nets};
+use crate::tile::{TileAt, active};
 use crate::unknown::is_set_tile;
 use asc_text::TileXy;
 use chipdb_reader::ChipDb;
@@ -119,35 +118,12 @@ fn text_of_all(alloc: Global, db: &ChipDb, image: &AnyImage) -> Result<Vec<u8>, 
     requires device { db.now.chip.device ≡ (configuration_of image.now).layout.device }
     ensures { IfOk result (λ text. text.items ≡ explained (database_in db.now) (configuration_of image.now) None) }
 {
-    let buffers = LinksOn::of(alloc, db, image, db.buffers())?;
-    let routings = LinksOn::of(alloc, db, image, db.routings())?;
-    let nets = nets_of(alloc, db, &buffers, &routings)?;
-    let known = Known {
-        cells: Cells::of(db),
-        buffers,
-        routings,
-        nets,
-    };
+    let explainer = Explainer::of(alloc, db, image)?;
     let mut text = Vec::new(alloc);
     append_device(&mut text, image.device())?;
-    append_tiles(&mut text, alloc, db, image, &known)?;
+    append_tiles(&mut text, alloc, db, image, &explainer)?;
     append_extras(&mut text, alloc, db, image)?;
     Ok(text)
-}
-
-/// The names of the nets of links.
-fn nets_of(
-    alloc: Global,
-    db: &ChipDb,
-    buffers: &LinksOn,
-    routings: &LinksOn,
-) -> Result<NetNames, AllocError>
-    ensures { IfOk result (λ names. FindsNets db.now names.nets) }
-{
-    let mut nets = no_nets(alloc);
-    add_lists(&mut nets, alloc, db, db.buffers(), &buffers.lists)?;
-    add_lists(&mut nets, alloc, db, db.routings(), &routings.lists)?;
-    Ok(nets)
 }
 
 /// Appends the line of the device.
@@ -163,17 +139,6 @@ fn append_device(text: &mut Vec<u8>, device: DeviceName) -> Result<(), AllocErro
     Ok(())
 }
 
-/// What is known of all tiles: the logic cells of the database, the links that are on, and the names of their nets.
-#[derive(Drop)]
-pub(crate) struct Known {
-    cells: Cells,
-    buffers: LinksOn,
-    routings: LinksOn,
-    nets: NetNames,
-}
-
-ghost use Rattle.image_explain.specs.Known.{IsKnown};
-
 /// Appends all tiles with a set bit, row by row of the grid.
 #[tactic(auto, using(asc_text::proofs::Pieces::joined), unfolding(index_search::specs::Places::gathered_below))]
 fn append_tiles(
@@ -181,15 +146,14 @@ fn append_tiles(
     alloc: Global,
     db: &ChipDb,
     image: &AnyImage,
-    known: &Known,
+    explainer: &Explainer,
 ) -> Result<(), AllocError>
     requires device { db.now.chip.device ≡ (configuration_of image.now).layout.device }
-    requires known { IsKnown (database_in db.now) (configuration_of image.now) known.now }
-    requires nets { FindsNets db.now known.now.nets.nets }
+    requires explains { Explains db.now (configuration_of image.now) explainer.now }
     ensures { OnOk result (text.new.items ≡ text.old.items ++ text_of (all_tile_lines (database_in db.now) (configuration_of image.now))) }
 {
     for y in 0..image.device().rows() {
-        append_grid_row(text, alloc, db, image, known, y as u8)?;
+        append_grid_row(text, alloc, db, image, explainer, y as u8)?;
     }
     Ok(())
 }
@@ -201,16 +165,15 @@ fn append_grid_row(
     alloc: Global,
     db: &ChipDb,
     image: &AnyImage,
-    known: &Known,
+    explainer: &Explainer,
     y: u8,
 ) -> Result<(), AllocError>
     requires device { db.now.chip.device ≡ (configuration_of image.now).layout.device }
-    requires known { IsKnown (database_in db.now) (configuration_of image.now) known.now }
-    requires nets { FindsNets db.now known.now.nets.nets }
+    requires explains { Explains db.now (configuration_of image.now) explainer.now }
     ensures { OnOk result (text.new.items ≡ text.old.items ++ text_of (gathered_below (grid_width (configuration_of image.now).layout.device) (λ x. set_tile_lines (database_in db.now) (configuration_of image.now) x y (kind_of (configuration_of image.now).layout.device x y)))) }
 {
     for x in 0..image.device().columns() {
-        append_place(text, alloc, db, image, known, x as u8, y)?;
+        append_place(text, alloc, db, image, explainer, x as u8, y)?;
     }
     Ok(())
 }
@@ -221,13 +184,12 @@ fn append_place(
     alloc: Global,
     db: &ChipDb,
     image: &AnyImage,
-    known: &Known,
+    explainer: &Explainer,
     x: u8,
     y: u8,
 ) -> Result<(), AllocError>
     requires device { db.now.chip.device ≡ (configuration_of image.now).layout.device }
-    requires known { IsKnown (database_in db.now) (configuration_of image.now) known.now }
-    requires nets { FindsNets db.now known.now.nets.nets }
+    requires explains { Explains db.now (configuration_of image.now) explainer.now }
     ensures { OnOk result (text.new.items ≡ text.old.items ++ text_of (set_tile_lines (database_in db.now) (configuration_of image.now) x y (kind_of (configuration_of image.now).layout.device x y))) }
 {
     match kind_on(image.device(), u32::from(x), u32::from(y)) {
@@ -235,7 +197,7 @@ fn append_place(
         Some(kind) => {
             let at = TileAt { kind, x, y };
             if is_set_tile(image, at) {
-                append_known(text, alloc, db, image, known, at)
+                append_known(text, alloc, db, image, explainer, at)
             } else {
                 Ok(())
             }
@@ -243,23 +205,20 @@ fn append_place(
     }
 }
 
-/// Appends a tile, given what is known of all tiles.
+/// Appends a tile.
 fn append_known(
     text: &mut Vec<u8>,
     alloc: Global,
     db: &ChipDb,
     image: &AnyImage,
-    known: &Known,
+    explainer: &Explainer,
     at: TileAt,
 ) -> Result<(), AllocError>
     requires device { db.now.chip.device ≡ (configuration_of image.now).layout.device }
     requires tile { IsTileAt (configuration_of image.now).layout.device at }
-    requires known { IsKnown (database_in db.now) (configuration_of image.now) known.now }
-    requires nets { FindsNets db.now known.now.nets.nets }
+    requires explains { Explains db.now (configuration_of image.now) explainer.now }
     ensures { OnOk result (text.new.items ≡ text.old.items ++ text_of (tile_lines (database_in db.now) (configuration_of image.now) at.x at.y at.kind)) }
 {
-    let buffers = known.buffers.at(at.x, at.y);
-    let routings = known.routings.at(at.x, at.y);
-    let items = items_of_tile(alloc, db, image, at, known.cells, buffers, routings)?;
-    append_tile(text, db, &known.nets, at, &items)
+    let items = explainer.items(alloc, db, image, at)?;
+    append_tile(text, db, &explainer.nets, at, &items)
 }

@@ -7,10 +7,12 @@ ghost use Rattle.ice_image.specs.Either.{configuration_of};
 ghost use Rattle.ice_image.specs.Bits.{set_extras};
 ghost use Rattle.chipdb_reader.specs.Kept.{database_in};
 ghost use Rattle.image_explain.specs.Explained.{extra_lines, extra_text, name_or_place};
+ghost use Rattle.image_explain.specs.Inside.{lists_of};
 ghost use Rattle.image_explain.specs.Keys.{FindsExtras, place_cmp, place_key};
 
 use crate::keys::PlaceKey;
-use crate::lines::{append_number, end_line};
+use crate::lines::push_line;
+use asc_text::{append_number, end_line};
 use chipdb_reader::{ChipDb, Extra};
 use ice_image::AnyImage;
 use plane_map::Place;
@@ -28,6 +30,37 @@ pub(crate) fn append_extras(
 {
     let places = image.extra_bits(alloc)?;
     append_places(text, alloc, db, &places)
+}
+
+/// The text that `explain` writes for each of these places: the first name that the database gives for it, or else `? BANK X Y`.
+///
+/// # Errors
+/// `AllocError` if memory is out, and for no other cause.
+pub fn extra_names(alloc: Global, db: &ChipDb, places: &[Place]) -> Result<Vec<Vec<u8>>, AllocError>
+    ensures { IfOk result (λ names. lists_of names.items ≡ map (extra_text (database_in db.now).extras) places.now) }
+{
+    let firsts = first_extras(alloc, db.extras())?;
+    let mut names = Vec::new(alloc);
+    for at in places {
+        let name = extra_name(alloc, db, &firsts, *at)?;
+        push_line(&mut names, name)?;
+    }
+    Ok(names)
+}
+
+/// The text of a place.
+fn extra_name(
+    alloc: Global,
+    db: &ChipDb,
+    firsts: &BTreeMap<PlaceKey, Extra>,
+    at: Place,
+) -> Result<Vec<u8>, AllocError>
+    requires { FindsExtras firsts.now db.now.extras }
+    ensures { IfOk result (λ name. name.items ≡ extra_text (database_in db.now).extras at) }
+{
+    let mut name = Vec::new(alloc);
+    append_extra(&mut name, db, firsts, at)?;
+    Ok(name)
 }
 
 /// Appends these places under their statement, if there are any.

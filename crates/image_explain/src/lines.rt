@@ -1,22 +1,23 @@
 // The lines of a tile.
-ghost use Rattle.std.specs.Prelude.{◌≡◌, ◌++◌, ◌∷◌, [], OnOk, codes, decimal, map, slice_get};
+ghost use Rattle.std.specs.Prelude.{◌≡◌, ◌++◌, ◌∷◌, [], IfOk, OnOk, codes, decimal, map, slice_get};
 ghost use Rattle.text_lines.specs.Written.{text_of};
 ghost use Rattle.bit_plane.specs.BitList.{word_bits};
 ghost use Rattle.asc_text.specs.Statements.{tile_keyword as keyword_of};
 ghost use Rattle.asc_text.specs.Canonical.{bit_character, grid_line, row_line};
 ghost use Rattle.chipdb_reader.specs.Kept.{database_in};
 ghost use Rattle.image_explain.specs.Explained.{cell_line, function_line, item_line, link_line, net_text, unknown_line};
+ghost use Rattle.image_explain.specs.Inside.{lists_of};
 ghost use Rattle.image_explain.specs.Keys.{FindsNets};
 
 use crate::item::Active;
 use crate::names::{NetNames, name_at};
 use crate::places::link_at;
 use crate::tile::TileAt;
-use asc_text::tile_keyword;
+use asc_text::{append_grid_line, end_line, tile_keyword};
 use chipdb_reader::ChipDb;
 use fabric_model::cell_name;
 use itoa::Buffer;
-use std::alloc::AllocError;
+use std::alloc::{AllocError, Global};
 
 /// Appends a tile: its statement, and a line for each item.
 #[tactic(auto, using(asc_text::proofs::Pieces::joined))]
@@ -30,7 +31,7 @@ pub(crate) fn append_tile(
     requires { FindsNets db.now nets.now.nets }
     ensures { OnOk result (text.new.items ≡ text.old.items ++ text_of (grid_line (keyword_of at.kind) at.x at.y ∷ map (item_line (database_in db.now) at.x at.y) items.now)) }
 {
-    append_statement(text, at)?;
+    append_grid_line(text, tile_keyword(at.kind), at.x, at.y)?;
     for item in items {
         append_item(text, db, nets, at, *item)?;
         end_line(text)?;
@@ -38,15 +39,46 @@ pub(crate) fn append_tile(
     Ok(())
 }
 
-/// Appends the statement of a tile.
-#[tactic(auto, unfolding(text_lines::specs::Written::text_of))]
-fn append_statement(text: &mut Vec<u8>, at: TileAt) -> Result<(), AllocError>
-    ensures { OnOk result (text.new.items ≡ text.old.items ++ text_of (grid_line (keyword_of at.kind) at.x at.y ∷ [])) }
+/// A line for each item.
+pub(crate) fn lines_of(
+    alloc: Global,
+    db: &ChipDb,
+    nets: &NetNames,
+    at: TileAt,
+    items: &[Active],
+) -> Result<Vec<Vec<u8>>, AllocError>
+    requires { FindsNets db.now nets.now.nets }
+    ensures { IfOk result (λ lines. lists_of lines.items ≡ map (item_line (database_in db.now) at.x at.y) items.now) }
 {
-    text.extend_from_slice(tile_keyword(at.kind))?;
-    append_number(text, u32::from(at.x))?;
-    append_number(text, u32::from(at.y))?;
-    end_line(text)
+    let mut lines = Vec::new(alloc);
+    for item in items {
+        let line = line_of(alloc, db, nets, at, *item)?;
+        push_line(&mut lines, line)?;
+    }
+    Ok(lines)
+}
+
+/// Adds a line to a list.
+pub(crate) fn push_line(lines: &mut Vec<Vec<u8>>, line: Vec<u8>) -> Result<(), AllocError>
+    ensures { OnOk result (lists_of lines.new.items ≡ lists_of lines.old.items ++ line.items ∷ []) }
+{
+    lines.push(line).map_err(AllocError::from)
+}
+
+/// The line of an item.
+fn line_of(
+    alloc: Global,
+    db: &ChipDb,
+    nets: &NetNames,
+    at: TileAt,
+    item: Active,
+) -> Result<Vec<u8>, AllocError>
+    requires { FindsNets db.now nets.now.nets }
+    ensures { IfOk result (λ line. line.items ≡ item_line (database_in db.now) at.x at.y item) }
+{
+    let mut line = Vec::new(alloc);
+    append_item(&mut line, db, nets, at, item)?;
+    Ok(line)
 }
 
 /// Appends the line of an item.
@@ -210,27 +242,11 @@ fn append_unknown(text: &mut Vec<u8>, row: u8, col: u8) -> Result<(), AllocError
     Ok(())
 }
 
-/// Appends a space and a number.
-pub(crate) fn append_number(text: &mut Vec<u8>, number: u32) -> Result<(), AllocError>
-    ensures { OnOk result (text.new.items ≡ text.old.items ++ 32 ∷ decimal number) }
-{
-    text.push(b' ')?;
-    append_digits(text, number)
-}
-
 /// Appends the decimal digits of a number.
 fn append_digits(text: &mut Vec<u8>, number: u32) -> Result<(), AllocError>
     ensures { OnOk result (text.new.items ≡ text.old.items ++ decimal number) }
 {
     let mut digits = Buffer::new();
     text.extend_from_slice(digits.format(number).as_bytes())?;
-    Ok(())
-}
-
-/// Ends a line.
-pub(crate) fn end_line(text: &mut Vec<u8>) -> Result<(), AllocError>
-    ensures { OnOk result (text.new.items ≡ text.old.items ++ 10 ∷ []) }
-{
-    text.push(b'\n')?;
     Ok(())
 }

@@ -138,5 +138,6 @@ IsFew (Some request) = length request.names.items ≤ most_lists
 -- a stop tells this refusal, or that memory is out
 abbrev pub TellsRefusal : Option (List ℕ) → Stop → Type 0
 TellsRefusal refusal (stop.Refused told) = refusal ≡ Some (refusal_text told)
+TellsRefusal refusal stop.Quiet = ⊥
 TellsRefusal refusal (stop.UsageError told) = ⊥
 TellsRefusal refusal stop.Memory = Unit {0}

@@ -49,6 +49,7 @@ pub(crate) fn file_refusal(name: &str, fault: EventFault) -> Refusal<'_>
         EventFault::Memory(_) => (text("out of memory"), ""),
     };
     Refusal {
+        file: None,
         first: text(name),
         second: text(" "),
         third: told,

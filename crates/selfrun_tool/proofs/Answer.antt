@@ -73,8 +73,10 @@ design-stops request db cause (Some fault) (stop.Refused refusal) same stops =
     subst (λ (cause : Option Fault). IsAnswerWith request db cause (Refused (refusal_text refusal))) (sym (same fault refl)) (sym (ap Refused stops))
 design-stops request db cause None stop.Memory same stops = tt
 design-stops request db cause (Some fault) stop.Memory same stops = tt
+design-stops request db cause (Some fault) stop.Quiet same stops = absurd stops
 design-stops request db cause (Some fault) (stop.UsageError refusal) same stops = absurd stops
 design-stops request db cause None (stop.Refused refusal) same stops = absurd stops
+design-stops request db cause None stop.Quiet same stops = absurd stops
 design-stops request db cause None (stop.UsageError refusal) same stops = absurd stops
 
 pub told_stops : (request : Request) (db : Database) (device : DeviceName) (fabric : Fabric) (cause : Option Fault) (fault : FabricFault) (stopped : Stop)
@@ -85,5 +87,6 @@ told_stops request db device fabric cause fault stopped is stops =
 -- a text that isn't taken
 pub database_stops : (request : Request) (read : Result Database (List ℕ)) (stopped : Stop) → StopsDatabase read stopped → StopsAs (IsAnswerBy request read) stopped
 database_stops request read (stop.Refused refusal) stops = subst (λ (read : Result Database (List ℕ)). IsAnswerBy request read (Refused (refusal_text refusal))) (sym stops) refl
+database_stops request read stop.Quiet stops = absurd stops
 database_stops request read (stop.UsageError refusal) stops = absurd stops
 database_stops request read stop.Memory stops = tt

@@ -13,7 +13,7 @@ use Rattle.fabric.specs.Design.{IsDesignOf}
 use Rattle.tool_run.specs.Lines.{refusal_text}
 use Rattle.tool_run.specs.Tasks.{Answer, Refused as Refuses}
 use Rattle.tool_run.specs.declared.tool.Stop.{Stop}
-use Rattle.tool_run.specs.declared.tool.Stop.TheVariants.{Refused, UsageError, Memory}
+use Rattle.tool_run.specs.declared.tool.Stop.TheVariants.{Refused, Quiet, UsageError, Memory}
 use Rattle.selfrun_tool.specs.declared.counting.Ran.{Ran}
 use Rattle.selfrun_tool.specs.Counted.{events_for, ones_in, output_bits}
 
@@ -37,5 +37,6 @@ IsRunOf design made ran = (db : Database) (image : Configuration) → IsDesignOf
 -- a tool stops with a refusal that is an answer, or out of memory
 abbrev pub StopsAs : (Answer → Type 0) → Stop → Type 0
 StopsAs IsGiven (Refused refusal) = IsGiven (Refuses (refusal_text refusal))
+StopsAs IsGiven Quiet = ⊥
 StopsAs IsGiven (UsageError refusal) = ⊥
 StopsAs IsGiven Memory = Unit {0}

@@ -175,7 +175,7 @@ fn tell<H: Host>(alloc: Global, request: Request, host: &mut H) -> u8
             let answer = AtOnce::Refuses(refusal);
             host.answer_at_once(alloc, tool_name, answer)
         }
-        Err(Stop::UsageError(_)) => unreachable!(),
+        Err(Stop::Quiet | Stop::UsageError(_)) => unreachable!(),
         Err(Stop::Memory) => host.give_up(tool_name),
     }
 }

@@ -8,5 +8,7 @@ pub mod Appended
 pub mod UnderLayouts
 -- What holds of a database that is read
 pub mod Databases
--- A chip database and an image that came in pieces, and the answer of a tool for them
-mod DesignInputs
+-- A chip database, and one or two images, that came in pieces, and the answer of a tool for them
+pub mod DesignInputs
+-- The layout of an image that is read
+pub mod ImageLayouts

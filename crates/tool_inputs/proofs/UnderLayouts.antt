@@ -7,7 +7,7 @@ use Rattle.tool_run.specs.Needs.{IsFile, IsSound, Need}
 use Rattle.tool_run.specs.Stops.{StopsWith}
 use Rattle.tool_run.specs.Tasks.{Answer}
 use Rattle.tool_run.specs.declared.tool.Stop.{Stop}
-use Rattle.tool_run.specs.declared.tool.Stop.TheVariants.{Refused, UsageError, Memory}
+use Rattle.tool_run.specs.declared.tool.Stop.TheVariants.{Refused, Quiet, UsageError, Memory}
 use Rattle.tool_inputs.specs.Layouts.{StopsLayouts, answer_under}
 
 -- ---- stops
@@ -15,6 +15,7 @@ use Rattle.tool_inputs.specs.Layouts.{StopsLayouts, answer_under}
 -- a tool that stops for its layout file stops as it has to
 pub stops_under : (read : Result Layouts (List ℕ)) (answer : Layouts → Answer) (stop : Stop) → StopsLayouts read stop → StopsWith (answer_under read answer) stop
 stops_under read answer (Refused refusal) stops = ap (λ (r : Result Layouts (List ℕ)). answer_under r answer) stops
+stops_under read answer Quiet stops = absurd stops
 stops_under read answer (UsageError refusal) stops = absurd stops
 stops_under read answer Memory stops = absurd stops
 

@@ -7,7 +7,7 @@ use Rattle.chipdb_reader.specs.Database.{Database, database_of}
 use Rattle.chipdb_reader.specs.Faults.{Fault, db_fault_of}
 use Rattle.tool_run.specs.Lines.{refusal_text}
 use Rattle.tool_run.specs.declared.tool.Stop.{Stop}
-use Rattle.tool_run.specs.declared.tool.Stop.TheVariants.{Refused, UsageError, Memory}
+use Rattle.tool_run.specs.declared.tool.Stop.TheVariants.{Refused, Quiet, UsageError, Memory}
 use Rattle.tool_inputs.specs.Faults.{db_fault_text}
 
 -- the most bytes that a database may have
@@ -30,5 +30,6 @@ database_read bytes = database_by (lines_of bytes) (db_fault_of bytes)
 -- if no database is read, a refusal has the message for its fault, and out of memory is free
 abbrev pub StopsDatabase : Result Database (List ℕ) → Stop → Type 0
 StopsDatabase read (Refused refusal) = read ≡ Err (refusal_text refusal)
+StopsDatabase read Quiet = ⊥
 StopsDatabase read (UsageError refusal) = ⊥
 StopsDatabase read Memory = Unit {0}

@@ -8,9 +8,9 @@ use Rattle.bin_stream.specs.Front.{preamble_offset}
 use Rattle.bin_stream.specs.Refusals.{Fault as StreamFault}
 use Rattle.bin_stream.specs.Spelling.{bin_read_of}
 use Rattle.tool_inputs.specs.Faults.{asc_fault_text, bin_fault_text}
-use Rattle.tool_run.specs.Lines.{refusal_text}
+use Rattle.tool_run.specs.Lines.{in_file, refusal_text}
 use Rattle.tool_run.specs.declared.tool.Stop.{Stop}
-use Rattle.tool_run.specs.declared.tool.Stop.TheVariants.{Refused, UsageError, Memory}
+use Rattle.tool_run.specs.declared.tool.Stop.TheVariants.{Refused, Quiet, UsageError, Memory}
 
 -- the most bytes that an image may have
 abbrev pub image_limit : ℕ
@@ -33,8 +33,14 @@ image_read layouts bytes =
     if is_some (preamble_offset bytes) then of_stream (bin_read_of layouts bytes)
     else of_text (asc_fault_of layouts bytes) (asc_image_of layouts bytes)
 
+-- the image of a file, by the name of the file if a tool has several: the name stands before the message for a fault
+abbrev pub image_in : Option (List ℕ) → Result Configuration (List ℕ) → Result Configuration (List ℕ)
+image_in file (Ok image) = Ok image
+image_in file (Err text) = Err (in_file file text)
+
 -- if no image is read, a refusal has the message for its fault, and out of memory is free
 abbrev pub StopsImage : Result Configuration (List ℕ) → Stop → Type 0
 StopsImage read (Refused refusal) = read ≡ Err (refusal_text refusal)
+StopsImage read Quiet = ⊥
 StopsImage read (UsageError refusal) = ⊥
 StopsImage read Memory = Unit {0}

@@ -9,7 +9,7 @@ use Rattle.layout_file.specs.Layouts.{layouts_in, standard_layouts}
 use Rattle.tool_run.specs.Lines.{refusal_text}
 use Rattle.tool_run.specs.Tasks.{Answer, Refused as Refuses}
 use Rattle.tool_run.specs.declared.tool.Stop.{Stop}
-use Rattle.tool_run.specs.declared.tool.Stop.TheVariants.{Refused, UsageError, Memory}
+use Rattle.tool_run.specs.declared.tool.Stop.TheVariants.{Refused, Quiet, UsageError, Memory}
 
 -- the word for a cause
 abbrev pub layout_cause_text : LayoutCause → List ℕ
@@ -43,5 +43,6 @@ answer_under (Err text) answer = Refuses text
 -- if no layouts are read, the tool refuses with the message for the file's fault, and stops for no other cause
 abbrev pub StopsLayouts : Result Layouts (List ℕ) → Stop → Type 0
 StopsLayouts read (Refused refusal) = read ≡ Err (refusal_text refusal)
+StopsLayouts read Quiet = ⊥
 StopsLayouts read (UsageError refusal) = ⊥
 StopsLayouts read Memory = ⊥

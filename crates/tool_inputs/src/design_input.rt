@@ -1,6 +1,7 @@
-// The input of a tool that works on a chip database and an image.
+// The input of a tool that works on a chip database and one or two images.
 ghost use Rattle.std.specs.Prelude.{◌≡◌, ◌++◌, ◌∷◌, [], ◌+◌, ◌<◌, ◌≤◌, ◌^◌, ℕ, List, Ok, Option, IfOk, IfErr, length};
 ghost use Rattle.ice_io.specs.Takers.{TakesMore};
+ghost use Rattle.layout_file.specs.declared.layouts.Layouts.{Layouts as LayoutsSeen};
 ghost use Rattle.layout_file.specs.Layouts.{AreLayouts};
 ghost use Rattle.ice_image.specs.Configuration.{Configuration};
 ghost use Rattle.ice_image.specs.Either.{configuration_of};
@@ -10,8 +11,8 @@ ghost use Rattle.tool_run.specs.Collected.{Collects};
 ghost use Rattle.tool_run.specs.Needs.{text_of};
 ghost use Rattle.tool_run.specs.Stops.{StopsWith};
 ghost use Rattle.tool_run.specs.Tasks.{Answer};
-ghost use Rattle.tool_inputs.specs.Images.{image_read, StopsImage};
-ghost use Rattle.tool_inputs.specs.Layouts.{layouts_for, StopsLayouts};
+ghost use Rattle.tool_inputs.specs.Images.{image_in, image_read, StopsImage};
+ghost use Rattle.tool_inputs.specs.Layouts.{answer_under, layouts_for, StopsLayouts};
 
 use crate::database::finish_database;
 use crate::image::read_image;
@@ -27,25 +28,28 @@ use tool_run::{Collected, Stop};
 pub(crate) enum NextText {
     Database,
     Image,
+    /// The second image.
+    Second,
     /// A text that the tool doesn't need.
     Other,
 }
 
-/// A chip database and then an image, which come in pieces. The database is read as it comes. The image is collected first: it is a
+/// A chip database and then an image, or two, which come in pieces. The database is read as it comes. An image is collected first: it is a
 /// bitstream if the preamble is somewhere in it, and else a text.
 #[derive(Drop)]
 pub struct DesignInput {
     layouts: Layouts,
     db: DbReader,
     image: Collected,
+    second: Collected,
     next: NextText,
     ghost laid: { AreLayouts layouts },
 }
 
 impl DesignInput {
-    ghost use Rattle.tool_inputs.specs.DesignInput.{TakesInput, fed_input, input_answer};
+    ghost use Rattle.tool_inputs.specs.DesignInput.{TakesInput, fed_input, input_answer, two_answer};
 
-    /// Nothing is taken yet. The image is read under the layouts of the layout file if one is named, and else under the standard layouts.
+    /// Nothing is taken yet. Images are read under the layouts of the layout file if one is named, and else under the standard layouts.
     ///
     /// # Errors
     /// `Stop::Refused` with the first faulty line of the layout file, and for no other cause.
@@ -53,14 +57,14 @@ impl DesignInput {
         ensures taken { IfOk result (λ input. TakesInput (text_of layout.entry) [] input []) }
         ensures none { IfOk result (λ input. fed_input input ≡ 0) }
         ensures refused { IfErr result (StopsLayouts (layouts_for (text_of layout.entry))) }
-        ensures stops { IfErr result (λ stop. (texts : List (List ℕ)) (answer : Database → Configuration → Answer)
-            → StopsWith (input_answer (text_of layout.entry) answer texts) stop) }
+        ensures stops { IfErr result (λ stop. (answer : LayoutsSeen → Answer) → StopsWith (answer_under (layouts_for (text_of layout.entry)) answer) stop) }
     {
         match layouts_for(layout) {
             Ok(layouts) => Ok(DesignInput {
                 layouts,
                 db: DbReader::new(alloc),
                 image: Collected::new(alloc),
+                second: Collected::new(alloc),
                 next: NextText::Database,
             }),
             Err(stop) => Err(stop),
@@ -79,6 +83,7 @@ impl DesignInput {
                 let _ = self.db.feed(piece);
             }
             NextText::Image => self.image.push(piece),
+            NextText::Second => self.second.push(piece),
             NextText::Other => {}
         }
     }
@@ -91,7 +96,8 @@ impl DesignInput {
     {
         match self.next {
             NextText::Database => self.next = NextText::Image,
-            NextText::Image => self.next = NextText::Other,
+            NextText::Image => self.next = NextText::Second,
+            NextText::Second => self.next = NextText::Other,
             NextText::Other => {}
         }
     }
@@ -107,23 +113,47 @@ impl DesignInput {
             → TakesInput layout texts self [] → StopsWith (input_answer layout answer texts) stop) }
     {
         let db = finish_database(self.db)?;
-        let image = collected_image(alloc, &self.image, self.layouts)?;
+        let image = collected_image(alloc, None, &self.image, self.layouts)?;
         Ok((db, image))
+    }
+
+    /// The database and two images, after all texts were taken. The images are in files of these names.
+    ///
+    /// # Errors
+    /// `Stop::Refused` with the first fault, of the database, else of the first image, else of the second. Before a fault of an image stands
+    /// the name of its file. `Stop::Memory` if memory is out.
+    pub fn read_two<'a>(
+        self,
+        alloc: Global,
+        first: &'a str,
+        second: &'a str,
+    ) -> Result<(ChipDb, AnyImage, AnyImage), Stop<'a>>
+        ensures read { IfOk result (λ read. (layout : Option (List ℕ)) (texts : List (List ℕ)) (answer : Database → Configuration → Configuration → Answer)
+            → TakesInput layout texts self []
+            → two_answer layout first.entry.now second.entry.now answer texts ≡ answer (database_in read.0) (configuration_of read.1) (configuration_of read.2)) }
+        ensures stops { IfErr result (λ stop. (layout : Option (List ℕ)) (texts : List (List ℕ)) (answer : Database → Configuration → Configuration → Answer)
+            → TakesInput layout texts self [] → StopsWith (two_answer layout first.entry.now second.entry.now answer texts) stop) }
+    {
+        let database = finish_database(self.db)?;
+        let one = collected_image(alloc, Some(first), &self.image, self.layouts)?;
+        let two = collected_image(alloc, Some(second), &self.second, self.layouts)?;
+        Ok((database, one, two))
     }
 }
 
-// The image of the bytes that were collected, or why there is none.
-fn collected_image(
+// The image of the bytes that were collected, or why there is none. Their file is named if there are several.
+fn collected_image<'a>(
     alloc: Global,
+    file: Option<&'a str>,
     collected: &Collected,
     layouts: Layouts,
-) -> Result<AnyImage, Stop<'static>>
+) -> Result<AnyImage, Stop<'a>>
     requires { AreLayouts layouts }
     ensures image { IfOk result (λ image. (bytes : List ℕ) → Collects bytes collected.now → image_read layouts bytes ≡ Ok (configuration_of image)) }
-    ensures stops { IfErr result (λ stop. (bytes : List ℕ) → Collects bytes collected.now → StopsImage (image_read layouts bytes) stop) }
+    ensures stops { IfErr result (λ stop. (bytes : List ℕ) → Collects bytes collected.now → StopsImage (image_in (text_of file.entry) (image_read layouts bytes)) stop) }
 {
     match collected.text() {
-        Ok(bytes) => read_image(alloc, bytes, layouts),
+        Ok(bytes) => read_image(alloc, file, bytes, layouts),
         Err(_) => Err(Stop::Memory),
     }
 }

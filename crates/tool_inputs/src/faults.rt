@@ -1,5 +1,5 @@
 // The messages for faults of what tools read: a text, a bitstream, a database.
-ghost use Rattle.std.specs.Prelude.{◌≡◌, ◌++◌, codes};
+ghost use Rattle.std.specs.Prelude.{◌≡◌, ◌++◌, None, codes};
 ghost use Rattle.tool_run.specs.Lines.{phrase_text, refusal_text};
 ghost use Rattle.tool_inputs.specs.Faults.{asc_cause_text, asc_fault_text, bin_cause_text, bin_fault_text, db_cause_text, db_fault_text, kind_name};
 
@@ -44,12 +44,14 @@ fn asc_cause_text(cause: AscCause) -> &'static str
 
 /// The refusal of a text (.asc): the line, the tile if the line belongs to one, and the cause.
 pub fn asc_refusal(line: u64, tile: Option<TileXy>, cause: AscCause) -> Refusal<'static>
-    ensures { refusal_text result ≡ asc_fault_text line tile cause }
+    ensures text { refusal_text result ≡ asc_fault_text line tile cause }
+    ensures unnamed { result.file ≡ None }
 {
     let cause = text(asc_cause_text(cause));
     match tile {
         None => refusal(decimal("line ", line), cause),
         Some(tile) => Refusal {
+            file: None,
             first: decimal("line ", line),
             second: decimal(": tile ", u64::from(tile.x)),
             third: decimal(" ", u64::from(tile.y)),
@@ -83,7 +85,8 @@ pub fn bin_cause(cause: BinCause) -> Phrase<'static>
 
 /// The refusal of a bitstream (.bin): the offset and the cause.
 pub fn bin_refusal(offset: u64, cause: BinCause) -> Refusal<'static>
-    ensures { refusal_text result ≡ bin_fault_text offset cause }
+    ensures text { refusal_text result ≡ bin_fault_text offset cause }
+    ensures unnamed { result.file ≡ None }
 {
     refusal(decimal("offset ", offset), bin_cause(cause))
 }

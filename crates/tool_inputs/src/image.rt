@@ -3,9 +3,11 @@ ghost use Rattle.std.specs.Prelude.{◌≡◌, ◌≤◌, Ok, IfOk, IfErr, lengt
 ghost use Rattle.layout_file.specs.Layouts.{AreLayouts};
 ghost use Rattle.ice_image.specs.Either.{configuration_of};
 ghost use Rattle.bin_stream.specs.Front.{is_preamble_at, preamble_offset};
-ghost use Rattle.tool_inputs.specs.Images.{image_read, StopsImage};
+ghost use Rattle.tool_run.specs.Needs.{text_of};
+ghost use Rattle.tool_inputs.specs.Images.{image_in, image_read, StopsImage};
 
 use crate::faults::{asc_refusal, bin_refusal};
+use crate::refusals::of_file;
 use asc_text::{AscFault, read_image_with};
 use bin_stream::{BinFault, decode_with};
 use ice_image::AnyImage;
@@ -19,28 +21,36 @@ pub const IMAGE_LIMIT: usize = 16_777_216;
 /// The preamble of a bitstream.
 const PREAMBLE: [u8; 4] = [0x7E, 0xAA, 0x99, 0x7E];
 
-/// Reads an image under layouts. The bytes are a bitstream (.bin) if the preamble is somewhere in them, and else a text (.asc).
+/// Reads an image under layouts. The bytes are a bitstream (.bin) if the preamble is somewhere in them, and else a text (.asc). The file is
+/// named where a tool has several images.
 ///
 /// # Errors
-/// `Stop::Refused` with the first fault: `offset N: CAUSE` for a bitstream, `line N: CAUSE` or `line N: tile X Y: CAUSE` for a text.
-/// `Stop::Memory` if memory is out.
+/// `Stop::Refused` with the first fault: `offset N: CAUSE` for a bitstream, `line N: CAUSE` or `line N: tile X Y: CAUSE` for a text, after
+/// the name of the file and a space if it is named. `Stop::Memory` if memory is out.
 #[tactic(auto, unfolding(crate::specs::Images::image_read))]
-pub fn read_image(alloc: Global, bytes: &[u8], layouts: Layouts) -> Result<AnyImage, Stop<'static>>
+pub fn read_image<'a>(
+    alloc: Global,
+    file: Option<&'a str>,
+    bytes: &[u8],
+    layouts: Layouts,
+) -> Result<AnyImage, Stop<'a>>
     requires { AreLayouts layouts }
     ensures image { IfOk result (λ image. image_read layouts bytes.now ≡ Ok (configuration_of image)) }
-    ensures stops { IfErr result (StopsImage (image_read layouts bytes.now)) }
+    ensures stops { IfErr result (StopsImage (image_in (text_of file.entry) (image_read layouts bytes.now))) }
 {
     if has_preamble(bytes) {
         match decode_with(alloc, bytes, layouts) {
             Ok(image) => Ok(image),
-            Err(BinFault::At { offset, cause }) => Err(Stop::Refused(bin_refusal(offset, cause))),
+            Err(BinFault::At { offset, cause }) => {
+                Err(Stop::Refused(of_file(file, bin_refusal(offset, cause))))
+            }
             Err(BinFault::Memory(_)) => Err(Stop::Memory),
         }
     } else {
         match read_image_with(alloc, bytes, layouts) {
             Ok(image) => Ok(image),
             Err(AscFault::At { line, tile, cause }) => {
-                Err(Stop::Refused(asc_refusal(line, tile, cause)))
+                Err(Stop::Refused(of_file(file, asc_refusal(line, tile, cause))))
             }
             Err(AscFault::Memory(_)) => Err(Stop::Memory),
         }

@@ -28,5 +28,5 @@ pub use design_input::DesignInput;
 pub use faults::{asc_refusal, bin_cause, bin_refusal};
 pub use image::{IMAGE_LIMIT, read_image};
 pub use layouts::layouts_for;
-pub use refusals::{refusal, whole};
+pub use refusals::{of_file, refusal, whole};
 pub use running::{CommandLine, Words, run_tool};

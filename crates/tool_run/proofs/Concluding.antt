@@ -1,11 +1,11 @@
 -- From what was made of the needs, and what became of it, to what a run does.
 use Rattle.std.proofs.Common.{◌≡◌, ◌⊎◌, ℕ, List, refl, sym, ap, subst, ◌∙◌, inl, inr, arith}
-use Rattle.std.specs.Prelude.{Option, Result, Ok, Err, IsOkAnd, IsErrAnd}
+use Rattle.std.specs.Prelude.{Option, None, Some, option_map, Result, Ok, Err, IsOkAnd, IsErrAnd}
 use Rattle.ice_io.specs.Files.{FileMap}
 use Rattle.tool_run.specs.Needs.{need_of}
 use Rattle.tool_run.specs.Lines.{line_of, refusal_text}
 use Rattle.tool_run.specs.Tasks.{Answer, Done, TooLong as MissesLimit, Outcome, Task}
-use Rattle.tool_run.specs.Effects.{Delivers, DeliversPart, TargetRose, Writes}
+use Rattle.tool_run.specs.Effects.{Delivers, DeliversPart, Speaks, TargetRose, Writes}
 use Rattle.tool_run.specs.Answering.{Answers, Gives}
 use Rattle.tool_run.specs.Concluding.{Concludes, Refuses, TellsStop}
 use Rattle.tool_run.specs.Jobs.{RefusesWith}
@@ -13,7 +13,7 @@ use Rattle.tool_run.specs.Runs.{Does, HasBytes, IsStatusFor, Outside, scene}
 use Rattle.tool_run.specs.declared.load.LoadStop.{LoadStop}
 use Rattle.tool_run.specs.declared.load.LoadStop.TheVariants as load_stop
 use Rattle.tool_run.specs.declared.tool.Stop.{Stop}
-use Rattle.tool_run.specs.declared.tool.Stop.TheVariants.{Refused, UsageError, Memory}
+use Rattle.tool_run.specs.declared.tool.Stop.TheVariants.{Refused, Quiet, UsageError, Memory}
 use Rattle.tool_run.proofs.Outcomes.{concluded-small, exact-answer, foretold, foretold-texts, foretold_failure, foretold_input, foretold_unread, has_bytes, not-long, not-read, refused-one, refuses, refuses-so, takes-not}
 use Rattle.tool_run.proofs.Reaching.{input-reached, long-loaded}
 
@@ -23,10 +23,13 @@ made_bytes bytes (Ok content) answer D delivers gives = (bytes content, delivers
 made_bytes bytes (Err stop) answer D none gives = absurd none
 
 -- and so is its refusal
-made_refusal : {M : Type 0} (bytes : M → List ℕ) (made : Result M Stop) (answer : Answer) (status : ℕ) (S : List ℕ → Type 0) → IsErrAnd made (Refuses status S) → Gives bytes answer made → (said : List ℕ) × RefusesWith answer status said × S said
+made_refusal : {M : Type 0} (bytes : M → List ℕ) (made : Result M Stop) (answer : Answer) (status : ℕ) (S : Option (List ℕ) → Type 0) → IsErrAnd made (Refuses status S) → Gives bytes answer made → (said : Option (List ℕ)) × RefusesWith answer status said × S said
 made_refusal bytes (Ok content) answer status S none gives = absurd none
-made_refusal bytes (Err (Refused refusal)) answer status S refuses gives = (refusal_text refusal, subst (λ a. RefusesWith a status (refusal_text refusal)) (sym gives) (refuses.0, refl), refuses.1)
-made_refusal bytes (Err (UsageError refusal)) answer status S refuses gives = (refusal_text refusal, subst (λ a. RefusesWith a status (refusal_text refusal)) (sym gives) (refuses.0, refl), refuses.1)
+made_refusal bytes (Err (Refused refusal)) answer status S refuses gives =
+    let said : Option (List ℕ) = Some (refusal_text refusal) in (said, subst (λ a. RefusesWith a status said) (sym gives) (refuses.0, refl), refuses.1)
+made_refusal bytes (Err Quiet) answer status S refuses gives = (None, subst (λ a. RefusesWith a status None) (sym gives) (refuses.0, refl), refuses.1)
+made_refusal bytes (Err (UsageError refusal)) answer status S refuses gives =
+    let said : Option (List ℕ) = Some (refusal_text refusal) in (said, subst (λ a. RefusesWith a status said) (sym gives) (refuses.0, refl), refuses.1)
 made_refusal bytes (Err Memory) answer status S none gives = absurd none
 
 -- a run in which all was loaded
@@ -40,15 +43,15 @@ concluded_run by task bytes made status files middle new_files input new_input o
     let texts = l.made.0 in
     let are = l.made.1 in
     let answer = task.answer texts in
-    let says : List ℕ → Type 0 = λ line. Writes line (by.said errors) (by.said new_errors) (by.error_faults errors) (by.error_faults new_errors) in
-    let spoken : List ℕ → Type 0 = λ text. says (line_of task.tool_name text) in
+    let says : Option (List ℕ) → Type 0 = λ message. Speaks message by.said by.error_faults errors new_errors in
+    let spoken : Option (List ℕ) → Type 0 = λ said. says (option_map (line_of task.tool_name) said) in
     let delivered : Option FileMap → List ℕ → Type 0 = λ old text. Delivers task.target text old (by.contents new_files) (by.held output) (by.held new_output) in
     let parted : Option FileMap → List ℕ → Type 0 = λ old text. DeliversPart task.target text old (by.contents new_files) (by.held output) (by.held new_output) in
     let whole : status ≡ 0 → (text : List ℕ) × delivered (by.contents middle) text × (answer ≡ Done text) =
     λ zero_is. made_bytes bytes made answer (delivered (by.contents middle)) (k.whole zero_is) l.made.2 in
     let part : status ≡ 4 → (text : List ℕ) × parted (by.contents middle) text × (answer ≡ Done text) =
     λ four_is. made_bytes bytes made answer (parted (by.contents middle)) (k.part four_is) l.made.2 in
-    let refused : (status ≡ 1) ⊎ (status ≡ 2) → (said : List ℕ) × RefusesWith answer status said × spoken said =
+    let refused : (status ≡ 1) ⊎ (status ≡ 2) → (said : Option (List ℕ)) × RefusesWith answer status said × spoken said =
     λ refusal. made_refusal bytes made answer status spoken (k.refused refusal) l.made.2 in
     record {
       statuses = concluded-small status k.statuses;
@@ -57,8 +60,16 @@ concluded_run by task bytes made status files middle new_files input new_input o
           (w.0, subst (λ old. delivered old w.0) l.same_contents w.1, foretold-texts task contents left texts (HasBytes w.0) are (λ needs. has_bytes task needs answer w.0 w.2), (texts, are, w.2));
       end = λ zero_is reads. l.end reads;
       silent = k.silent;
-      refusal = λ one_is. let r = refused (inl one_is) in (r.0, (texts, are, refuses-so answer status r.0 one_is r.1), r.2);
-      usage = λ two_is. let r = refused (inr two_is) in (r.0, (texts, are, takes-not answer status r.0 two_is r.1), r.2);
+      refusal = λ one_is.
+          let r = refused (inl one_is) in
+          elim (refuses-so answer status r.0 spoken one_is r.1 r.2) [
+            | inl (text, is, said) ↦ inl (text, (texts, are, is), said)
+            | inr (is, quiet) ↦ inr ((texts, are, is), quiet)
+          ];
+      usage = λ two_is.
+          let r = refused (inr two_is) in
+          let t = takes-not answer status r.0 spoken two_is r.1 r.2 in
+          (t.0, (texts, are, t.1), t.2);
       longer = λ six_is. not-long status k.statuses six_is;
       refused = λ refusal.
           let r = refused (refused-one status k.statuses refusal) in
@@ -97,7 +108,7 @@ stopped_run by task bytes (load_stop.Failed load) status files new_files input n
     let need = need_of load in
     let stops = l.stops in
     let three = k.0 in
-    let says : List ℕ → Type 0 = λ line. Writes line (by.said errors) (by.said new_errors) (by.error_faults errors) (by.error_faults new_errors) in
+    let says : Option (List ℕ) → Type 0 = λ message. Speaks message by.said by.error_faults errors new_errors in
     record {
       statuses = omega (arith, three);
       whole = λ zero_is. absurd (omega (arith, three));
@@ -127,7 +138,7 @@ stopped_run by task bytes (load_stop.TooLong load) status files new_files input 
     let left = by.left input in
     let need = need_of load in
     let six = k.0 in
-    let says : List ℕ → Type 0 = λ line. Writes line (by.said errors) (by.said new_errors) (by.error_faults errors) (by.error_faults new_errors) in
+    let says : Option (List ℕ) → Type 0 = λ message. Speaks message by.said by.error_faults errors new_errors in
     let refused : Outcome → Type 0 = λ o. (o.status ≡ status) × says o.message in
     let long = long-loaded contents left task.needs need l.stops.longer.0 l.stops.reached l.stops.longer.1 l.stops.longer.2 in
     record {

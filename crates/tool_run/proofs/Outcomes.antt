@@ -1,12 +1,12 @@
 -- From loading and delivering to what a run does.
 use Rattle.std.proofs.Common.{◌≡◌, ◌⊎◌, ◌≤◌, ℕ, Bool, true, false, not, List, [], ◌∷◌, refl, sym, ap, subst, ◌∙◌, inl, inr, arith}
-use Rattle.std.specs.Prelude.{Option, None, Some, Result, Ok, Err, IfOk, IfErr, MatchOption}
+use Rattle.std.specs.Prelude.{Option, None, Some, option_map, Result, Ok, Err, IfOk, IfErr, MatchOption}
 use Rattle.std.proofs.lemmas.Bool.{cases_Bool, or_left, or_right}
 use Rattle.ice_io.specs.Faults.{Rose}
 use Rattle.ice_io.specs.Files.{FileMap}
 use Rattle.tool_run.specs.Needs.{Need, is_stream, reads_files, reads_input}
 use Rattle.tool_run.specs.Lines.{line_of, read_failed}
-use Rattle.tool_run.specs.Tasks.{Answer, Done, Refused, UsageError, LoadFault, Missing, TooLong, Outcome, Task, answered, bytes_of, ended, loaded, outcome_of, reached, reached_after}
+use Rattle.tool_run.specs.Tasks.{Answer, Done, Refused, Quiet, UsageError, LoadFault, Missing, TooLong, Outcome, Task, answered, bytes_of, ended, loaded, outcome_of, reached, reached_after}
 use Rattle.tool_run.specs.Effects.{Foretells, SourceRose, Tells}
 use Rattle.tool_run.specs.Loads.{AreTextsOf, FailsToLoad, IsReached}
 use Rattle.tool_run.specs.Stops.{StopsWith}
@@ -22,6 +22,7 @@ use Rattle.tool_run.proofs.Reaching.{AreTold, NameIsTold, WhereTold, input-reach
 answered-reads_files : (task : Task) (needs : List Need) (answer : Answer) → (answered task needs answer).reads_files ≡ reads_files needs
 answered-reads_files task needs (Done bytes) = refl
 answered-reads_files task needs (Refused text) = refl
+answered-reads_files task needs Quiet = refl
 answered-reads_files task needs (UsageError text) = refl
 
 ended-reads_files : (task : Task) (needs : List Need) (result : Result (List (List ℕ)) LoadFault) → (ended task needs result).reads_files ≡ reads_files needs
@@ -32,6 +33,7 @@ ended-reads_files task needs (Err (TooLong need)) = refl
 answered-reads_input : (task : Task) (needs : List Need) (answer : Answer) → (answered task needs answer).reads_input ≡ reads_input needs
 answered-reads_input task needs (Done bytes) = refl
 answered-reads_input task needs (Refused text) = refl
+answered-reads_input task needs Quiet = refl
 answered-reads_input task needs (UsageError text) = refl
 
 ended-reads_input : (task : Task) (needs : List Need) (result : Result (List (List ℕ)) LoadFault) → (ended task needs result).reads_input ≡ reads_input needs
@@ -113,23 +115,28 @@ pub begun : {I : Type 0} (takes : I → List ℕ → Type 0) (answer : List (Lis
 begun takes answer (Ok intake) taken stops = taken
 begun takes answer (Err stop) taken stops = stops
 
-pub refuses : (task : Task) (needs : List Need) (answer : Answer) (status : ℕ) (said : List ℕ) (S : List ℕ → Type 0) → RefusesWith answer status said → S (line_of task.tool_name said)
+pub refuses : (task : Task) (needs : List Need) (answer : Answer) (status : ℕ) (said : Option (List ℕ)) (S : Option (List ℕ) → Type 0) → RefusesWith answer status said → S (option_map (line_of task.tool_name) said)
     → ((answered task needs answer).status ≡ status) × S (answered task needs answer).message
 refuses task needs (Done bytes) status said S none says = absurd none
-refuses task needs (Refused text) status said S with says = (sym with.0, subst (λ t. S (line_of task.tool_name t)) (sym with.1) says)
-refuses task needs (UsageError text) status said S with says = (sym with.0, subst (λ t. S (line_of task.tool_name t)) (sym with.1) says)
+refuses task needs (Refused text) status said S with says = (sym with.0, subst (λ (t : Option (List ℕ)). S (option_map (line_of task.tool_name) t)) with.1 says)
+refuses task needs Quiet status said S with says = (sym with.0, subst (λ (t : Option (List ℕ)). S (option_map (line_of task.tool_name) t)) with.1 says)
+refuses task needs (UsageError text) status said S with says = (sym with.0, subst (λ (t : Option (List ℕ)). S (option_map (line_of task.tool_name) t)) with.1 says)
 
--- the tool's refusal
-pub refuses-so : (answer : Answer) (status : ℕ) (said : List ℕ) → status ≡ 1 → RefusesWith answer status said → answer ≡ Refused said
-refuses-so (Done bytes) status said one_is none = absurd none
-refuses-so (Refused text) status said one_is with = ap Refused with.1
-refuses-so (UsageError text) status said one_is with = absurd (omega (arith, with.0))
+-- the tool's refusal, or it is quiet
+pub refuses-so : (answer : Answer) (status : ℕ) (said : Option (List ℕ)) (S : Option (List ℕ) → Type 0) → status ≡ 1 → RefusesWith answer status said → S said
+    → ((text : List ℕ) × (answer ≡ Refused text) × S (Some text)) ⊎ ((answer ≡ Quiet) × S None)
+refuses-so (Done bytes) status said S one_is none says = absurd none
+refuses-so (Refused text) status said S one_is with says = inl (text, refl, subst S with.1 says)
+refuses-so Quiet status said S one_is with says = inr (refl, subst S with.1 says)
+refuses-so (UsageError text) status said S one_is with says = absurd (omega (arith, with.0))
 
 -- a command line that isn't taken
-pub takes-not : (answer : Answer) (status : ℕ) (said : List ℕ) → status ≡ 2 → RefusesWith answer status said → answer ≡ UsageError said
-takes-not (Done bytes) status said two_is none = absurd none
-takes-not (Refused text) status said two_is with = absurd (omega (arith, with.0))
-takes-not (UsageError text) status said two_is with = ap UsageError with.1
+pub takes-not : (answer : Answer) (status : ℕ) (said : Option (List ℕ)) (S : Option (List ℕ) → Type 0) → status ≡ 2 → RefusesWith answer status said → S said
+    → (text : List ℕ) × (answer ≡ UsageError text) × S (Some text)
+takes-not (Done bytes) status said S two_is none says = absurd none
+takes-not (Refused text) status said S two_is with says = absurd (omega (arith, with.0))
+takes-not Quiet status said S two_is with says = absurd (omega (arith, with.0))
+takes-not (UsageError text) status said S two_is with says = (text, refl, subst S with.1 says)
 
 -- the statuses of a conclusion
 abbrev pub IsConcluded : ℕ → Type 0
@@ -148,7 +155,7 @@ pub not-long : {P : Type 0} (status : ℕ) → IsConcluded status → status ≡
 not-long status concluded long = absurd (grind arith)
 
 pub exact-answer : (task : Task) (needs : List Need) (answer : Answer) (status : ℕ) → IsConcluded status → ((status ≡ 0) → (bytes : List ℕ) × (answer ≡ Done bytes)) → ((status ≡ 4) → (bytes : List ℕ) × (answer ≡ Done bytes))
-    → ((status ≡ 1) ⊎ (status ≡ 2) → (said : List ℕ) × RefusesWith answer status said) → IsStatusFor status (answered task needs answer)
+    → ((status ≡ 1) ⊎ (status ≡ 2) → (said : Option (List ℕ)) × RefusesWith answer status said) → IsStatusFor status (answered task needs answer)
 exact-answer task needs answer status concluded done part refused = elim concluded [
   | inl zero_is ↦ let d = done zero_is in inl (zero_is ∙ sym (has_bytes task needs answer d.0 d.1).0)
   | inr (inl one_is) ↦ let r = refused (inl one_is) in inl (sym (refuses task needs answer status r.0 (λ t. Unit {0}) r.1 tt).0)
@@ -166,8 +173,8 @@ input-rose need loads new_loads inputs new_inputs stream rose = by_name need.nam
     by_name (Some name) stream rose = absurd cc
 
 -- over steady files a failure is the outcome's, unless standard input failed that the outcome reads
-pub foretold_failure : {I : Type 0} (task : Task) (contents : Option FileMap) (steady : Bool) (left : I → Option (List ℕ)) (input_faults : I → ℕ) (loads new_loads : ℕ) (input new_input : I) (need : Need) (S : List ℕ → Type 0)
-    → FailsToLoad contents steady left input_faults task.needs loads new_loads input new_input need → S (line_of task.tool_name (read_failed need)) → steady ≡ true
+pub foretold_failure : {I : Type 0} (task : Task) (contents : Option FileMap) (steady : Bool) (left : I → Option (List ℕ)) (input_faults : I → ℕ) (loads new_loads : ℕ) (input new_input : I) (need : Need) (S : Option (List ℕ) → Type 0)
+    → FailsToLoad contents steady left input_faults task.needs loads new_loads input new_input need → S (Some (line_of task.tool_name (read_failed need))) → steady ≡ true
     → Foretells task contents (left input) (λ o. (o.reads_input ≡ true → Rose (input_faults input) (input_faults new_input) → ⊥) → (o.status ≡ 3) × S o.message)
 foretold_failure task contents steady left input_faults loads new_loads input new_input need S fails says is_steady = λ known text tells.
     let failed : Outcome → Type 0 = λ o. (o.reads_input ≡ true → Rose (input_faults input) (input_faults new_input) → ⊥) → (o.status ≡ 3) × S o.message in

@@ -1,18 +1,19 @@
 -- What becomes of what a tool made, and of a load that stopped.
-use Rattle.std.specs.Prelude.{◌≡◌, ◌≢◌, ◌⊎◌, ℕ, List, Option, None, Result, IsOkAnd, IsErrAnd}
+use Rattle.std.specs.Prelude.{◌≡◌, ◌≢◌, ◌⊎◌, ℕ, List, Option, None, Some, option_map, Result, IsOkAnd, IsErrAnd}
 use Rattle.ice_io.specs.Files.{FileMap}
 use Rattle.tool_run.specs.Needs.{need_of}
 use Rattle.tool_run.specs.Lines.{line_of, out_of_memory, read_failed, refusal_text, too_long, write_failed}
-use Rattle.tool_run.specs.Effects.{Delivers, DeliversPart, TargetRose, Writes}
+use Rattle.tool_run.specs.Effects.{Delivers, DeliversPart, Speaks, TargetRose, Writes}
 use Rattle.tool_run.specs.declared.load.LoadStop.{LoadStop}
 use Rattle.tool_run.specs.declared.load.LoadStop.TheVariants as load_stop
 use Rattle.tool_run.specs.declared.tool.Stop.{Stop}
-use Rattle.tool_run.specs.declared.tool.Stop.TheVariants.{Refused, UsageError, Memory}
+use Rattle.tool_run.specs.declared.tool.Stop.TheVariants.{Refused, Quiet, UsageError, Memory}
 
--- a tool stops with this status, and S holds of what it says
-abbrev pub Refuses : ℕ → (List ℕ → Type 0) → Stop → Type 0
-Refuses status S (Refused refusal) = (status ≡ 1) × S (refusal_text refusal)
-Refuses status S (UsageError refusal) = (status ≡ 2) × S (refusal_text refusal)
+-- a tool stops with this status, and S holds of what it says, if it says anything
+abbrev pub Refuses : ℕ → (Option (List ℕ) → Type 0) → Stop → Type 0
+Refuses status S (Refused refusal) = (status ≡ 1) × S (Some (refusal_text refusal))
+Refuses status S Quiet = (status ≡ 1) × S None
+Refuses status S (UsageError refusal) = (status ≡ 2) × S (Some (refusal_text refusal))
 Refuses status S Memory = ⊥
 
 -- what became of what a tool made, by its bytes, or of why it gives none
@@ -20,7 +21,7 @@ pub record Concludes {F O E M : Type 0} (contents : F → Option FileMap) (store
   pub statuses : (status ≡ 0) ⊎ (status ≡ 1) ⊎ (status ≡ 2) ⊎ (status ≡ 4) ⊎ (status ≡ 5)
   pub whole : status ≡ 0 → IsOkAnd made (λ content. Delivers target (bytes content) (contents files) (contents new_files) (held output) (held new_output))
   pub silent : status ≡ 0 → new_errors ≡ errors
-  pub refused : (status ≡ 1) ⊎ (status ≡ 2) → IsErrAnd made (Refuses status (λ text. Writes (line_of tool_name text) (told errors) (told new_errors) (error_faults errors) (error_faults new_errors)))
+  pub refused : (status ≡ 1) ⊎ (status ≡ 2) → IsErrAnd made (Refuses status (λ said. Speaks (option_map (line_of tool_name) said) told error_faults errors new_errors))
   pub part : status ≡ 4 → IsOkAnd made (λ content. DeliversPart target (bytes content) (contents files) (contents new_files) (held output) (held new_output))
   pub rose : status ≡ 4 → TargetRose target (store_faults files) (store_faults new_files) (output_faults output) (output_faults new_output)
   pub target_line : status ≡ 4 → Writes (line_of tool_name (write_failed target)) (told errors) (told new_errors) (error_faults errors) (error_faults new_errors)

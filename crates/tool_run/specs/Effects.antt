@@ -21,6 +21,11 @@ abbrev pub Writes : List ℕ → Option (List ℕ) → Option (List ℕ) → ℕ
 Writes line held new_held faults new_faults =
     Appends held new_held line ⊎ ((n : ℕ) × Appends held new_held (take n line) × Rose faults new_faults)
 
+-- the message was written, or a part of it; without a message nothing was, and all is as it was
+abbrev pub Speaks : {E : Type 0} → Option (List ℕ) → (E → Option (List ℕ)) → (E → ℕ) → E → E → Type 0
+Speaks None said faults errors new_errors = new_errors ≡ errors
+Speaks (Some line) said faults errors new_errors = Writes line (said errors) (said new_errors) (faults errors) (faults new_errors)
+
 -- the count of a need's own side rose: of the input, or of the loads
 abbrev pub SourceRose : Need → ℕ → ℕ → ℕ → ℕ → Type 0
 SourceRose need load_faults new_load_faults input_faults new_input_faults =

@@ -1,7 +1,7 @@
 -- The lines for standard error.
 use Rattle.std.specs.Prelude.{ℕ, ◌+◌, ◌/◌, ◌%◌, List, [], ◌∷◌, ◌++◌, codes, decimal, Option, None, Some, flat_map}
 use Rattle.hex.specs.Hex.{encode_lower}
-use Rattle.tool_run.specs.Needs.{Need}
+use Rattle.tool_run.specs.Needs.{Need, text_of}
 use Rattle.std.specs.Borrow.{Bor}
 use Rattle.tool_run.specs.declared.line.Number.{Number}
 use Rattle.tool_run.specs.declared.line.Number.TheVariants as number
@@ -36,9 +36,17 @@ plain text = record { text = text; number = number.Missing }
 abbrev pub numbered : Bor (List ℕ) → ℕ → Phrase
 numbered text n = record { text = text; number = number.Decimal n }
 
+-- what is said of a file, after its name and a space if it is named
+abbrev pub in_file : Option (List ℕ) → List ℕ → List ℕ
+in_file None text = text
+in_file (Some name) text = name ++ codes " " ++ text
+
+abbrev pub phrases_text : Refusal → List ℕ
+phrases_text refusal = phrase_text refusal.first ++ phrase_text refusal.second ++ phrase_text refusal.third ++ phrase_text refusal.fourth
+
 -- why a tool refuses what it was given
 abbrev pub refusal_text : Refusal → List ℕ
-refusal_text refusal = phrase_text refusal.first ++ phrase_text refusal.second ++ phrase_text refusal.third ++ phrase_text refusal.fourth
+refusal_text refusal = in_file (text_of refusal.file) (phrases_text refusal)
 
 -- a part of a line as text
 abbrev pub part_text : Part → List ℕ

@@ -5,8 +5,8 @@ use Rattle.ice_io.specs.Faults.{Rose}
 use Rattle.ice_io.specs.Files.{FileMap}
 use Rattle.tool_run.specs.Needs.{Need, is_stream, reads_files, reads_input}
 use Rattle.tool_run.specs.Lines.{line_of, out_of_memory, read_failed, too_long, write_failed}
-use Rattle.tool_run.specs.Tasks.{Answer, Done, UsageError, Outcome, Refused, Task}
-use Rattle.tool_run.specs.Effects.{Delivers, DeliversPart, Foretells, TargetRose, Writes}
+use Rattle.tool_run.specs.Tasks.{Answer, Done, Refused, Quiet, UsageError, Outcome, Task}
+use Rattle.tool_run.specs.Effects.{Delivers, DeliversPart, Foretells, Speaks, TargetRose, Writes}
 use Rattle.tool_run.specs.Loads.{AreTextsOf, FailsToLoad, PassesLimit}
 
 -- how clauses read the files, the input, the output and the errors of a run
@@ -63,6 +63,10 @@ module _ {F I O E : Type 0} where
   abbrev pub Says : Outside F I O E → Scene F I O E → Scene F I O E → List ℕ → Type 0
   Says by old new line = Writes line (by.said old.errors) (by.said new.errors) (by.error_faults old.errors) (by.error_faults new.errors)
 
+  -- this message was written so, if there is one; without one standard error is as it was
+  abbrev pub SaysIfAny : Outside F I O E → Scene F I O E → Scene F I O E → Option (List ℕ) → Type 0
+  SaysIfAny by old new message = Speaks message by.said by.error_faults old.errors new.errors
+
   -- the outcome of the task, as far as it is told before the run, has P
   abbrev pub Foresees : Outside F I O E → Task → Scene F I O E → (Outcome → Type 0) → Type 0
   Foresees by task old P = Foretells task (by.contents old.files) (by.left old.input) P
@@ -88,10 +92,12 @@ module _ {F I O E : Type 0} where
         × Makes by task old (Done bytes)
     pub end : status ≡ 0 → reads_input task.needs ≡ true → IsAtEnd (by.left new.input)
     pub silent : status ≡ 0 → new.errors ≡ old.errors
-    -- 1, 2 and 6: the outcome's status, and its line
-    pub refused : IsRefusal status → Foresees by task old (λ o. (o.status ≡ status) × Says by old new o.message)
-    -- 1: the tool refuses texts, and its line says so
-    pub refusal : status ≡ 1 → (said : List ℕ) × Makes by task old (Refused said) × Says by old new (line_of task.tool_name said)
+    -- 1, 2 and 6: the outcome's status, and its line, if it has one
+    pub refused : IsRefusal status → Foresees by task old (λ o. (o.status ≡ status) × SaysIfAny by old new o.message)
+    -- 1: the tool refuses texts, and its line says so, or it is quiet about texts, and nothing was said
+    pub refusal : status ≡ 1 →
+        ((said : List ℕ) × Makes by task old (Refused said) × Says by old new (line_of task.tool_name said))
+        ⊎ (Makes by task old Quiet × (new.errors ≡ old.errors))
     -- 2: the tool doesn't take the command line, and its line says so
     pub usage : status ≡ 2 → (said : List ℕ) × Makes by task old (UsageError said) × Says by old new (line_of task.tool_name said)
     -- 6: a need passes its limit, and its line says so
@@ -102,7 +108,7 @@ module _ {F I O E : Type 0} where
     pub read : status ≡ 3 → (need : Need) × FailsToRead by task old new need
     pub steady : status ≡ 3 → by.steady old.files ≡ true → Foresees by task old (λ o.
         (o.reads_input ≡ true → Rose (by.input_faults old.input) (by.input_faults new.input) → ⊥)
-        → (o.status ≡ 3) × Says by old new o.message)
+        → (o.status ≡ 3) × SaysIfAny by old new o.message)
     -- 4: the target took a part of what was made, and its count rose
     pub part : status ≡ 4 → (bytes : List ℕ)
         × DeliversPart task.target bytes (by.contents old.files) (by.contents new.files) (by.held old.output) (by.held new.output)

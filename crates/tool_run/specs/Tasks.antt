@@ -5,10 +5,12 @@ use Rattle.ice_io.specs.Files.{FileMap}
 use Rattle.tool_run.specs.Needs.{Need, reads_files, reads_input, with_layout}
 use Rattle.tool_run.specs.Lines.{line_of, read_failed, too_long, usage_text}
 
--- what a tool makes of what it read: the bytes for its target, or why it refuses, or that the command line isn't taken
+-- what a tool makes of what it read: the bytes for its target, or why it refuses, or that it refuses and says nothing, or that the command
+-- line isn't taken
 pub data Answer : Type 0 where
   Done : List ℕ → Answer
   Refused : List ℕ → Answer
+  Quiet : Answer
   UsageError : List ℕ → Answer
 
 -- who speaks, what is read, in order, the file that is stored, or none for standard output, and what is made of what was read
@@ -101,16 +103,16 @@ reached files input [] = []
 reached files input (need ∷ needs) = need ∷ reached_after (bytes_of files input need) (reached files input needs)
 
 -- the status, whether a file and whether standard input is read, the file that is stored, or none for standard output, the
--- bytes for it, and the line for standard error
+-- bytes for it, and the line for standard error, if there is one
 pub record Outcome : Type 0 where
   pub status : ℕ
   pub reads_files : Bool
   pub reads_input : Bool
   pub target : Option (List ℕ)
   pub bytes : List ℕ
-  pub message : List ℕ
+  pub message : Option (List ℕ)
 
-abbrev pub ending : Task → List Need → ℕ → List ℕ → List ℕ → Outcome
+abbrev pub ending : Task → List Need → ℕ → List ℕ → Option (List ℕ) → Outcome
 ending task needs status bytes message = record {
   status = status;
   reads_files = reads_files needs;
@@ -121,14 +123,15 @@ ending task needs status bytes message = record {
 }
 
 abbrev pub answered : Task → List Need → Answer → Outcome
-answered task needs (Done bytes) = ending task needs 0 bytes []
-answered task needs (Refused text) = ending task needs 1 [] (line_of task.tool_name text)
-answered task needs (UsageError text) = ending task needs 2 [] (line_of task.tool_name text)
+answered task needs (Done bytes) = ending task needs 0 bytes None
+answered task needs (Refused text) = ending task needs 1 [] (Some (line_of task.tool_name text))
+answered task needs Quiet = ending task needs 1 [] None
+answered task needs (UsageError text) = ending task needs 2 [] (Some (line_of task.tool_name text))
 
 abbrev pub ended : Task → List Need → Result (List (List ℕ)) LoadFault → Outcome
 ended task needs (Ok texts) = answered task needs (task.answer texts)
-ended task needs (Err (Missing need)) = ending task needs 3 [] (line_of task.tool_name (read_failed need))
-ended task needs (Err (TooLong need)) = ending task needs 6 [] (line_of task.tool_name (too_long need))
+ended task needs (Err (Missing need)) = ending task needs 3 [] (Some (line_of task.tool_name (read_failed need)))
+ended task needs (Err (TooLong need)) = ending task needs 6 [] (Some (line_of task.tool_name (too_long need)))
 
 -- the outcome of a task, on files and an input
 abbrev pub outcome_of : Task → FileMap → List ℕ → Outcome

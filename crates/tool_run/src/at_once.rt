@@ -33,6 +33,7 @@ impl Tool for AtOnce {
             AtOnce::Tells(text) => Ok(Vec::from_slice(alloc, text.as_bytes())?),
             AtOnce::Refuses(refusal) => Err(Stop::Refused(refusal)),
             AtOnce::UsageError(usage) => Err(Stop::UsageError(Refusal {
+                file: None,
                 first: text("usage: "),
                 second: text(usage),
                 third: text(""),

@@ -4,7 +4,7 @@ ghost use Rattle.std.specs.Io.KnownBytes.{Appends};
 ghost use Rattle.ice_io.specs.Faults.{Rose};
 ghost use Rattle.ice_io.specs.Put.{ForWritten};
 ghost use Rattle.tool_run.specs.Effects.{Writes};
-ghost use Rattle.tool_run.specs.Lines.{four_digits, six_digits, line_of, number_text, numbered, part_text, parts_text, phrase_text, plain, refusal_text};
+ghost use Rattle.tool_run.specs.Lines.{four_digits, six_digits, line_of, number_text, numbered, part_text, parts_text, phrase_text, phrases_text, plain, refusal_text};
 
 use ice_io::{PutFault, Sink, write_whole};
 use itoa::Buffer;
@@ -32,6 +32,8 @@ pub struct Phrase<'a> {
 /// Why a tool refuses what it was given: the phrases of the line after the tool's name.
 #[derive(Clone, Copy, Debug, PartialEq, Eq)]
 pub struct Refusal<'a> {
+    /// The file that is refused, if a tool has several of a kind. Its name stands before the phrases, with a space between.
+    pub file: Option<&'a str>,
     pub first: Phrase<'a>,
     pub second: Phrase<'a>,
     pub third: Phrase<'a>,
@@ -143,9 +145,27 @@ fn write_parts<E: Sink>(errors: &mut E, parts: &[Part<'_>])
 pub(crate) fn write_refusal<'a, E: Sink>(errors: &mut E, tool_name: &'a str, refusal: Refusal<'a>)
     ensures { Writes (line_of tool_name.now (refusal_text refusal.entry)) (E.held errors.old) (E.held errors.new) (E.faults errors.old) (E.faults errors.new) }
 {
+    match refusal.file {
+        None => write_phrases(errors, tool_name, "", "", refusal),
+        Some(name) => write_phrases(errors, tool_name, name, " ", refusal),
+    }
+}
+
+// Writes such a line, with a name and what stands after it before the phrases.
+fn write_phrases<'a, E: Sink>(
+    errors: &mut E,
+    tool_name: &'a str,
+    name: &'a str,
+    space: &'a str,
+    refusal: Refusal<'a>,
+)
+    ensures { Writes (line_of tool_name.now (name.now ++ space.now ++ phrases_text refusal.entry)) (E.held errors.old) (E.held errors.new) (E.faults errors.old) (E.faults errors.new) }
+{
     let parts = [
         Part::Text(tool_name),
         Part::Text(": "),
+        Part::Text(name),
+        Part::Text(space),
         Part::Text(refusal.first.text),
         Part::Number(refusal.first.number),
         Part::Text(refusal.second.text),

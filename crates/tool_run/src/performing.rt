@@ -84,6 +84,7 @@ fn conclude<C: Content, F: Files, O: Sink, E: Sink>(
             write_refusal(errors, job.tool_name, refusal);
             1
         }
+        Err(Stop::Quiet) => 1,
         Err(Stop::UsageError(refusal)) => {
             write_refusal(errors, job.tool_name, refusal);
             2

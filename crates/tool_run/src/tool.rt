@@ -12,6 +12,8 @@ use std::alloc::{AllocError, Global};
 pub enum Stop<'a> {
     /// The tool refuses what it was given.
     Refused(Refusal<'a>),
+    /// The tool refuses what it was given, and says nothing.
+    Quiet,
     /// The command line isn't taken.
     UsageError(Refusal<'a>),
     /// Out of memory.

@@ -31,14 +31,12 @@ pub(crate) fn append_setting(
     end_line(text)
 }
 
-/// Appends a line of a keyword and a place of the grid.
+/// Appends a line of a keyword, and the column and the row of the grid.
+///
+/// # Errors
+/// `AllocError` if memory is out. The text may have a part of the line then.
 #[tactic(auto, unfolding(text_lines::specs::Written::text_of))]
-pub(crate) fn append_grid_line(
-    text: &mut Vec<u8>,
-    keyword: &[u8],
-    x: u8,
-    y: u8,
-) -> Result<(), AllocError>
+pub fn append_grid_line(text: &mut Vec<u8>, keyword: &[u8], x: u8, y: u8) -> Result<(), AllocError>
     ensures text { OnOk result (text.new.items ≡ text.old.items ++ text_of (grid_line keyword.now x y ∷ [])) }
     ensures room { vec_capacity text.old ≤ vec_capacity text.new }
     ensures most { vec_len text.new ≤ vec_len text.old + (length keyword.now + 23) }
@@ -50,8 +48,11 @@ pub(crate) fn append_grid_line(
     end_line(text)
 }
 
-/// Appends a space and a number.
-pub(crate) fn append_number(text: &mut Vec<u8>, number: u32) -> Result<(), AllocError>
+/// Appends a space and a number in decimal digits.
+///
+/// # Errors
+/// `AllocError` if memory is out. The text may have a part of it then.
+pub fn append_number(text: &mut Vec<u8>, number: u32) -> Result<(), AllocError>
     ensures text { OnOk result (text.new.items ≡ text.old.items ++ 32 ∷ decimal number) }
     ensures room { vec_capacity text.old ≤ vec_capacity text.new }
     ensures most { vec_len text.new ≤ vec_len text.old + 11 }
@@ -64,7 +65,10 @@ pub(crate) fn append_number(text: &mut Vec<u8>, number: u32) -> Result<(), Alloc
 }
 
 /// Ends a line.
-pub(crate) fn end_line(text: &mut Vec<u8>) -> Result<(), AllocError>
+///
+/// # Errors
+/// `AllocError` if memory is out, and for no other cause.
+pub fn end_line(text: &mut Vec<u8>) -> Result<(), AllocError>
     ensures text { OnOk result (text.new.items ≡ text.old.items ++ 10 ∷ []) }
     ensures room { vec_capacity text.old ≤ vec_capacity text.new }
     ensures most { vec_len text.new ≤ vec_len text.old + 1 }

@@ -165,13 +165,16 @@ fn append_memory_line(
     ensures full { OnErr result (vec_capacity text.old < vec_len text.old + 65) }
 {
     for index in 0..16 {
-        append_digits(text, image.ram_word(x, y, 16 * row + 15 - index))?;
+        append_hexadecimal(text, image.ram_word(x, y, 16 * row + 15 - index))?;
     }
     end_line(text)
 }
 
-/// Appends the four hexadecimal digits of a word, the highest first.
-fn append_digits(text: &mut Vec<u8>, word: u16) -> Result<(), AllocError>
+/// Appends the four hexadecimal digits of a word of a RAM, the highest first.
+///
+/// # Errors
+/// `AllocError` if memory is out, and for no other cause.
+pub fn append_hexadecimal(text: &mut Vec<u8>, word: u16) -> Result<(), AllocError>
     ensures text { OnOk result (text.new.items ≡ text.old.items ++ encode_lower (two_bytes word)) }
     ensures room { vec_capacity text.old ≤ vec_capacity text.new }
     ensures most { vec_len text.new ≤ vec_len text.old + 4 }

@@ -68,6 +68,7 @@ fn stamp_answer(alloc: Global, refuses: bool) -> Result<Vec<u8>, Stop<'static>>
 {
     if refuses {
         return Err(Stop::Refused(Refusal {
+            file: None,
             first: text("no"),
             second: text(""),
             third: text(""),

@@ -24,6 +24,7 @@ fn answer_to(alloc: Global, bytes: u8, has_zero: bool) -> Result<Vec<u8>, Stop<'
 {
     if has_zero {
         return Err(Stop::Refused(Refusal {
+            file: None,
             first: text("zero"),
             second: text(""),
             third: text(""),

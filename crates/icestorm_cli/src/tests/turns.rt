@@ -19,6 +19,9 @@ const RISING: &[u8] = b"0 1 2 3 4 5 6 7 8 9 a b c d e f\n";
 /// A layout file.
 const LAYOUT: &[u8] = b".layout 1k\nmirror no\n";
 
+/// An image with no set bit.
+const BLANK: &[u8] = b".device 1k\n";
+
 const EVENTS: &[u8] = b"io_0_1_0 1\nio_0_1_0 0\n";
 
 /// The files that the jobs read and that are made for them.
@@ -75,11 +78,12 @@ impl Made {
     }
 
     /// The files by their names.
-    fn named(&self) -> [Named<'_>; 12] {
+    fn named(&self) -> [Named<'_>; 13] {
         [
             ("out", BEFORE),
             ("image", &self.image),
             ("stream", &self.stream),
+            ("blank", BLANK),
             ("boot", &self.boot),
             ("rising", &self.rising),
             ("falling", &self.falling),
@@ -119,7 +123,7 @@ type Job = (
     Part,
 );
 
-static JOBS: [Job; 24] = [
+static JOBS: [Job; 26] = [
     (
         &["icepack", "image", "out"],
         Way::InParts,
@@ -203,6 +207,28 @@ static JOBS: [Job; 24] = [
         &["icebox_explain", "--layout", "layout", "A", "stream"],
         Way::InParts,
         &["layout", "A", "stream"],
+        "",
+        Part::Large,
+    ),
+    (
+        &["icebox_diff", "A", "image", "blank"],
+        Way::InParts,
+        &["A", "image", "blank"],
+        "",
+        Part::Middle,
+    ),
+    (
+        &[
+            "icebox_diff",
+            "-q",
+            "--layout",
+            "layout",
+            "A",
+            "stream",
+            "stream",
+        ],
+        Way::InParts,
+        &["layout", "A", "stream", "stream"],
         "",
         Part::Large,
     ),
@@ -594,13 +620,14 @@ fn leaves_what_a_file_has_room_for(rt: HostRuntime) {
 }
 
 /// The first words of command lines that aren't taken.
-static TOOLS: [&str; 11] = [
+static TOOLS: [&str; 12] = [
     "icepack",
     "iceunpack",
     "icemulti",
     "icesplit",
     "icebram",
     "icebox_explain",
+    "icebox_diff",
     "icebox_stat",
     "icebox_vlog",
     "vlogrun",

@@ -12,4 +12,4 @@ returns-in-Ok-clause-bytes c = λ layouts text stands.
 
 pub returns-in-Err-At-clause-stops : goal.returns-in-Err-At-clause-stops
 returns-in-Err-At-clause-stops c = λ layouts text stands.
-    ap (packed c.args.no_sleep (asc_image_of layouts text)) (subst (Tells (asc_fault_of layouts text)) c.in-Err-At.field-0-is (c.in-Err-At.ensures.refused layouts text stands)) ∙ ap Refused (sym c.asc_refusal.ensures)
+    ap (packed c.args.no_sleep (asc_image_of layouts text)) (subst (Tells (asc_fault_of layouts text)) c.in-Err-At.field-0-is (c.in-Err-At.ensures.refused layouts text stands)) ∙ ap Refused (sym c.asc_refusal.ensures.text)

@@ -12,9 +12,9 @@ loop-index-init c = record { text = digits-none _ _; room = omega arith; most = 
 
 pub loop-index-preserved : goal.loop-index-preserved
 loop-index-preserved c = record {
-  text = digits-more c.args.text.now.items c.loop-index.text.items c.append_digits.new.text.items c.loop-index.index (λ index. two_bytes (ram_word_of (configuration_of c.args.image.now) c.args.x c.args.y (16 * c.args.row + 15 - index))) c.loop-index.invariant.text (c.in_ok-append_digits.ensures.text ∙ ap (λ word. c.loop-index.text.items ++ encode_lower (two_bytes word)) c.ram_word.ensures);
-  room = omega (arith, c.loop-index.invariant.room, c.in_ok-append_digits.ensures.room);
-  most = omega (arith, c.loop-index.invariant.most, c.in_ok-append_digits.ensures.most);
+  text = digits-more c.args.text.now.items c.loop-index.text.items c.append_hexadecimal.new.text.items c.loop-index.index (λ index. two_bytes (ram_word_of (configuration_of c.args.image.now) c.args.x c.args.y (16 * c.args.row + 15 - index))) c.loop-index.invariant.text (c.in_ok-append_hexadecimal.ensures.text ∙ ap (λ word. c.loop-index.text.items ++ encode_lower (two_bytes word)) c.ram_word.ensures);
+  room = omega (arith, c.loop-index.invariant.room, c.in_ok-append_hexadecimal.ensures.room);
+  most = omega (arith, c.loop-index.invariant.most, c.in_ok-append_hexadecimal.ensures.most);
 }
 
 pub returns-clause-text : goal.returns-clause-text

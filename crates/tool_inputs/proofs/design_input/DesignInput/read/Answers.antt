@@ -4,8 +4,8 @@ use Rattle.std.proofs.lemmas.Result.{err_from_is_err_and}
 use Rattle.tool_run.specs.Stops.{StopsWith}
 use Rattle.tool_run.specs.Tasks.{Answer}
 use Rattle.tool_inputs.specs.Databases.{database_read}
-use Rattle.tool_inputs.specs.Images.{image_read}
-use Rattle.tool_inputs.proofs.DesignInputs.{both-read, database-taken, image-taken, input_under, stops-database, stops-image}
+use Rattle.tool_inputs.specs.Images.{StopsImage, image_read}
+use Rattle.tool_inputs.proofs.DesignInputs.{all-taken, both-read, input_under, stops-database, stops-image, unnamed}
 use Rattle.tool_inputs.proofs.design_input.DesignInput.read.Goals as goal
 
 pub returns-in_err-db-clause-stops : goal.returns-in_err-db-clause-stops
@@ -16,7 +16,7 @@ returns-in_err-db-clause-stops c =
     let layouts = c.args.self.layouts in
     subst (λ (told : Answer). StopsWith told c.in_err-db.field-0.0) (sym (input_under answer layout texts layouts takes.0))
     (stops-database answer (database_read db) (image_read layouts (get_or texts 1 [])) c.in_err-db.field-0.0
-    (c.in_err-db.ensures.stops db (database-taken texts _ _ _ takes.1))))
+    (c.in_err-db.ensures.stops db (all-taken texts _ _ _ _ takes.1).database)))
 
 pub returns-in_err-image-clause-stops : goal.returns-in_err-image-clause-stops
 returns-in_err-image-clause-stops c =
@@ -27,8 +27,8 @@ returns-in_err-image-clause-stops c =
     let layouts = c.args.self.layouts in
     subst (λ (told : Answer). StopsWith told c.in_err-image.field-0.0) (sym (input_under answer layout texts layouts takes.0))
     (stops-image answer (database_read db) _ (image_read layouts image) c.in_err-image.field-0.0
-    (c.in_ok-db.ensures.database db (database-taken texts _ _ _ takes.1))
-    (c.in_err-image.ensures.stops image (image-taken texts _ _ _ takes.1))))
+    (c.in_ok-db.ensures.database db (all-taken texts _ _ _ _ takes.1).database)
+    (subst (λ read. StopsImage read c.in_err-image.field-0.0) (unnamed (image_read layouts image)) (c.in_err-image.ensures.stops image (all-taken texts _ _ _ _ takes.1).first))))
 
 pub returns-clause-read : goal.returns-clause-read
 returns-clause-read c = λ layout texts answer takes.
@@ -37,5 +37,5 @@ returns-clause-read c = λ layout texts answer takes.
     let layouts = c.args.self.layouts in
     input_under answer layout texts layouts takes.0
     ∙ both-read answer (database_read db) (image_read layouts image) _ _
-    (c.in_ok-db.ensures.database db (database-taken texts _ _ _ takes.1))
-    (c.in_ok-image.ensures.image image (image-taken texts _ _ _ takes.1))
+    (c.in_ok-db.ensures.database db (all-taken texts _ _ _ _ takes.1).database)
+    (c.in_ok-image.ensures.image image (all-taken texts _ _ _ _ takes.1).first)

@@ -1,0 +1,8 @@
+use Rattle.std.proofs.Common.{◌≡◌, ◌∷◌, ◌++◌, map, take}
+use Rattle.text_lines.specs.Written.{text_of}
+use Rattle.image_explain.specs.Inside.{lists_of}
+use Rattle.image_diff.proofs.lines.append_each.Given as goal
+
+abbrev pub invariant-loop-line : goal.invariant-loop-line
+invariant-loop-line l =
+    l.text.items ≡ l.initial.text.items ++ text_of (take l.line-index (map (◌∷◌ l.sign) (lists_of l.lines)))

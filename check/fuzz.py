@@ -49,7 +49,7 @@ QUIET = {"AFL_NO_UI": "1", "AFL_SKIP_CPUFREQ": "1", "AFL_NO_AFFINITY": "1", "AFL
 def kinds(files):
     """The files of each kind, by the ends of their names."""
     ends = {"text": (".asc",), "stream": (".bin",), "boot": (".boot",), "words": (".hex",), "layout": (".layout",), "module": (".v",),
-            "events": (".events",), "database": (".database",), "pins": (".pcf",)}
+            "events": (".events",), "database": (".database",), "pins": (".pcf",), "names": (".names",)}
     return {kind: [path for name, path in sorted(files.items()) if name.endswith(end)] for kind, end in ends.items()}
 
 
@@ -79,6 +79,7 @@ def places(files):
         (["icebox_vlog", "-p", files["small.pcf"], "-d", "small", "@@", files["small.asc"]], ("database",)),
         (["vlogrun", "@@", files["lamp.events"]], ("module",)),
         (["vlogrun", "-s", files["lamp.v"], "@@"], ("events",)),
+        (["vlogrun", "--vcd", "--names", "@@", files["lamp.v"], files["lamp.events"]], ("names",)),
         (["vlogsweep", "@@", files["lamp.events"]], ("module",)),
         (["vlogsweep", files["lamp.v"], "@@", files["lamp.events"]], ("events",)),
     ]

@@ -312,6 +312,13 @@ def event_lists(line, count):
     yield "one long line", line.strip() + " " * 10 * count + "\n"
 
 
+def name_lists(wire, count):
+    """Lists of names that are long in one thing each, with a wire of the module."""
+    yield "empty lines", "\n" * count
+    yield "one long name", "%s %s\n" % (wire, "n" * 10 * count)
+    yield "blanks around a name", "%s%s%sn%s\n" % (" \t" * count, wire, " " * count, "\t" * count)
+
+
 def grown(files):
     """What grows: a name, what is made of a count, the least count, the arguments, and what goes to standard input."""
     text, stream, database, small, known, player = (
@@ -319,6 +326,7 @@ def grown(files):
     yield "text", texts, 100000, ["icepack", "FILE", "TARGET"], None
     yield "text", texts, 100000, ["icebram", known, known], "FILE"
     yield "text", texts, 100000, ["icebox_stat", database, "FILE"], None
+    yield "text", texts, 100000, ["icebox_vlog", "--names", "TARGET", database, "FILE"], None
     yield "bitstream", streams, 250000, ["iceunpack", "FILE", "TARGET"], None
     yield "bitstream", streams, 250000, ["icebox_explain", database, "FILE"], None
     yield "bitstream", streams, 250000, ["icebox_diff", database, stream, "FILE"], None
@@ -334,6 +342,9 @@ def grown(files):
     with open(files["lamp.events"]) as events:
         line = events.readline()
     yield "list of events", functools.partial(event_lists, line), 20000, ["vlogrun", files["lamp.v"], "FILE"], None
+    with open(files["lamp.names"]) as names:
+        wire = names.readline().split()[0]
+    yield "list of names", functools.partial(name_lists, wire), 100000, ["vlogrun", "--vcd", "--names", "FILE", files["lamp.v"]], None
     # each of 64 lists has at most 65,536 bytes
     yield "list of events", functools.partial(event_lists, line), 1250, ["vlogsweep", files["lamp.v"]] + 64 * ["FILE"], None
 

@@ -182,6 +182,8 @@ def try_arguments(tries):
     gets(["icebox_explain", "--layout", "a.asc", "b.asc"], [large, "--layout", "a.asc", "b.asc"])
     gets(["icebox_vlog", "-n", "a.asc", "b.asc"], vlog + [large, "-n", "a.asc", "b.asc"])
     gets(["icebox_vlog", "-ntop", "b.asc"], vlog + [large, "-ntop", "b.asc"])
+    gets(["icebox_vlog", "--names", "a.asc", "b.asc"], vlog + [large, "--names", "a.asc", "b.asc"])
+    gets(["icebox_vlog", "--names=a.asc", "b.asc"], vlog + [large, "--names=a.asc", "b.asc"])
     gets(["icebox_vlog", "--", "-n"], vlog + [large, "--", "-n"])
     gets(["icebox_vlog", "-p", "pins.pcf", "a.asc"], vlog + ["-d", "tq144", small, "-p", "pins.pcf", "a.asc"])
     gets(["icebox_vlog", "b.asc", "-ppins.pcf"], vlog + ["-d", "ct256", large, "b.asc", "-ppins.pcf"])

@@ -68,6 +68,11 @@ def name_of(use):
     return " ".join(os.path.basename(word) for word in use)
 
 
+def has_output(use):
+    """Whether a place writes standard output. A list of names is written beside it."""
+    return "TARGET" not in use or "--names" in use
+
+
 def put(path, content, mode=0o644):
     """Writes a file with this mode."""
     path.unlink(missing_ok=True)
@@ -146,7 +151,7 @@ def try_streams(tries, what, words, stdin):
 def try_outputs(tries, uses):
     """Standard outputs that can't be written."""
     for use, source, name in uses:
-        if "TARGET" not in use:
+        if has_output(use):
             try_streams(tries, name_of(use), *tries.words_of(use, source, name))
     for words in own_words():
         try_streams(tries, " ".join(words), words, os.devnull)
@@ -159,7 +164,7 @@ def try_closed(tries, uses):
         tries.run(words, stdin)
         wanted = tries.output(), tries.target.read_bytes()
         for closed in ((2,), (0,), (0, 2), (1,), (0, 1, 2)):
-            if (0 in closed and stdin != os.devnull) or (1 in closed and "TARGET" not in use):
+            if (0 in closed and stdin != os.devnull) or (1 in closed and has_output(use)):
                 continue
             tries.words_of(use, source, name)
             ended = tries.run(words, stdin, closed=closed)

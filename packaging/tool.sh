@@ -80,7 +80,7 @@ find_names() {
     case $is_value,$is_behind,$word in
     yes,*) is_value=no ;;
     no,no,--) is_behind=yes ;;
-    no,no,-[dnpt] | no,no,--layout) is_value=yes ;;
+    no,no,-[dnpt] | no,no,--layout | no,no,--names) is_value=yes ;;
     no,no,-?*) ;;
     *) names=$((names + 1)) before=$name name=$word place=$index ;;
     esac

@@ -138,7 +138,9 @@ def make_files(tries):
         made(stem + ".bin", ["icepack", files[name]])
         made(stem + ".v", ["icebox_vlog", files["chipdb-1k.txt"], files[name]])
         if stem + ".v" in files:
-            put(stem + ".events", events_of((tries.folder / (stem + ".v")).read_text()).encode())
+            module = (tries.folder / (stem + ".v")).read_text()
+            put(stem + ".events", events_of(module).encode())
+            put(stem + ".names", names_of(module).encode())
     streams = [files[name] for name in sorted(files) if name.endswith(".bin")]
     for count in (2, 4):
         made("%d.boot" % count, ["icemulti", "-c", "-a", "16"] + streams[:count])
@@ -149,6 +151,11 @@ def events_of(module):
     """Events for a module: each input rises and falls, many times."""
     inputs = re.findall(r"^  input (\w+);$", module, re.M)
     return "".join("%s 1\n%s 0\n" % (name, name) for name in inputs) * 20
+
+
+def names_of(module):
+    """A list of names for all wires of a module."""
+    return "".join("%s net[%d]\n" % (wire, number) for number, wire in enumerate(re.findall(r"^  wire (\w+) ", module, re.M)))
 
 
 def own_words():
@@ -166,7 +173,7 @@ def places(files):
     that is taken there. TARGET is a file that is written."""
     text, stream, layout, database, module = (files[name] for name in ("lamp.asc", "lamp.bin", "silicon.layout", "chipdb-1k.txt", "lamp.v"))
     known, others, player, events = (files[name] for name in ("random.hex", "steps.hex", "player.asc", "lamp.events"))
-    boot, least_text, least_stream, pins = (files[name] for name in ("4.boot", "dimmer.asc", "dimmer.bin", "lamp.pcf"))
+    boot, least_text, least_stream, pins, names = (files[name] for name in ("4.boot", "dimmer.asc", "dimmer.bin", "lamp.pcf", "lamp.names"))
     return [
         (["icepack", "FILE", "TARGET"], None, text),
         (["icepack", "-s"], "FILE", text),
@@ -203,10 +210,12 @@ def places(files):
         (["icebox_vlog", "--layout", "FILE", database, text], None, layout),
         (["icebox_vlog", "-p", "FILE", "-d", "tq144", database, text], None, pins),
         (["icebox_vlog", "-p", pins, "-d", "tq144", "FILE", text], None, database),
+        (["icebox_vlog", "--names", "TARGET", database, "FILE"], None, text),
         (["vlogrun", "FILE", events], None, module),
         (["vlogrun", "-s", module, "FILE"], None, events),
         (["vlogrun", "-s", "FILE"], events, module),
         (["vlogrun", "--vcd", "FILE"], events, module),
+        (["vlogrun", "--vcd", "--names", "FILE", module], events, names),
         (["vlogsweep", "FILE", events, events], None, module),
         (["vlogsweep", module, "FILE"], None, events),
         (["vlogsweep", module, events, "FILE", "FILE"], None, events),

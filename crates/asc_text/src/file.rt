@@ -4,8 +4,7 @@ ghost use Rattle.std.specs.Prelude.{◌≡◌};
 use ice_image::AnyImage;
 use std::marker::Model;
 
-/// A byte string. Contracts see it as the list of its bytes. No tool of this project needs it: it is for users of the library, as the name
-/// in a [`Symbol`].
+/// A byte string, as the name in a [`Symbol`]. Contracts see it as the list of its bytes.
 #[derive(Drop)]
 pub struct ByteText {
     bytes: Vec<u8>,
@@ -20,7 +19,7 @@ impl Model for ByteText {
 }
 
 impl ByteText {
-    /// The bytes. No tool of this project needs it: it is for users of the library.
+    /// The bytes.
     pub fn bytes(&self) -> &[u8]
         ensures { result.now ≡ self.now }
     {
@@ -35,15 +34,14 @@ impl ByteText {
     }
 }
 
-/// A net and its name. No tool of this project needs the names: they are for users of the library.
+/// A net and its name.
 #[derive(Drop)]
 pub struct Symbol {
     pub net: u32,
     pub name: ByteText,
 }
 
-/// The configuration that a text describes, and the names of nets in the order of the text. Only `read` and `read_with` give it, for users
-/// of the library.
+/// The configuration that a text describes, and the names of nets in the order of the text.
 #[derive(Drop)]
 pub struct AscFile {
     pub image: AnyImage,

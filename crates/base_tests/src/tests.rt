@@ -1,3 +1,4 @@
+mod beside;
 mod files;
 mod lines;
 mod names;

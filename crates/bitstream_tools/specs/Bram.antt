@@ -15,7 +15,7 @@ use Rattle.random_words.specs.Draws.{is_depth, is_width}
 use Rattle.random_words.specs.Taken.{random_words}
 use Rattle.tool_run.specs.Lines.{refusal_text}
 use Rattle.tool_run.specs.Needs.{Need}
-use Rattle.tool_run.specs.Tasks.{Answer, Done, Refused, Task, at_once, usage_error}
+use Rattle.tool_run.specs.Tasks.{Answer, Done, Refused, Task, at_once, plain_task, usage_error}
 use Rattle.tool_run.specs.declared.tool.Stop.{Stop}
 use Rattle.tool_run.specs.declared.tool.Stop.TheVariants.{Refused as StopsRefused, Quiet as StopsQuietly, UsageError as StopsUntaken, Memory}
 use Rattle.tool_inputs.specs.Outcomes.{Manual, outcome}
@@ -93,7 +93,7 @@ replace_needs from to =
     ∷ record { name = None; limit = text_limit } ∷ []
 
 abbrev pub replace_task : ReadModes → Text → Text → Task
-replace_task modes from to = record { tool_name = icebram_name; needs = replace_needs from to; target = None; answer = icebram_answer modes }
+replace_task modes from to = plain_task icebram_name (replace_needs from to) None (icebram_answer modes)
 
 -- both files must be named
 abbrev pub replace_task_of : Bool → Option Text → Option Text → Task

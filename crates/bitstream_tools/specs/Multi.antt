@@ -7,7 +7,7 @@ use Rattle.boot_file.specs.declared.multi_fault.MultiFault.{MultiFault}
 use Rattle.boot_file.specs.BootFile.{boot_file}
 use Rattle.boot_file.specs.Refusals.{check_fault, join_fault}
 use Rattle.tool_run.specs.Needs.{IsSound, Need, need_of, text_of}
-use Rattle.tool_run.specs.Tasks.{Answer, Done, Refused, Task, at_once, usage_error}
+use Rattle.tool_run.specs.Tasks.{Answer, Done, Refused, Task, at_once, plain_task, usage_error}
 use Rattle.tool_inputs.specs.Outcomes.{Manual, outcome}
 use Rattle.tool_inputs.specs.Commands.{command, flag, has_flag, several, short_option, values_of}
 use Rattle.bitstream_tools.specs.declared.multi.MultiRequest.{MultiRequest}
@@ -75,7 +75,7 @@ image_need name = record { name = Some name; limit = text_limit }
 
 -- if the number of images or the options alone are a fault, it is refused before anything is read
 abbrev pub join_task : List Need → Options → Option Text → Option MultiFault → Task
-join_task images options output None = record { tool_name = icemulti_name; needs = images; target = output; answer = join_answer options }
+join_task images options output None = plain_task icemulti_name images output (join_answer options)
 join_task images options output (Some fault) = at_once icemulti_name None (Refused (multi_fault_text fault))
 
 abbrev pub icemulti_task_of : List Need → Option Text → Option Options → Task

@@ -8,7 +8,7 @@ use Rattle.boot_file.specs.declared.split_fault.SplitFault.{SplitFault}
 use Rattle.boot_file.specs.Meaning.{Boot, PlacedImage}
 use Rattle.boot_file.specs.Reading.{boot_read_of}
 use Rattle.tool_run.specs.Needs.{Need, text_of}
-use Rattle.tool_run.specs.Tasks.{Answer, Done, Refused, Task, usage_error}
+use Rattle.tool_run.specs.Tasks.{Answer, Done, Refused, Task, plain_task, usage_error}
 use Rattle.tool_inputs.specs.Outcomes.{Manual, outcome}
 use Rattle.tool_inputs.specs.Commands.{command, positional, required, short_option}
 use Rattle.bitstream_tools.specs.declared.split.SplitRequest.{SplitRequest}
@@ -83,7 +83,7 @@ abbrev pub split_needs : Text → List Need
 split_needs boot = record { name = Some boot; limit = boot_limit } ∷ []
 
 abbrev pub split_task : Option ℕ → Text → Option Text → Task
-split_task wanted boot output = record { tool_name = icesplit_name; needs = split_needs boot; target = output; answer = icesplit_answer wanted }
+split_task wanted boot output = plain_task icesplit_name (split_needs boot) output (icesplit_answer wanted)
 
 -- the number, if it is there, must be one, and there must be a boot file
 abbrev pub icesplit_task_of : Option (Option ℕ) → Option Text → Option Text → Task

@@ -6,8 +6,7 @@ ghost use Rattle.tool_run.specs.Needs.{text_of};
 ghost use Rattle.bitstream_tools.specs.Unpack.{iceunpack_command, iceunpack_outcome, unpack_task};
 
 use crate::reading::First;
-use crate::unpacking::unpacked_text;
-use asc_text::CanonicalText;
+use crate::unpacking::{Unpacked, unpacked_text};
 use bin_stream::Decoder;
 use clap::{ArgMatches, Command};
 use std::alloc::{AllocError, Global};
@@ -62,7 +61,7 @@ impl PieceTool for Unpack {
 
     type Intake = First<Decoder>;
 
-    type Made = CanonicalText;
+    type Made = Unpacked;
 
     ghost answer_of = { λ tool layout texts. unpack_answer layout texts };
 
@@ -91,7 +90,7 @@ impl PieceTool for Unpack {
         intake.is_open = false;
     }
 
-    fn finish(&self, alloc: Global, intake: First<Decoder>) -> Result<CanonicalText, Stop<'_>> {
+    fn finish(&self, alloc: Global, intake: First<Decoder>) -> Result<Unpacked, Stop<'_>> {
         unpacked_text(alloc, intake.reader)
     }
 }

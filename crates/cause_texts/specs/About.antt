@@ -78,6 +78,8 @@ about_modules word =
     else if bytes_eq word (codes "Pin") then Some texts.PIN.now
     else if bytes_eq word (codes "Syntax") then Some texts.SYNTAX.now
     else if bytes_eq word (codes "Undeclared") then Some texts.UNDECLARED.now
+    else if bytes_eq word (codes "Wire") then Some texts.WIRE.now
+    else if bytes_eq word (codes "WireTwice") then Some texts.WIRE_TWICE.now
     else None
 
 -- what a cause about explained text, differences, pin files or designs that aren't taken means

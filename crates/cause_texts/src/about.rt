@@ -103,6 +103,8 @@ pub fn about_modules(word: &str) -> Option<&'static str>
         "Pin" => Some(texts::PIN),
         "Syntax" => Some(texts::SYNTAX),
         "Undeclared" => Some(texts::UNDECLARED),
+        "Wire" => Some(texts::WIRE),
+        "WireTwice" => Some(texts::WIRE_TWICE),
         _ => None,
     }
 }

@@ -332,6 +332,15 @@ Form, in a list of events of vlogrun or vlogsweep:
     vlogrun: line 2: Form
   What to do:
     Write NAME 0 or NAME 1. There are no comments, and no values such as x.
+
+Form, in a list of names for wires:
+  The line isn't the name of a wire, blanks, and a name of printable ASCII
+  characters.
+  Example:
+    1 | n_2 lamp off
+    vlogrun: names line 1: Form
+  What to do:
+    Write WIRE NAME. There are no comments, and a name has no blank in it.
 ";
 
 pub const HEADER: &str = "\
@@ -440,6 +449,16 @@ NameTwice, in a chip database:
     icebox_explain: database line 5: NameTwice
   What to do:
     Take one of the two lines out: in a tile a name belongs to one net.
+
+NameTwice, in a list of names for wires:
+  An earlier line gives this name, or the module declares it: a port, a
+  register, a memory or a wire has it.
+  Example:
+    1 | n_2 lamp
+    2 | n_3 lamp
+    vlogrun: names line 2: NameTwice
+  What to do:
+    Give the wire another name.
 ";
 
 pub const NET_RANGE: &str = "\
@@ -958,6 +977,29 @@ Width, in a file of words that icebram reads:
     memory of twelve bits.
 ";
 
+pub const WIRE: &str = "\
+Wire, in a list of names for wires:
+  The module has no such wire. A port or a register is none.
+  Example:
+    1 | n_2 lamp
+    2 | n_4 clk
+    vlogrun: names line 2: Wire
+  What to do:
+    Take a wire that the module declares as wire, or the list that icebox_vlog
+    --names wrote with this module.
+";
+
+pub const WIRE_TWICE: &str = "\
+WireTwice, in a list of names for wires:
+  An earlier line names this wire.
+  Example:
+    1 | n_2 lamp
+    2 | n_2 led
+    vlogrun: names line 2: WireTwice
+  What to do:
+    Take one of the two lines out.
+";
+
 /// The words of all causes, a line each.
 pub const WORDS: &str = "\
 Address
@@ -1022,4 +1064,6 @@ UnknownCommand
 ValueLength
 ValuesTwice
 Width
+Wire
+WireTwice
 ";

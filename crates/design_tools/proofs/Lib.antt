@@ -8,3 +8,5 @@ mod FewNets
 mod Written
 -- the text that is written for a database and an image spells their fabric
 mod Fabric
+-- what is written for a database and an image that were read
+mod Sources

@@ -4,8 +4,8 @@ use Rattle.std.specs.Prelude.{Option, None, Some}
 use Rattle.plane_map.specs.declared.device.DeviceName.{DeviceName}
 use Rattle.ice_image.specs.Configuration.{Configuration}
 use Rattle.chipdb_reader.specs.Database.{Database}
+use Rattle.asc_text.specs.declared.file.Symbol.{Symbol}
 use Rattle.vlog_module.specs.Parts.{Parts}
-use Rattle.vlog_forms.specs.Printed.{printed}
 use Rattle.fabric_model.specs.declared.pin.Pin.{Pin}
 use Rattle.fabric_model.specs.declared.options.FabricOptions.{FabricOptions}
 use Rattle.fabric_model.specs.Fabric.{Fabric, fabric_with}
@@ -25,34 +25,36 @@ use Rattle.port_names.specs.Named.{named_module, port_pins}
 use Rattle.tool_run.specs.declared.tool.Stop.{Stop}
 use Rattle.tool_run.specs.declared.tool.Stop.TheVariants.{Refused, Quiet, UsageError, Memory}
 use Rattle.tool_run.specs.Stops.{StopsWith}
-use Rattle.tool_run.specs.Tasks.{Answer, Done, Refused as Refuses}
+use Rattle.tool_run.specs.Tasks.{Answer, Both, Refused as Refuses}
 use Rattle.design_answers.specs.Faults.{StopsFor, design_fault_text, told_fault}
 use Rattle.design_answers.proofs.Causes.{cause-told}
 use Rattle.design_tools.specs.Pins.{StopsForPins}
-use Rattle.design_tools.specs.Vlog.{module_with_names, named_where, named_with, written, written_module, written_named, written_with}
+use Rattle.design_tools.specs.Vlog.{both_texts, module_with_names, named_where, named_with, written, written_module, written_named, written_with}
 use Rattle.design_answers.proofs.Order.{order-is}
 
--- the text of the module of a design
-pub written_done : (name : List ℕ) (db : Database) (image : Configuration) (design : Kept) (m : Parts) (text : List ℕ) → IsDesignOf db image design
-    → m ≡ module_of (fabric_with design.parts.options db image) design.order name → text ≡ printed m → written design.parts.options name db image ≡ Done text
+-- the texts of the module of a design
+pub written_done : (name : List ℕ) (symbols : Option (List Symbol)) (db : Database) (image : Configuration) (design : Kept) (m : Parts) (text list : List ℕ) → IsDesignOf db image design
+    → m ≡ module_of (fabric_with design.parts.options db image) design.order name → both_texts symbols (fabric_with design.parts.options db image) m ≡ Both text list
+    → written design.parts.options name symbols db image ≡ Both text list
 unfolding written_module
-written_done name db image design m text is made shown =
+written_done name symbols db image design m text list is made shown =
     let fabric = fabric_with design.parts.options db image in
-    ap (written_with design.parts.options name db image) is.taken
-    ∙ sym (ap Done (shown ∙ ap printed (made ∙ ap (λ order. module_of fabric order name) (order-is (clocked_wiring fabric) design.order is.kept.order))))
+    ap (written_with design.parts.options name symbols db image) is.taken
+    ∙ ap (both_texts symbols fabric) (sym (made ∙ ap (λ order. module_of fabric order name) (order-is (clocked_wiring fabric) design.order is.kept.order)))
+    ∙ shown
 
--- the text of the module whose ports have the names of a pin file
-pub named_done : (named : List PinName) (name : List ℕ) (db : Database) (image : Configuration) (design : Kept) (own : List ℕ) (m : Parts) (text : List ℕ) → IsDesignOf db image design
-    → own ≡ name → m ≡ named_module named (fabric_with design.parts.options db image) design.order own → text ≡ printed m
-    → text ≡ printed (module_with_names named design.parts.options name db image)
+-- the texts of the module whose ports have the names of a pin file
+pub named_done : (named : List PinName) (name : List ℕ) (symbols : Option (List Symbol)) (db : Database) (image : Configuration) (design : Kept) (own : List ℕ) (m : Parts) (text list : List ℕ) → IsDesignOf db image design
+    → own ≡ name → m ≡ named_module named (fabric_with design.parts.options db image) design.order own → both_texts symbols (fabric_with design.parts.options db image) m ≡ Both text list
+    → both_texts symbols (fabric_with design.parts.options db image) (module_with_names named design.parts.options name db image) ≡ Both text list
 unfolding module_with_names
-named_done named name db image design own m text is same made shown =
+named_done named name symbols db image design own m text list is same made shown =
     let fabric = fabric_with design.parts.options db image in
-    shown ∙ ap printed (made ∙ ap₂ (named_module named fabric) (order-is (clocked_wiring fabric) design.order is.kept.order) same)
+    ap (both_texts symbols fabric) (sym (made ∙ ap₂ (named_module named fabric) (order-is (clocked_wiring fabric) design.order is.kept.order) same)) ∙ shown
 
 -- ---- a pin file
 
-module _ (name : List ℕ) (chosen : Package) (pins : List ℕ) (db : Database) (image : Configuration) (design : Kept) (is : IsDesignOf db image design) where
+module _ (name : List ℕ) (symbols : Option (List Symbol)) (chosen : Package) (pins : List ℕ) (db : Database) (image : Configuration) (design : Kept) (is : IsDesignOf db image design) where
   abbrev options : FabricOptions
   options = design.parts.options
 
@@ -60,21 +62,21 @@ module _ (name : List ℕ) (chosen : Package) (pins : List ℕ) (db : Database) 
   abbrev given : List PinName
   given = ports_of chosen (port_pins design.parts.pins.items) pins
 
-  fault-is : (fault : Option PinFileFault) → pin_fault_of chosen pins ≡ fault → written_named options name chosen pins db image ≡ named_with options name given db image fault
+  fault-is : (fault : Option PinFileFault) → pin_fault_of chosen pins ≡ fault → written_named options name symbols chosen pins db image ≡ named_with options name symbols given db image fault
   fault-is fault told =
-      ap (named_where options name chosen pins db image) is.taken
-      ∙ ap (λ (list : List Pin). named_with options name (ports_of chosen (port_pins list) pins) db image (pin_fault_of chosen pins)) (sym is.kept.parts.pins)
-      ∙ ap (named_with options name given db image) told
+      ap (named_where options name symbols chosen pins db image) is.taken
+      ∙ ap (λ (list : List Pin). named_with options name symbols (ports_of chosen (port_pins list) pins) db image (pin_fault_of chosen pins)) (sym is.kept.parts.pins)
+      ∙ ap (named_with options name symbols given db image) told
 
-  -- the text of the module whose ports have its names
-  pub accepted_done : (named : List PinName) (bytes : List ℕ) → pin_fault_of chosen pins ≡ None → named ≡ given
-      → bytes ≡ printed (module_with_names named options name db image) → written_named options name chosen pins db image ≡ Done bytes
-  accepted_done named bytes none are shown =
-      fault-is None none ∙ ap Done (sym (shown ∙ ap (λ (ports : List PinName). printed (module_with_names ports options name db image)) are))
+  -- the texts of the module whose ports have its names
+  pub accepted_done : (named : List PinName) (text list : List ℕ) → pin_fault_of chosen pins ≡ None → named ≡ given
+      → both_texts symbols (fabric_with options db image) (module_with_names named options name db image) ≡ Both text list → written_named options name symbols chosen pins db image ≡ Both text list
+  accepted_done named text list none are shown =
+      fault-is None none ∙ ap (λ (ports : List PinName). both_texts symbols (fabric_with options db image) (module_with_names ports options name db image)) (sym are) ∙ shown
 
   -- a tool that tells its fault stops as it has to
   pub pins_stop : (fault : PinFileFault) (stop : Stop) → Tells (pin_fault_of chosen pins) fault → StopsForPins fault stop
-      → StopsWith (written_named options name chosen pins db image) stop
+      → StopsWith (written_named options name symbols chosen pins db image) stop
   pins_stop (At line cause) stop tells stops = subst (λ (answer : Answer). StopsWith answer stop) (sym (fault-is (Some (At line cause)) tells)) stops
   pins_stop (OutOfMemory failed) stop tells stops = rw stops tt
 
@@ -96,10 +98,10 @@ module _ (answer : Option Fault → Answer) (refuses : (fault : Fault) → answe
       → IsCause device fabric cause fault → StopsFor (told_fault fault) stop → StopsWith (answer cause) stop
   stops-caused device fabric cause fault stop is stops = stops-told cause (told_fault fault) stop (λ one told. cause-told device fabric cause fault one is told) stops
 
-pub stops_design : (options : FabricOptions) (name : List ℕ) (db : Database) (image : Configuration) (device : DeviceName) (fabric : Fabric) (cause : Option Fault) (fault : FabricFault) (stop : Stop)
-    → IsCause device fabric cause fault → StopsFor (told_fault fault) stop → StopsWith (written_with options name db image cause) stop
-stops_design options name db image = stops-caused (written_with options name db image) (λ fault. refl)
+pub stops_design : (options : FabricOptions) (name : List ℕ) (symbols : Option (List Symbol)) (db : Database) (image : Configuration) (device : DeviceName) (fabric : Fabric) (cause : Option Fault) (fault : FabricFault) (stop : Stop)
+    → IsCause device fabric cause fault → StopsFor (told_fault fault) stop → StopsWith (written_with options name symbols db image cause) stop
+stops_design options name symbols db image = stops-caused (written_with options name symbols db image) (λ fault. refl)
 
-pub stops_named : (options : FabricOptions) (name : List ℕ) (chosen : Package) (pins : List ℕ) (db : Database) (image : Configuration) (device : DeviceName) (fabric : Fabric) (cause : Option Fault)
-    (fault : FabricFault) (stop : Stop) → IsCause device fabric cause fault → StopsFor (told_fault fault) stop → StopsWith (named_where options name chosen pins db image cause) stop
-stops_named options name chosen pins db image = stops-caused (named_where options name chosen pins db image) (λ fault. refl)
+pub stops_named : (options : FabricOptions) (name : List ℕ) (symbols : Option (List Symbol)) (chosen : Package) (pins : List ℕ) (db : Database) (image : Configuration) (device : DeviceName) (fabric : Fabric) (cause : Option Fault)
+    (fault : FabricFault) (stop : Stop) → IsCause device fabric cause fault → StopsFor (told_fault fault) stop → StopsWith (named_where options name symbols chosen pins db image cause) stop
+stops_named options name symbols chosen pins db image = stops-caused (named_where options name symbols chosen pins db image) (λ fault. refl)

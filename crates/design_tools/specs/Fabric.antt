@@ -7,6 +7,8 @@ use Rattle.tool_inputs.specs.Layouts.{layouts_for}
 use Rattle.ice_image.specs.Configuration.{Configuration}
 use Rattle.chipdb_reader.specs.Database.{Database}
 use Rattle.vlog_forms.specs.Items.{IsSpelling}
+use Rattle.vlog_module.specs.Parts.{Parts}
+use Rattle.wire_names.specs.Faults.{names_fault_of}
 use Rattle.vlog_run.specs.Events.{events_of}
 use Rattle.vlog_semantics.specs.Run.{module_run}
 use Rattle.vlog_run.specs.Text.{run_text}
@@ -22,6 +24,7 @@ use Rattle.pin_file.specs.Faults.{pin_fault_of, ports_of}
 use Rattle.pin_file.specs.Packages.{Package, package_of}
 use Rattle.port_names.specs.Named.{named_ports, port_pins}
 use Rattle.port_names.specs.Matching.{MatchesNamed}
+use Rattle.tool_run.specs.Effects.{Delivers, with_beside}
 use Rattle.tool_run.specs.Runs.{Outside, Scene}
 use Rattle.tool_run.specs.Tasks.{asks_for_help}
 use Rattle.tool_inputs.specs.Appended.{AppendsFor, UnderLayout}
@@ -86,6 +89,10 @@ pub record WritesFabric (options : FabricOptions) (package_name : Option (List �
   pub faultless : HasNoPinFault package_name texts
   pub spells : SpellsFabric (names_given package_name texts (fabric_meant options db image).pins) (fabric_meant options db image) bytes
 
+-- These bytes are the module, and a list of names for its wires, which was made with it, has no fault. So `vlogrun` takes both together.
+abbrev pub NamesWires : List ℕ → List ℕ → Type 0
+NamesWires bytes list = (m : Parts) → IsSpelling bytes m → names_fault_of m list ≡ None
+
 -- the name of the layout file, if the arguments of `icebox_vlog` name one
 abbrev pub layout_given : List (List ℕ) → Option (List ℕ)
 layout_given args = first_of (codes "layout") (matches_of vlog_command args)
@@ -106,3 +113,16 @@ abbrev pub PromisesFabric : {F I O E : Type 0} → Outside F I O E → List (Lis
 PromisesFabric by args status old new =
     status ≡ 0 → asks_for_help args ≡ false
     → AppendsFor by (UnderLayout (layout_given args) (WritesFabric (options_given args) (package_given args))) (vlog_outcome args) old new
+
+-- the file for the list of names, if the arguments name one
+abbrev pub list_given : List (List ℕ) → Option (List ℕ)
+list_given args = first_of (codes "names") (matches_of vlog_command args)
+
+-- If a run of `icebox_vlog` with these arguments has status 0, and isn't asked for help, then it stored a list of names in the file for it,
+-- if the arguments name one, and the list has no fault for the module that it appended to standard output.
+abbrev pub PromisesNames : {F I O E : Type 0} → Outside F I O E → List (List ℕ) → ℕ → Scene F I O E → Scene F I O E → Type 0
+PromisesNames by args status old new =
+    status ≡ 0 → asks_for_help args ≡ false
+    → (bytes : List ℕ) × (list : List ℕ)
+    × Delivers None bytes (with_beside (by.contents old.files) (list_given args) list) (by.contents new.files) (by.held old.output) (by.held new.output)
+    × NamesWires bytes list

@@ -10,14 +10,14 @@ pub vlog-simple : is_simple_and_free vlog_command ≡ true
 unfolding clap_on_literals
 vlog-simple = refl
 
-of-speaks : (options : FabricOptions) (name : Option Text) (pins : Option (Option Named)) (layout db image : Option Text) → (vlog_task_of options name pins layout db image).tool_name ≡ vlog_name
-of-speaks options (Some name) (Some (Some pins)) layout (Some db) image = refl
-of-speaks options (Some name) (Some None) layout (Some db) image = refl
-of-speaks options (Some name) (Some pins) layout None image = refl
-of-speaks options (Some name) None layout db image = refl
-of-speaks options None pins layout db image = refl
+of-speaks : (options : FabricOptions) (name : Option Text) (pins : Option (Option Named)) (names layout db image : Option Text) → (vlog_task_of options name pins names layout db image).tool_name ≡ vlog_name
+of-speaks options (Some name) (Some (Some pins)) names layout (Some db) image = refl
+of-speaks options (Some name) (Some None) names layout (Some db) image = refl
+of-speaks options (Some name) (Some pins) names layout None image = refl
+of-speaks options (Some name) None names layout db image = refl
+of-speaks options None pins names layout db image = refl
 
 pub vlog-speaks : (rows : List Row) → (vlog_task_by rows).tool_name ≡ vlog_name
 vlog-speaks rows =
-    of-speaks (options_in rows) (name_given (first_of (codes "name") rows)) (pins_in rows) (first_of (codes "layout") rows)
+    of-speaks (options_in rows) (name_given (first_of (codes "name") rows)) (pins_in rows) (first_of (codes "names") rows) (first_of (codes "layout") rows)
     (first_of (codes "db") rows) (first_of (codes "image") rows)

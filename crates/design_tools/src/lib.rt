@@ -8,6 +8,7 @@ mod name;
 mod named_intake;
 mod naming;
 mod request;
+mod source;
 mod writing;
 
 pub use request::{ICEBOX_VLOG_HELP, ICEBOX_VLOG_USAGE};

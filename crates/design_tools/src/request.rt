@@ -13,14 +13,14 @@ use tool_inputs::{has_flag, long_flag, long_option, positional, short_option, va
 
 /// The command line of `icebox_vlog`.
 pub const ICEBOX_VLOG_USAGE: &str =
-    "icebox_vlog [-n NAME] [-p PCF -d PACKAGE] [--used-inputs] [--all-pins] [--register-clocks] [--layout FILE] DB [IMAGE]";
+    "icebox_vlog [-n NAME] [-p PCF -d PACKAGE] [--names FILE] [--used-inputs] [--all-pins] [--register-clocks] [--layout FILE] DB [IMAGE]";
 
 /// The help of `icebox_vlog`, at most 80 columns wide.
 pub const ICEBOX_VLOG_HELP: &str = "\
 icebox_vlog: writes the design of an image as a module in a subset of Verilog.
 
-Usage: icebox_vlog [-n NAME] [-p PCF -d PACKAGE] [--used-inputs] [--all-pins]
-                   [--register-clocks] [--layout FILE] DB [IMAGE]
+Usage: icebox_vlog [-n NAME] [-p PCF -d PACKAGE] [--names FILE] [--used-inputs]
+                   [--all-pins] [--register-clocks] [--layout FILE] DB [IMAGE]
 
   DB        the chip database of the image's device
   IMAGE     a bitstream (.bin) or a text (.asc); standard input if it is missing
@@ -28,6 +28,9 @@ Usage: icebox_vlog [-n NAME] [-p PCF -d PACKAGE] [--used-inputs] [--all-pins]
   -p PCF    the pin file: ports get its names
   -d PACKAGE
             the package whose pins it names, as tq144 or ct256
+  --names FILE
+            writes the names that IMAGE, a text, gives to nets to FILE, as names
+            of wires, for vlogrun --vcd --names
   --used-inputs
             LUTs read only the inputs that they use, so more designs are taken
   --all-pins
@@ -85,10 +88,18 @@ are passed over. A pin file with a fault is refused, and told by its first
 faulty line: Statement, another statement; Package or Pin, the database has no
 such package, or the package no such pin.
 
-Example: icebox_vlog -n blink chipdb-1k.txt blink.asc >blink.v
+With --names a list of names goes to FILE before the module is written: a line
+`n_K NAME` for each wire that gets a name. The names are those of the lines
+.sym of IMAGE, in their order. A wire gets the first whose net is its own, and
+that is one or more printable characters without spaces, that the module doesn't
+declare and that no other wire has. A bitstream has no such lines, so its list
+is empty.
 
-Limits: a database has at most 268435456 bytes, an image 16777216, FILE 65536,
-PCF 1048576.
+Examples: icebox_vlog -n blink chipdb-1k.txt blink.asc >blink.v
+          icebox_vlog --names blink.names chipdb-1k.txt blink.asc >blink.v
+
+Limits: a database has at most 268435456 bytes, an image 16777216, a layout file
+65536, PCF 1048576.
 
 A layout, a database or an image with a fault is refused, and told by the first
 fault. A design is refused for these causes, looked for in this order:
@@ -140,11 +151,13 @@ pub(crate) struct PinRequest<'a> {
     pub(crate) package_name: &'a str,
 }
 
-/// What the arguments ask for: the name of the module, a pin file, the options, a layout file, a database and an image.
+/// What the arguments ask for: the name of the module, a pin file, a file for the list of names, the options, a layout file, a database and an
+/// image.
 #[derive(Clone, Copy)]
 pub(crate) struct Request<'a> {
     pub(crate) name: ModuleName<'a>,
     pub(crate) pins: Option<PinRequest<'a>>,
+    pub(crate) names: Option<&'a str>,
     pub(crate) options: FabricOptions,
     pub(crate) layout: Option<&'a str>,
     pub(crate) db: &'a str,
@@ -159,6 +172,7 @@ pub(crate) fn command<'a>(alloc: Global) -> Result<Command<'a>, AllocError>
     let command = with(command, short_option(alloc, "name", 'n'))?;
     let command = with(command, short_option(alloc, "pins", 'p'))?;
     let command = with(command, short_option(alloc, "package", 'd'))?;
+    let command = with(command, long_option(alloc, "names"))?;
     let command = with(command, long_flag(alloc, "used-inputs"))?;
     let command = with(command, long_flag(alloc, "all-pins"))?;
     let command = with(command, long_flag(alloc, "register-clocks"))?;
@@ -207,16 +221,18 @@ fn wanted<'a>(
     options: FabricOptions,
     name: Option<ModuleName<'a>>,
     pins: Option<Option<PinRequest<'a>>>,
+    names: Option<&'a str>,
     layout: Option<&'a str>,
     db: Option<&'a str>,
     image: Option<&'a str>,
 ) -> Option<Request<'a>>
-    ensures { vlog_task_for result ≡ vlog_task_of options (name_text name.entry) (option_map pins_of_request pins.entry) (text_of layout.entry) (text_of db.entry) (text_of image.entry) }
+    ensures { vlog_task_for result ≡ vlog_task_of options (name_text name.entry) (option_map pins_of_request pins.entry) (text_of names.entry) (text_of layout.entry) (text_of db.entry) (text_of image.entry) }
 {
     match (name, pins, db) {
         (Some(name), Some(pins), Some(db)) => Some(Request {
             name,
             pins,
+            names,
             options,
             layout,
             db,
@@ -239,8 +255,9 @@ pub(crate) fn request_in<'a>(matches: &ArgMatches<'a>) -> Option<Request<'a>>
     let file = value(matches, "pins");
     let package_name = value(matches, "package");
     let pins = pins_wanted(file, package_name);
+    let names = value(matches, "names");
     let layout = value(matches, "layout");
     let db = value(matches, "db");
     let image = value(matches, "image");
-    wanted(options, name, pins, layout, db, image)
+    wanted(options, name, pins, names, layout, db, image)
 }

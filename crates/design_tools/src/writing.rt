@@ -8,33 +8,35 @@ ghost use Rattle.vlog_module.specs.Names.{IsName};
 ghost use Rattle.fabric.specs.Design.{IsDesignOf};
 ghost use Rattle.tool_run.specs.Runs.{Does};
 ghost use Rattle.tool_run.specs.Stops.{StopsWith};
-ghost use Rattle.tool_run.specs.Tasks.{Done};
+ghost use Rattle.tool_run.specs.Tasks.{Both};
 ghost use Rattle.tool_inputs.specs.DesignInput.{TakesInput};
-ghost use Rattle.design_tools.specs.Fabric.{PromisesFabric};
+ghost use Rattle.design_tools.specs.Fabric.{PromisesFabric, PromisesNames};
+ghost use Rattle.design_tools.specs.Sources.{symbols_in};
 ghost use Rattle.design_tools.specs.Vlog.{vlog_answer, vlog_outcome, vlog_task_for, write_task, written};
 ghost use Rattle.tool_run.specs.Needs.{text_of};
 
 use crate::name::ModuleName;
 use crate::naming::write_named;
 use crate::request::{ICEBOX_VLOG_HELP, ICEBOX_VLOG_USAGE, Request, command, request_in};
-use chipdb_reader::ChipDb;
+use crate::source::{DesignSource, both_texts, read_source};
+use asc_text::Symbol;
 use clap::{ArgMatches, Command};
 use design_answers::design_stop;
 use fabric::{Design, design_with};
 use fabric_model::FabricOptions;
-use ice_image::AnyImage;
 use std::alloc::{AllocError, Global};
 use tool_inputs::{CommandLine, DB_LIMIT, DesignInput, IMAGE_LIMIT, Words, run_tool};
-use tool_run::{Host, Job, Load, PieceTool, Stop};
+use tool_run::{Host, Job, Load, PieceTool, Stop, WithFile};
 use vlog_emit::emit;
-use vlog_parser::print;
 
-/// Writes the module of a database and an image under a name. The options are those of the design. The image is read under the layouts of
-/// the layout file, if one is named.
+/// Writes the module of a database and an image under a name, and a list of names for its wires. The options are those of the design. The
+/// image is read under the layouts of the layout file, if one is named.
 #[derive(Clone, Copy, Debug, PartialEq, Eq)]
 pub(crate) struct Writing<'a> {
     pub(crate) options: FabricOptions,
     pub(crate) name: ModuleName<'a>,
+    /// Whether a list of names for the wires is asked for.
+    pub(crate) has_list: bool,
 }
 
 impl<'a> PieceTool for Writing<'a> {
@@ -43,9 +45,9 @@ impl<'a> PieceTool for Writing<'a> {
 
     type Intake = DesignInput;
 
-    type Made = Vec<u8>;
+    type Made = WithFile<Vec<u8>>;
 
-    ghost answer_of = { λ tool layout texts. vlog_answer tool.options layout tool.name.text.now texts };
+    ghost answer_of = { λ tool layout texts. vlog_answer tool.options layout tool.name.text.now tool.has_list texts };
 
     ghost takes = { λ tool layout texts intake bytes. TakesInput layout texts intake bytes };
 
@@ -63,61 +65,73 @@ impl<'a> PieceTool for Writing<'a> {
         intake.close();
     }
 
-    fn finish(&self, alloc: Global, intake: DesignInput) -> Result<Vec<u8>, Stop<'_>> {
-        written_after(alloc, self.options, self.name.text.as_bytes(), intake)
+    fn finish(&self, alloc: Global, intake: DesignInput) -> Result<WithFile<Vec<u8>>, Stop<'_>> {
+        written_after(
+            alloc,
+            self.options,
+            self.name.text.as_bytes(),
+            self.has_list,
+            intake,
+        )
     }
 }
 
-// The module of the database and the image. Called after the last piece of the image.
+// The module of the database and the image, and the list of names. Called after the last piece of the image.
 fn written_after(
     alloc: Global,
     options: FabricOptions,
     name: &[u8],
+    has_list: bool,
     intake: DesignInput,
-) -> Result<Vec<u8>, Stop<'static>>
+) -> Result<WithFile<Vec<u8>>, Stop<'static>>
     requires { IsName name.now }
-    ensures bytes { IfOk result (λ bytes. (layout : Option (List ℕ)) (texts : List (List ℕ)) → TakesInput layout texts intake []
-        → vlog_answer options layout name.now texts ≡ Done bytes.items) }
+    ensures bytes { IfOk result (λ made. (layout : Option (List ℕ)) (texts : List (List ℕ)) → TakesInput layout texts intake []
+        → vlog_answer options layout name.now has_list texts ≡ Both made.target.items made.beside.items) }
     ensures stops { IfErr result (λ stop. (layout : Option (List ℕ)) (texts : List (List ℕ)) → TakesInput layout texts intake []
-        → StopsWith (vlog_answer options layout name.now texts) stop) }
+        → StopsWith (vlog_answer options layout name.now has_list texts) stop) }
 {
-    match intake.read(alloc) {
-        Ok((db, image)) => text_of(alloc, &db, &image, options, name),
+    match read_source(alloc, intake, has_list) {
+        Ok(source) => texts_of(alloc, &source, options, name),
         Err(stop) => Err(stop),
     }
 }
 
-// The module of a database and an image.
+// The module of a database and an image, and the list of names.
 #[tactic(auto, using(crate::proofs::Written::stops_design))]
-fn text_of(
+fn texts_of(
     alloc: Global,
-    db: &ChipDb,
-    image: &AnyImage,
+    source: &DesignSource,
     options: FabricOptions,
     name: &[u8],
-) -> Result<Vec<u8>, Stop<'static>>
+) -> Result<WithFile<Vec<u8>>, Stop<'static>>
     requires { IsName name.now }
-    ensures bytes { IfOk result (λ bytes. written options name.now (database_in db.now) (configuration_of image.now) ≡ Done bytes.items) }
-    ensures stops { IfErr result (StopsWith (written options name.now (database_in db.now) (configuration_of image.now))) }
+    ensures bytes { IfOk result (λ made. written options name.now (symbols_in source.now.symbols) (database_in source.now.db) (configuration_of source.now.image) ≡ Both made.target.items made.beside.items) }
+    ensures stops { IfErr result (StopsWith (written options name.now (symbols_in source.now.symbols) (database_in source.now.db) (configuration_of source.now.image))) }
 {
-    match design_with(alloc, db, image, options) {
-        Ok(design) => Ok(module_text(alloc, &design, name)?),
+    match design_with(alloc, &source.db, &source.image, options) {
+        Ok(design) => Ok(design_texts(alloc, &design, name, &source.symbols)?),
         Err(fault) => Err(design_stop(&fault)),
     }
 }
 
-// The text of the module of a design.
-fn module_text(alloc: Global, design: &Design, name: &[u8]) -> Result<Vec<u8>, AllocError>
+// The text of the module of a design, and the list of names.
+fn design_texts(
+    alloc: Global,
+    design: &Design,
+    name: &[u8],
+    symbols: &Option<Vec<Symbol>>,
+) -> Result<WithFile<Vec<u8>>, AllocError>
     requires { IsName name.now }
-    ensures { IfOk result (λ text. (db : Database) (image : Configuration) → IsDesignOf db image design.now → written design.now.parts.options name.now db image ≡ Done text.items) }
+    ensures { IfOk result (λ made. (db : Database) (image : Configuration) → IsDesignOf db image design.now
+        → written design.now.parts.options name.now (symbols_in symbols.now) db image ≡ Both made.target.items made.beside.items) }
 {
     let module = emit(alloc, design, name)?;
-    print(alloc, &module)
+    both_texts(alloc, design, &module, symbols)
 }
 
 // Does a request without a pin file: loads its files and writes the module.
 fn write_plain<H: Host>(alloc: Global, request: Request<'_>, host: &mut H) -> u8
-    ensures { Does H.outside (write_task request.entry.options request.entry.name.text.now (text_of request.entry.layout) request.entry.db.now (text_of request.entry.image)) result (H.scene host.old) (H.scene host.new) }
+    ensures { Does H.outside (write_task request.entry.options request.entry.name.text.now (text_of request.entry.names) (text_of request.entry.layout) request.entry.db.now (text_of request.entry.image)) result (H.scene host.old) (H.scene host.new) }
 {
     let loads = [
         Load {
@@ -132,13 +146,14 @@ fn write_plain<H: Host>(alloc: Global, request: Request<'_>, host: &mut H) -> u8
     let tool = Writing {
         options: request.options,
         name: request.name,
+        has_list: request.names.is_some(),
     };
     let job = Job {
         tool_name: "icebox_vlog",
         loads: &loads,
         target: None,
     };
-    host.perform_in_pieces(alloc, &tool, request.layout, &job)
+    host.perform_beside(alloc, &tool, request.layout, &job, request.names)
 }
 
 // Does a request: loads its files and writes the module.
@@ -191,6 +206,7 @@ impl CommandLine for IceboxVlog {
 /// Runs `icebox_vlog` with these arguments, the first of which is its name, and answers the exit status.
 pub fn run_icebox_vlog<H: Host>(alloc: Global, args: &[String], host: &mut H) -> u8
     ensures does { Does H.outside (vlog_outcome (map string_bytes args.now)) result (H.scene host.old) (H.scene host.new) }
+    ensures names { PromisesNames H.outside (map string_bytes args.now) result (H.scene host.old) (H.scene host.new) }
     ensures fabric { PromisesFabric H.outside (map string_bytes args.now) result (H.scene host.old) (H.scene host.new) }
 {
     run_tool(alloc, &IceboxVlog, args, host)

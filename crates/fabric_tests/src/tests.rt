@@ -28,7 +28,7 @@ use fabric_model::{
 use fabric_parts::{cells as find_cells, pins as find_pins, rams as find_rams};
 use fabric_wiring::{ClockEnd, Output};
 use ice_image::AnyImage;
-use modules::is_printed;
+use modules::{are_named, is_printed};
 use plane_map::Place;
 use sample_images::{SampleBit, database, image_with, set_bits, set_extras};
 use std::alloc::Global;
@@ -92,6 +92,8 @@ enum Gives<'a> {
     Calls,
     /// A design whose module has this text.
     Module(&'a str),
+    /// A design for whose wires the symbols of the text give this list of names.
+    Names(&'a str),
     /// A design whose classes of joined nets are written in this order. The register of the class is the clock of the net.
     Clocked {
         order: &'a [u32],
@@ -200,6 +202,7 @@ fn has_parts(alloc: Global, design: &Design, gives: Gives) -> bool {
             design.order() == order && is_clocked(design, net, class)
         }
         Gives::Module(text) => is_printed(alloc, design, text) == Ok(true),
+        Gives::Names(list) => are_named(alloc, design, list) == Ok(true),
         _ => false,
     }
 }

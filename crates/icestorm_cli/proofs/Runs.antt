@@ -1,6 +1,6 @@
 -- What a run of `vlogrun` appends if its text spells the module of a design.
 use Rattle.std.proofs.Common.{◌≡◌, ◌∙◌, ℕ, Bool, true, false, List, [], codes, refl, sym, ap, subst}
-use Rattle.std.specs.Prelude.{Option, Some, None, get_or, if◌then◌else◌}
+use Rattle.std.specs.Prelude.{Option, Some, None, get_or, if◌then◌else◌, is_some}
 use Rattle.clap.specs.Words.{Text, first_of, matches_of}
 use Rattle.ice_image.specs.Configuration.{Configuration}
 use Rattle.chipdb_reader.specs.Database.{Database}
@@ -20,35 +20,35 @@ use Rattle.pin_file.specs.declared.pin_name.PinName.{PinName}
 use Rattle.port_names.specs.Named.{named_input, named_module, named_output}
 use Rattle.port_names.proofs.IsFabric.{named-is-fabric}
 use Rattle.tool_run.specs.Runs.{Does, Outside, Scene}
-use Rattle.tool_run.specs.Tasks.{Done, Task, usage_error}
+use Rattle.tool_run.specs.Tasks.{Both, Done, Task, usage_error}
 use Rattle.tool_inputs.specs.Commands.{is_taken}
 use Rattle.tool_inputs.specs.Outcomes.{asked}
 use Rattle.tool_inputs.proofs.Appended.{helped-kept}
 use Rattle.tool_inputs.proofs.CommandLines.{helped-no}
 use Rattle.module_tools.specs.declared.request.TheConstants.{VLOGRUN_HELP}
 use Rattle.module_tools.specs.declared.told.Told.{Told}
-use Rattle.module_tools.specs.declared.told.Told.TheVariants.{Lines}
-use Rattle.module_tools.specs.Vlogrun.{run_of, run_over, told_by, vlogrun, vlogrun_command, vlogrun_name, vlogrun_outcome, vlogrun_task_by, vlogrun_task_of, vlogrun_usage}
+use Rattle.module_tools.specs.declared.told.Told.TheVariants.{Lines, Waves}
+use Rattle.module_tools.specs.Vlogrun.{list_in, run_of, run_over, task_for, told_by, told_in, vlogrun, vlogrun_command, vlogrun_name, vlogrun_outcome, vlogrun_task_by, vlogrun_task_of, vlogrun_usage}
 use Rattle.design_answers.specs.Lines.{fabric_events, fabric_text}
 use Rattle.design_answers.proofs.Lines.{run-shown}
 use Rattle.icestorm_cli.specs.Runs.{IsModuleOf, PromisesRun, RunsFabric, fabric_for, ports_with, shows_registers, tells_waves}
 
 -- ---- the lines
 
-done-same : (one other : List ℕ) → Done one ≡ Done other → one ≡ other
-done-same one other same = cc
+done-same : (one other beside : List ℕ) → Done one ≡ Both other beside → one ≡ other
+done-same one other beside same = cc
 
 -- what is written if the events have no fault
-over-done : (registers : Bool) (m : Parts) (events lines : List ℕ) (fault : Option EventFault) → run_over (Lines registers) m events fault ≡ Done lines
+over-done : (registers : Bool) (m : Parts) (events lines beside : List ℕ) (fault : Option EventFault) → run_over (Lines registers) [] m events fault ≡ Both lines beside
     → lines ≡ run_text m (events_of m.ports events) registers
-over-done registers m events lines None is = sym (done-same _ _ is)
-over-done registers m events lines (Some fault) is = absurd cc
+over-done registers m events lines beside None is = sym (done-same _ _ _ is)
+over-done registers m events lines beside (Some fault) is = absurd cc
 
 -- what is written for a text that spells a module
-spelled-done : (registers : Bool) (m : Parts) (text events lines : List ℕ) → IsSpelling text m → run_of (Lines registers) (outcome_of text) events ≡ Done lines
+spelled-done : (registers : Bool) (m : Parts) (text events lines beside : List ℕ) → IsSpelling text m → run_of (Lines registers) (outcome_of text) events ≡ Both lines beside
     → lines ≡ run_text m (events_of m.ports events) registers
-spelled-done registers m text events lines spells done =
-    over-done registers m events lines (event_fault m.ports events) (sym (ap (λ outcome. run_of (Lines registers) outcome events) (outcome-spelled text m spells)) ∙ done)
+spelled-done registers m text events lines beside spells done =
+    over-done registers m events lines beside (event_fault m.ports events) (sym (ap (λ outcome. run_of (Lines registers) outcome events) (outcome-spelled text m spells)) ∙ done)
 
 -- the lines for the module of a design
 own-shown : (db : Database) (image : Configuration) (m : Parts) (is : IsModuleOf None db image m) → (registers : Bool) (events : List ℕ) (entries : List Entry)
@@ -83,18 +83,24 @@ module-shown (Some named) = named-shown named
 
 -- what a task makes of texts
 abbrev TaskRuns : Bool → Task → Type 0
-TaskRuns registers task = (texts : List (List ℕ)) (bytes : List ℕ) → task.answer texts ≡ Done bytes → RunsFabric registers texts bytes
+TaskRuns registers task = (texts : List (List ℕ)) (bytes beside : List ℕ) → task.answer texts ≡ Both bytes beside → RunsFabric registers texts bytes
 
-task-of : (registers waves : Bool) (text events : Option Text) → waves ≡ false → TaskRuns registers (vlogrun_task_of (told_by registers waves) text events)
-task-of registers false (Some text) events untold = λ texts bytes done names db image m is spells entries run.
-    spelled-done registers m (get_or texts 0 []) (get_or texts 1 []) bytes spells done ∙ module-shown names db image m is registers (get_or texts 1 []) entries run
-task-of registers false None events untold = λ texts bytes done. absurd cc
-task-of registers true text events untold = absurd cc
+task-of : (registers waves : Bool) (list text events : Option Text) → waves ≡ false → TaskRuns registers (vlogrun_task_of (told_by registers waves (is_some list)) list text events)
+task-of registers false None (Some text) events untold = λ texts bytes beside done names db image m is spells entries run.
+    spelled-done registers m (get_or texts 0 []) (get_or texts 1 []) bytes beside spells done ∙ module-shown names db image m is registers (get_or texts 1 []) entries run
+task-of registers false None None events untold = λ texts bytes beside done. absurd cc
+task-of registers false (Some list) text events untold = λ texts bytes beside done. absurd cc
+task-of registers true list text events untold = absurd cc
 
-target-of : (told : Option Told) (text events : Option Text) → (vlogrun_task_of told text events).target ≡ None
-target-of (Some told) (Some text) events = refl
-target-of (Some told) None events = refl
-target-of None text events = refl
+for-target : (told : Told) (list : Option Text) (text : Text) (events : Option Text) → (task_for told list text events).target ≡ None
+for-target Waves (Some list) text events = refl
+for-target Waves None text events = refl
+for-target (Lines registers) list text events = refl
+
+target-of : (told : Option Told) (list text events : Option Text) → (vlogrun_task_of told list text events).target ≡ None
+target-of (Some told) list (Some text) events = for-target told list text events
+target-of (Some told) list None events = refl
+target-of None list text events = refl
 
 module _ (args : List Text) where
   task-runs : tells_waves args ≡ false → TaskRuns (shows_registers args) (asked vlogrun args)
@@ -103,8 +109,9 @@ module _ (args : List Text) where
     where
       by_case : (taken : Bool) → TaskRuns (shows_registers args) (if taken then vlogrun_task_by (matches_of vlogrun_command args) else usage_error vlogrun_name vlogrun_usage)
       by_case true =
-          task-of (shows_registers args) (tells_waves args) (first_of (codes "module") (matches_of vlogrun_command args)) (first_of (codes "events") (matches_of vlogrun_command args)) untold
-      by_case false = λ texts bytes done. absurd cc
+          task-of (shows_registers args) (tells_waves args) (list_in (matches_of vlogrun_command args)) (first_of (codes "module") (matches_of vlogrun_command args))
+          (first_of (codes "events") (matches_of vlogrun_command args)) untold
+      by_case false = λ texts bytes beside done. absurd cc
 
   -- the lines go to standard output
   task-target : (asked vlogrun args).target ≡ None
@@ -113,7 +120,8 @@ module _ (args : List Text) where
     where
       by_case : (taken : Bool) → (if taken then vlogrun_task_by (matches_of vlogrun_command args) else usage_error vlogrun_name vlogrun_usage).target ≡ None
       by_case true =
-          target-of (told_by (shows_registers args) (tells_waves args)) (first_of (codes "module") (matches_of vlogrun_command args)) (first_of (codes "events") (matches_of vlogrun_command args))
+          target-of (told_in (matches_of vlogrun_command args)) (list_in (matches_of vlogrun_command args)) (first_of (codes "module") (matches_of vlogrun_command args))
+          (first_of (codes "events") (matches_of vlogrun_command args))
       by_case false = refl
 
   pub run-kept : {F I O E : Type 0} (by : Outside F I O E) (status : ℕ) (old new : Scene F I O E) → Does by (vlogrun_outcome args) status old new

@@ -3,7 +3,7 @@ ghost use Rattle.std.specs.Prelude.{◌≡◌, None, Some, map, option_map, stri
 ghost use Rattle.tool_run.specs.AtOnce.{at_once_answer};
 ghost use Rattle.tool_run.specs.Runs.{Does};
 ghost use Rattle.tool_run.specs.Tasks.{Task, at_once};
-ghost use Rattle.design_tools.specs.Fabric.{PromisesFabric};
+ghost use Rattle.design_tools.specs.Fabric.{PromisesFabric, PromisesNames};
 ghost use Rattle.fabric_model.specs.Unique.{ExactlyOne};
 ghost use Rattle.selfrun_tool.specs.Selfrun.{IsSelfrunAnswer};
 ghost use Rattle.icestorm_cli.specs.Runs.{PromisesRun};
@@ -74,6 +74,8 @@ pub fn run<H: Host>(alloc: Global, args: &[String], host: &mut H) -> u8
     ensures one_answer { tool_of (map string_bytes args.now) ≡ Some Tool.Selfrun → ExactlyOne (IsSelfrunAnswer (map string_bytes args.now)) }
     ensures written_fabric { tool_of (map string_bytes args.now) ≡ Some Tool.IceboxVlog
         → PromisesFabric H.outside (map string_bytes args.now) result (H.scene host.old) (H.scene host.new) }
+    ensures written_names { tool_of (map string_bytes args.now) ≡ Some Tool.IceboxVlog
+        → PromisesNames H.outside (map string_bytes args.now) result (H.scene host.old) (H.scene host.new) }
     ensures run_of_fabric { tool_of (map string_bytes args.now) ≡ Some Tool.Vlogrun
         → PromisesRun H.outside (map string_bytes args.now) result (H.scene host.old) (H.scene host.new) }
 {

@@ -1,10 +1,14 @@
--- The messages for faults of a module's text and of lists of events.
+-- The messages for faults of a module's text, of lists of events and of lists of names.
 use Rattle.std.specs.Prelude.{ℕ, List, ◌++◌, codes, decimal}
 use Rattle.vlog_forms.specs.declared.fault.VlogCause.{VlogCause}
 use Rattle.vlog_forms.specs.declared.fault.VlogCause.TheVariants.{Syntax, Order, Undeclared, AssignedTwice}
 use Rattle.vlog_forms.specs.Outcome.{Fault}
 use Rattle.vlog_run.specs.declared.event.EventFault.{EventFault}
 use Rattle.vlog_run.specs.declared.event.EventFault.TheVariants.{Form, Pin, Memory}
+use Rattle.wire_names.specs.declared.fault.WireNamesCause.{WireNamesCause}
+use Rattle.wire_names.specs.declared.fault.WireNamesCause.TheVariants as cause
+use Rattle.wire_names.specs.declared.fault.WireNamesFault.{WireNamesFault}
+use Rattle.wire_names.specs.declared.fault.WireNamesFault.TheVariants.{At, Memory as OutOfMemory}
 
 abbrev pub vlog_cause_text : VlogCause → List ℕ
 vlog_cause_text Syntax = codes "Syntax"
@@ -25,3 +29,14 @@ event_fault_text (Memory e) = codes "out of memory"
 -- the message with the name of the file before it, for a tool that takes several lists
 abbrev pub file_fault_text : List ℕ → EventFault → List ℕ
 file_fault_text name fault = name ++ codes " " ++ event_fault_text fault
+
+abbrev pub names_cause_text : WireNamesCause → List ℕ
+names_cause_text cause.Form = codes ": Form"
+names_cause_text cause.Wire = codes ": Wire"
+names_cause_text cause.WireTwice = codes ": WireTwice"
+names_cause_text cause.NameTwice = codes ": NameTwice"
+
+-- the faulty line of a list of names, and the cause
+abbrev pub names_fault_text : WireNamesFault → List ℕ
+names_fault_text (At line cause) = codes "names line " ++ decimal line ++ names_cause_text cause
+names_fault_text (OutOfMemory e) = codes "out of memory"

@@ -3,9 +3,10 @@ use Rattle.std.specs.Prelude.{◌≡◌, ◌&&◌, Bool, true, false, List, code
 use Rattle.clap.specs.Words.{Row, Text, first_of, is_simple_and_free}
 use Rattle.clap.proofs.OnLiterals.{clap_on_literals}
 use Rattle.tool_run.specs.Tasks.{usage_error}
-use Rattle.tool_inputs.specs.Commands.{has_flag, values_of}
+use Rattle.tool_inputs.specs.Commands.{values_of}
 use Rattle.module_tools.specs.declared.told.Told.{Told}
-use Rattle.module_tools.specs.Vlogrun.{told_by, vlogrun_command, vlogrun_name, vlogrun_task_by, vlogrun_task_of}
+use Rattle.module_tools.specs.declared.told.Told.TheVariants.{Lines, Waves}
+use Rattle.module_tools.specs.Vlogrun.{list_in, task_for, told_in, vlogrun_command, vlogrun_name, vlogrun_task_by, vlogrun_task_of}
 use Rattle.module_tools.specs.Vlogsweep.{most_lists, sweep_task, vlogsweep_command, vlogsweep_name, vlogsweep_task_by, vlogsweep_task_of, vlogsweep_usage}
 
 -- ---- vlogrun
@@ -14,13 +15,18 @@ pub vlogrun-simple : is_simple_and_free vlogrun_command ≡ true
 unfolding clap_on_literals
 vlogrun-simple = refl
 
-of-speaks : (told : Option Told) (text events : Option Text) → (vlogrun_task_of told text events).tool_name ≡ vlogrun_name
-of-speaks (Some told) (Some text) events = refl
-of-speaks (Some told) None events = refl
-of-speaks None text events = refl
+for-speaks : (told : Told) (list : Option Text) (text : Text) (events : Option Text) → (task_for told list text events).tool_name ≡ vlogrun_name
+for-speaks Waves (Some list) text events = refl
+for-speaks Waves None text events = refl
+for-speaks (Lines registers) list text events = refl
+
+of-speaks : (told : Option Told) (list text events : Option Text) → (vlogrun_task_of told list text events).tool_name ≡ vlogrun_name
+of-speaks (Some told) list (Some text) events = for-speaks told list text events
+of-speaks (Some told) list None events = refl
+of-speaks None list text events = refl
 
 pub vlogrun-speaks : (rows : List Row) → (vlogrun_task_by rows).tool_name ≡ vlogrun_name
-vlogrun-speaks rows = of-speaks (told_by (has_flag (codes "registers") rows) (has_flag (codes "vcd") rows)) (first_of (codes "module") rows) (first_of (codes "events") rows)
+vlogrun-speaks rows = of-speaks (told_in rows) (list_in rows) (first_of (codes "module") rows) (first_of (codes "events") rows)
 
 -- ---- vlogsweep
 

@@ -11,7 +11,7 @@ use Rattle.vlog_run.specs.Events.{event_fault, events_of}
 use Rattle.vlog_run.specs.Text.{run_text}
 use Rattle.tool_run.specs.Lines.{refusal_text}
 use Rattle.tool_run.specs.Needs.{Need}
-use Rattle.tool_run.specs.Tasks.{Answer, Done, Refused, Task, usage_error}
+use Rattle.tool_run.specs.Tasks.{Answer, Done, Refused, Task, plain_task, usage_error}
 use Rattle.tool_run.specs.declared.tool.Stop.{Stop}
 use Rattle.tool_run.specs.declared.tool.Stop.TheVariants as stop
 use Rattle.tool_inputs.specs.Outcomes.{Manual, outcome}
@@ -93,7 +93,7 @@ abbrev pub sweep_needs : Text → List Text → List Need
 sweep_needs text names = record { name = Some text; limit = module_limit } ∷ map list_need names
 
 abbrev pub task_over : List Need → List Text → Task
-task_over needs names = record { tool_name = vlogsweep_name; needs = needs; target = None; answer = vlogsweep_answer names }
+task_over needs names = plain_task vlogsweep_name needs None (vlogsweep_answer names)
 
 abbrev pub sweep_task : Text → List Text → Task
 sweep_task text names = task_over (sweep_needs text names) names

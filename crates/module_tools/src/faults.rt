@@ -1,13 +1,15 @@
-// The messages for faults of a module's text and of lists of events.
+// The messages for faults of a module's text, of lists of events and of lists of names.
 ghost use Rattle.std.specs.Prelude.{◌≡◌, ◌++◌, codes};
 ghost use Rattle.tool_run.specs.Lines.{refusal_text};
 ghost use Rattle.vlog_forms.specs.Outcome.{fault};
-ghost use Rattle.module_tools.specs.Faults.{event_fault_text, file_fault_text, vlog_cause_text, vlog_fault_text};
+ghost use Rattle.wire_names.specs.declared.fault.WireNamesFault.TheVariants.{At};
+ghost use Rattle.module_tools.specs.Faults.{event_fault_text, file_fault_text, names_cause_text, names_fault_text, vlog_cause_text, vlog_fault_text};
 
 use tool_inputs::{refusal, whole};
 use tool_run::{Refusal, decimal, text};
 use vlog_parser::VlogCause;
 use vlog_run::EventFault;
+use wire_names::WireNamesCause;
 
 // What is wrong with the text of a module, after a colon.
 fn vlog_cause_text(cause: VlogCause) -> &'static str
@@ -55,4 +57,23 @@ pub(crate) fn file_refusal(name: &str, fault: EventFault) -> Refusal<'_>
         third: told,
         fourth: text(cause),
     }
+}
+
+// Why a line of a list of names is refused, after a colon.
+fn names_cause_text(cause: WireNamesCause) -> &'static str
+    ensures { result.now ≡ names_cause_text cause }
+{
+    match cause {
+        WireNamesCause::Form => ": Form",
+        WireNamesCause::Wire => ": Wire",
+        WireNamesCause::WireTwice => ": WireTwice",
+        WireNamesCause::NameTwice => ": NameTwice",
+    }
+}
+
+/// The refusal of a list of names: the line and the cause.
+pub(crate) fn names_refusal(line: u64, cause: WireNamesCause) -> Refusal<'static>
+    ensures { refusal_text result ≡ names_fault_text (At line cause) }
+{
+    refusal(decimal("names line ", line), text(names_cause_text(cause)))
 }

@@ -1,17 +1,18 @@
 // `vlogrun`: runs a module over a list of events.
-ghost use Rattle.std.specs.Prelude.{◌≡◌, map, string_bytes, IfOk, IfErr, Some};
+ghost use Rattle.std.specs.Prelude.{◌≡◌, [], map, string_bytes, IfOk, IfErr, Some};
 ghost use Rattle.tool_run.specs.Runs.{Does};
 ghost use Rattle.tool_run.specs.Stops.{StopsWith};
 ghost use Rattle.tool_run.specs.Tasks.{Done};
 ghost use Rattle.vlog_run.specs.Events.{event_fault};
 ghost use Rattle.vlog_forms.specs.Outcome.{outcome_of};
-ghost use Rattle.module_tools.specs.Vlogrun.{run_of, run_over, vlogrun_outcome, vlogrun_task_for};
+ghost use Rattle.tool_run.specs.Needs.{text_of};
+ghost use Rattle.module_tools.specs.Vlogrun.{run_of, run_over, run_task, vlogrun_outcome, vlogrun_task_for, waves_task};
 ghost use Rattle.module_tools.specs.declared.told.Told.TheVariants.{Lines};
 
 use crate::faults::{event_refusal, vlog_refusal};
 use crate::request::{Request, VLOGRUN_HELP, VLOGRUN_USAGE, command, request_in};
 use crate::told::Told;
-use crate::tracing::Tracing;
+use crate::tracing::{NamedTracing, Tracing};
 use clap::{ArgMatches, Command};
 use std::alloc::{AllocError, Global};
 use tool_inputs::{CommandLine, Words, run_tool};
@@ -24,6 +25,9 @@ pub(crate) const MODULE_LIMIT: usize = 67_108_864;
 
 /// The most bytes that a list of events may have.
 const EVENTS_LIMIT: usize = 1_048_576;
+
+/// The most bytes that a list of names may have.
+const NAMES_LIMIT: usize = 4_194_304;
 
 /// Loads a module and a list of events, runs the module over the events, and tells the lines of the run.
 #[derive(Clone, Copy, Debug, PartialEq, Eq)]
@@ -74,8 +78,8 @@ fn run_module(
     events: &[u8],
     registers: bool,
 ) -> Result<Vec<u8>, Stop<'static>>
-    ensures bytes { IfOk result (λ bytes. run_over (Lines registers) «module».now events.now (event_fault «module».now.ports events.now) ≡ Done bytes.items) }
-    ensures stops { IfErr result (StopsWith (run_over (Lines registers) «module».now events.now (event_fault «module».now.ports events.now))) }
+    ensures bytes { IfOk result (λ bytes. run_over (Lines registers) [] «module».now events.now (event_fault «module».now.ports events.now) ≡ Done bytes.items) }
+    ensures stops { IfErr result (StopsWith (run_over (Lines registers) [] «module».now events.now (event_fault «module».now.ports events.now))) }
 {
     match read_events(alloc, module, events) {
         Ok(events) => match run_text(alloc, module, &events, registers) {
@@ -87,17 +91,23 @@ fn run_module(
     }
 }
 
-// Does a request: loads its files and runs the module.
-fn run_files<H: Host>(alloc: Global, request: Request<'_>, host: &mut H) -> u8
-    ensures { Does H.outside (vlogrun_task_for (Some request.entry)) result (H.scene host.old) (H.scene host.new) }
+// Loads a module and a list of events, and tells the run of the module.
+fn run_plain<H: Host>(
+    alloc: Global,
+    told: Told,
+    module: &str,
+    events: Option<&str>,
+    host: &mut H,
+) -> u8
+    ensures { Does H.outside (run_task told «module».now (text_of events.entry)) result (H.scene host.old) (H.scene host.new) }
 {
     let loads = [
         Load {
-            name: Some(request.module),
+            name: Some(module),
             limit: MODULE_LIMIT,
         },
         Load {
-            name: request.events,
+            name: events,
             limit: EVENTS_LIMIT,
         },
     ];
@@ -106,12 +116,63 @@ fn run_files<H: Host>(alloc: Global, request: Request<'_>, host: &mut H) -> u8
         loads: &loads,
         target: None,
     };
-    match request.told {
+    match told {
         Told::Lines { registers } => {
             let tool = Running { registers };
             host.perform(alloc, &tool, &job)
         }
         Told::Waves => host.perform(alloc, &Tracing, &job),
+    }
+}
+
+// Loads a module, a list of names and a list of events, and tells the waves of the module's run with these names.
+fn trace_named<H: Host>(
+    alloc: Global,
+    names: &str,
+    module: &str,
+    events: Option<&str>,
+    host: &mut H,
+) -> u8
+    ensures { Does H.outside (waves_task names.now «module».now (text_of events.entry)) result (H.scene host.old) (H.scene host.new) }
+{
+    let loads = [
+        Load {
+            name: Some(module),
+            limit: MODULE_LIMIT,
+        },
+        Load {
+            name: Some(names),
+            limit: NAMES_LIMIT,
+        },
+        Load {
+            name: events,
+            limit: EVENTS_LIMIT,
+        },
+    ];
+    let job = Job {
+        tool_name: "vlogrun",
+        loads: &loads,
+        target: None,
+    };
+    host.perform(alloc, &NamedTracing, &job)
+}
+
+// Does a request: loads its files and runs the module.
+fn run_files<H: Host>(alloc: Global, request: Request<'_>, host: &mut H) -> u8
+    ensures { Does H.outside (vlogrun_task_for (Some request.entry)) result (H.scene host.old) (H.scene host.new) }
+{
+    match request.told {
+        Told::Waves => match request.names {
+            Some(names) => trace_named(alloc, names, request.module, request.events, host),
+            None => run_plain(alloc, Told::Waves, request.module, request.events, host),
+        },
+        Told::Lines { registers } => run_plain(
+            alloc,
+            Told::Lines { registers },
+            request.module,
+            request.events,
+            host,
+        ),
     }
 }
 

@@ -1,15 +1,15 @@
 -- What a run of a task appends to standard output.
 use Rattle.std.proofs.Common.{◌≡◌, ℕ, List, [], drop, subst, sym}
 use Rattle.std.specs.Prelude.{Option, None, Some, get_or}
-use Rattle.tool_run.specs.Effects.{Delivers}
+use Rattle.tool_run.specs.Effects.{Delivers, with_beside}
 use Rattle.tool_run.specs.Runs.{Does, Outside, Scene}
-use Rattle.tool_run.specs.Tasks.{Answer, Done, Task, layout_first}
+use Rattle.tool_run.specs.Tasks.{Answer, Both, Task, layout_first}
 use Rattle.tool_run.proofs.Same.{Does-same}
 use Rattle.tool_inputs.specs.Appended.{AppendsFor, UnderLayout}
 
--- P holds of what a task makes of texts
+-- P holds of what a task makes of texts for its target
 abbrev Gives : (List (List ℕ) → List ℕ → Type 0) → Task → Type 0
-Gives P task = (texts : List (List ℕ)) (bytes : List ℕ) → task.answer texts ≡ Done bytes → P texts bytes
+Gives P task = (texts : List (List ℕ)) (bytes beside : List ℕ) → task.answer texts ≡ Both bytes beside → P texts bytes
 
 module _ (P : List (List ℕ) → List ℕ → Type 0) where
   -- a task that is done appends what it makes of texts
@@ -18,10 +18,10 @@ module _ (P : List (List ℕ) → List ℕ → Type 0) where
       → AppendsFor by P task old new
   done-appends by task status old new gives target does done =
       let made = does.whole done in
-      let goes : Option (List ℕ) → Type 0 = λ to. Delivers to made.0 (by.contents old.files) (by.contents new.files) (by.held old.output) (by.held new.output) in (
+      let goes : Option (List ℕ) → Type 0 = λ to. Delivers to made.0 (with_beside (by.contents old.files) task.beside made.1) (by.contents new.files) (by.held old.output) (by.held new.output) in (
         made.0,
-        (subst goes target made.1).1,
-        (made.3.0, made.3.1, gives made.3.0 made.0 made.3.2),
+        (subst goes target made.2).1,
+        (made.4.0, made.4.1, gives made.4.0 made.0 made.1 made.4.2),
       )
 
   -- and so does a task that is equal to it
@@ -33,7 +33,7 @@ module _ (P : List (List ℕ) → List ℕ → Type 0) where
 
 -- P holds of what an answer under a layout file makes of all texts
 pub first_gives : (layout : Option (List ℕ)) (answer : Option (List ℕ) → List (List ℕ) → Answer) (P : Option (List ℕ) → List (List ℕ) → List ℕ → Type 0)
-    → ((file : Option (List ℕ)) (texts : List (List ℕ)) (bytes : List ℕ) → answer file texts ≡ Done bytes → P file texts bytes)
-    → (texts : List (List ℕ)) (bytes : List ℕ) → layout_first layout answer texts ≡ Done bytes → UnderLayout layout P texts bytes
-first_gives None answer P gives texts bytes done = gives None texts bytes done
-first_gives (Some file) answer P gives texts bytes done = gives (Some (get_or texts 0 [])) (drop 1 texts) bytes done
+    → ((file : Option (List ℕ)) (texts : List (List ℕ)) (bytes beside : List ℕ) → answer file texts ≡ Both bytes beside → P file texts bytes)
+    → (texts : List (List ℕ)) (bytes beside : List ℕ) → layout_first layout answer texts ≡ Both bytes beside → UnderLayout layout P texts bytes
+first_gives None answer P gives texts bytes beside done = gives None texts bytes beside done
+first_gives (Some file) answer P gives texts bytes beside done = gives (Some (get_or texts 0 [])) (drop 1 texts) bytes beside done

@@ -3,7 +3,8 @@ use Rattle.std.specs.Prelude.{◌≡◌, ℕ, List, [], is_some, if◌then◌els
 use Rattle.layout_file.specs.declared.layouts.Layouts.{Layouts}
 use Rattle.ice_image.specs.Configuration.{Configuration}
 use Rattle.asc_text.specs.Faults.{Fault as TextFault, asc_fault_of}
-use Rattle.asc_text.specs.Meaning.{asc_image_of}
+use Rattle.asc_text.specs.Meaning.{asc_image_of, asc_symbols_of}
+use Rattle.asc_text.specs.declared.file.Symbol.{Symbol}
 use Rattle.bin_stream.specs.Front.{preamble_offset}
 use Rattle.bin_stream.specs.Refusals.{Fault as StreamFault}
 use Rattle.bin_stream.specs.Spelling.{bin_read_of}
@@ -32,6 +33,10 @@ unfoldable pub image_read : Layouts → List ℕ → Result Configuration (List 
 image_read layouts bytes =
     if is_some (preamble_offset bytes) then of_stream (bin_read_of layouts bytes)
     else of_text (asc_fault_of layouts bytes) (asc_image_of layouts bytes)
+
+-- The names of nets that these bytes give. A text may give some, and a bitstream gives none.
+unfoldable pub symbols_read : List ℕ → List Symbol
+symbols_read bytes = if is_some (preamble_offset bytes) then [] else asc_symbols_of bytes
 
 -- the image of a file, by the name of the file if a tool has several: the name stands before the message for a fault
 abbrev pub image_in : Option (List ℕ) → Result Configuration (List ℕ) → Result Configuration (List ℕ)

@@ -1,5 +1,5 @@
 // The input of a tool that works on a chip database and one or two images.
-ghost use Rattle.std.specs.Prelude.{◌≡◌, ◌++◌, ◌∷◌, [], ◌+◌, ◌<◌, ◌≤◌, ◌^◌, ℕ, List, Ok, Option, IfOk, IfErr, length};
+ghost use Rattle.std.specs.Prelude.{◌≡◌, ◌++◌, ◌∷◌, [], ◌+◌, ◌<◌, ◌≤◌, ◌^◌, ℕ, List, Ok, None, Option, IfOk, IfErr, get_or, length};
 ghost use Rattle.ice_io.specs.Takers.{TakesMore};
 ghost use Rattle.layout_file.specs.declared.layouts.Layouts.{Layouts as LayoutsSeen};
 ghost use Rattle.layout_file.specs.Layouts.{AreLayouts};
@@ -11,12 +11,13 @@ ghost use Rattle.tool_run.specs.Collected.{Collects};
 ghost use Rattle.tool_run.specs.Needs.{text_of};
 ghost use Rattle.tool_run.specs.Stops.{StopsWith};
 ghost use Rattle.tool_run.specs.Tasks.{Answer};
-ghost use Rattle.tool_inputs.specs.Images.{image_in, image_read, StopsImage};
+ghost use Rattle.tool_inputs.specs.Images.{image_in, image_read, symbols_read, StopsImage};
 ghost use Rattle.tool_inputs.specs.Layouts.{answer_under, layouts_for, StopsLayouts};
 
 use crate::database::finish_database;
-use crate::image::read_image;
+use crate::image::{read_image, read_with_symbols};
 use crate::layouts::layouts_for;
+use asc_text::AscFile;
 use chipdb_reader::{ChipDb, DbReader};
 use ice_image::AnyImage;
 use layout_file::Layouts;
@@ -117,6 +118,29 @@ impl DesignInput {
         Ok((db, image))
     }
 
+    /// The database and the image, as [`DesignInput::read`] gives them, and the names of nets that the image gives.
+    ///
+    /// # Errors
+    /// As [`DesignInput::read`].
+    pub fn read_with_symbols(self, alloc: Global) -> Result<(ChipDb, AscFile), Stop<'static>>
+        ensures read { IfOk result (λ read. (layout : Option (List ℕ)) (texts : List (List ℕ)) (answer : Database → Configuration → Answer)
+            → TakesInput layout texts self [] → input_answer layout answer texts ≡ answer (database_in read.0) (configuration_of read.1.image)) }
+        ensures symbols { IfOk result (λ read. (layout : Option (List ℕ)) (texts : List (List ℕ))
+            → TakesInput layout texts self [] → read.1.symbols.items ≡ symbols_read (get_or texts 1 [])) }
+        ensures stops { IfErr result (λ stop. (layout : Option (List ℕ)) (texts : List (List ℕ)) (answer : Database → Configuration → Answer)
+            → TakesInput layout texts self [] → StopsWith (input_answer layout answer texts) stop) }
+    {
+        let DesignInput {
+            layouts,
+            db,
+            image,
+            ..
+        } = self;
+        let db = finish_database(db)?;
+        let file = collected_file(alloc, &image, layouts)?;
+        Ok((db, file))
+    }
+
     /// The database and two images, after all texts were taken. The images are in files of these names.
     ///
     /// # Errors
@@ -154,6 +178,23 @@ fn collected_image<'a>(
 {
     match collected.text() {
         Ok(bytes) => read_image(alloc, file, bytes, layouts),
+        Err(_) => Err(Stop::Memory),
+    }
+}
+
+// The image of the bytes that were collected and the names of nets that they give, or why there is none.
+fn collected_file(
+    alloc: Global,
+    collected: &Collected,
+    layouts: Layouts,
+) -> Result<AscFile, Stop<'static>>
+    requires { AreLayouts layouts }
+    ensures image { IfOk result (λ file. (bytes : List ℕ) → Collects bytes collected.now → image_read layouts bytes ≡ Ok (configuration_of file.image)) }
+    ensures symbols { IfOk result (λ file. (bytes : List ℕ) → Collects bytes collected.now → file.symbols.items ≡ symbols_read bytes) }
+    ensures stops { IfErr result (λ stop. (bytes : List ℕ) → Collects bytes collected.now → StopsImage (image_in None (image_read layouts bytes)) stop) }
+{
+    match collected.text() {
+        Ok(bytes) => read_with_symbols(alloc, bytes, layouts),
         Err(_) => Err(Stop::Memory),
     }
 }

@@ -1,14 +1,14 @@
 // An image, from a bitstream or from a text.
-ghost use Rattle.std.specs.Prelude.{◌≡◌, ◌≤◌, Ok, IfOk, IfErr, length, is_some};
+ghost use Rattle.std.specs.Prelude.{◌≡◌, ◌≤◌, None, Ok, IfOk, IfErr, length, is_some};
 ghost use Rattle.layout_file.specs.Layouts.{AreLayouts};
 ghost use Rattle.ice_image.specs.Either.{configuration_of};
 ghost use Rattle.bin_stream.specs.Front.{is_preamble_at, preamble_offset};
 ghost use Rattle.tool_run.specs.Needs.{text_of};
-ghost use Rattle.tool_inputs.specs.Images.{image_in, image_read, StopsImage};
+ghost use Rattle.tool_inputs.specs.Images.{image_in, image_read, symbols_read, StopsImage};
 
 use crate::faults::{asc_refusal, bin_refusal};
 use crate::refusals::of_file;
-use asc_text::{AscFault, read_image_with};
+use asc_text::{AscFault, AscFile, read_image_with, read_with};
 use bin_stream::{BinFault, decode_with};
 use ice_image::AnyImage;
 use layout_file::Layouts;
@@ -51,6 +51,41 @@ pub fn read_image<'a>(
             Ok(image) => Ok(image),
             Err(AscFault::At { line, tile, cause }) => {
                 Err(Stop::Refused(of_file(file, asc_refusal(line, tile, cause))))
+            }
+            Err(AscFault::Memory(_)) => Err(Stop::Memory),
+        }
+    }
+}
+
+/// Reads an image under layouts as [`read_image`] does, and the names that a text gives to nets. A bitstream gives none.
+///
+/// # Errors
+/// As [`read_image`].
+#[tactic(auto, unfolding(crate::specs::Images::image_read, crate::specs::Images::symbols_read))]
+pub(crate) fn read_with_symbols(
+    alloc: Global,
+    bytes: &[u8],
+    layouts: Layouts,
+) -> Result<AscFile, Stop<'static>>
+    requires { AreLayouts layouts }
+    ensures image { IfOk result (λ file. image_read layouts bytes.now ≡ Ok (configuration_of file.image)) }
+    ensures symbols { IfOk result (λ file. file.symbols.items ≡ symbols_read bytes.now) }
+    ensures stops { IfErr result (StopsImage (image_in None (image_read layouts bytes.now))) }
+{
+    let is_stream = has_preamble(bytes);
+    if is_stream {
+        match read_image(alloc, None, bytes, layouts) {
+            Ok(image) => Ok(AscFile {
+                image,
+                symbols: Vec::new(alloc),
+            }),
+            Err(stop) => Err(stop),
+        }
+    } else {
+        match read_with(alloc, bytes, layouts) {
+            Ok(file) => Ok(file),
+            Err(AscFault::At { line, tile, cause }) => {
+                Err(Stop::Refused(asc_refusal(line, tile, cause)))
             }
             Err(AscFault::Memory(_)) => Err(Stop::Memory),
         }

@@ -40,7 +40,7 @@ stops_after contents steady left input_faults first needs text loads loads_now n
 stops_after contents steady left input_faults first needs text loads loads_now new_loads input new_input Memory is le memory = tt
 
 module _ {F I M : Type 0} (contents : F → Option FileMap) (steady : F → Bool) (load_faults store_faults : F → ℕ) (left : I → Option (List ℕ)) (input_faults : I → ℕ)
-    (file : List ℕ) (needs : List Need) (answer : Option (List ℕ) → List (List ℕ) → Answer) (bytes : M → List ℕ) where
+    (file : List ℕ) (needs : List Need) (answer : Option (List ℕ) → List (List ℕ) → Answer) (answer_with : M → Answer) where
   -- what is made after the layout file was read
   module _ (files middle : F) (input middle_input : I) (text : List ℕ) (is : IsTextOf (contents files) (left input) (layout_need file) text)
       (same_contents : contents middle ≡ contents files) (same_input : middle_input ≡ input) where
@@ -55,8 +55,8 @@ module _ {F I M : Type 0} (contents : F → Option FileMap) (steady : F → Bool
         (subst (λ (i : I). Reaches (contents middle) (left i) needs need) same_input r)
 
     made_after : (result : Result (Result M Stop) LoadStop)
-        → IfOk result (λ made. (texts : List (List ℕ)) × AreTextsOf (contents middle) (left middle_input) needs texts × Gives bytes (answer (Some text) texts) made)
-        → IfOk result (λ made. (texts : List (List ℕ)) × AreTextsOf (contents files) (left input) (layout_need file ∷ needs) texts × Gives bytes (layout_first (Some file) answer texts) made)
+        → IfOk result (λ made. (texts : List (List ℕ)) × AreTextsOf (contents middle) (left middle_input) needs texts × Gives answer_with (answer (Some text) texts) made)
+        → IfOk result (λ made. (texts : List (List ℕ)) × AreTextsOf (contents files) (left input) (layout_need file ∷ needs) texts × Gives answer_with (layout_first (Some file) answer texts) made)
     made_after (Ok made) m = (text ∷ m.0, (is, texts_now m.0 m.1), m.2)
     made_after (Err stop) m = tt
 
@@ -78,8 +78,8 @@ module _ {F I M : Type 0} (contents : F → Option FileMap) (steady : F → Bool
     -- the layout file was read, and then the needs
     pub answers_after : (new_files : F) (new_input : I) (result : Result (Result M Stop) LoadStop)
         → steady middle ≡ steady files → load_faults files ≤ load_faults middle → store_faults middle ≡ store_faults files
-        → Answers contents steady load_faults store_faults left input_faults needs (answer (Some text)) bytes result middle new_files middle_input new_input
-        → Answers contents steady load_faults store_faults left input_faults (layout_need file ∷ needs) (layout_first (Some file) answer) bytes result files new_files input new_input
+        → Answers contents steady load_faults store_faults left input_faults needs (answer (Some text)) answer_with result middle new_files middle_input new_input
+        → Answers contents steady load_faults store_faults left input_faults (layout_need file ∷ needs) (layout_first (Some file) answer) answer_with result files new_files input new_input
     answers_after new_files new_input result same_steady le same_store_faults a = record {
       made = made_after result a.made;
       stops = stopped_after new_files new_input result same_steady le a.stops;
@@ -95,7 +95,7 @@ module _ {F I M : Type 0} (contents : F → Option FileMap) (steady : F → Bool
   pub answers_stopped : (files new_files : F) (input new_input : I) (stop : LoadStop)
       → StopsLoading (contents files) (steady files) left input_faults (layout_need file ∷ []) (load_faults files) (load_faults new_files) input new_input stop
       → contents new_files ≡ contents files → store_faults new_files ≡ store_faults files → new_input ≡ input
-      → Answers contents steady load_faults store_faults left input_faults (layout_need file ∷ needs) (layout_first (Some file) answer) bytes (Err stop) files new_files input new_input
+      → Answers contents steady load_faults store_faults left input_faults (layout_need file ∷ needs) (layout_first (Some file) answer) answer_with (Err stop) files new_files input new_input
   answers_stopped files new_files input new_input stop stops same_contents same_store_faults same_input = record {
     made = tt;
     stops = stops_after_others (contents files) (steady files) left input_faults [] needs (layout_need file) [] (load_faults files) (load_faults files) (load_faults new_files) input new_input stop tt (omega arith) stops;

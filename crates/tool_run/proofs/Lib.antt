@@ -1,4 +1,4 @@
--- what a fault of the target leaves
+-- what a fault of a target leaves
 mod Deliveries
 -- pieces that are written one after the other, up to one that is cut
 mod Pieces

@@ -6,7 +6,7 @@ use Rattle.ice_io.specs.Faults.{Rose}
 use Rattle.ice_io.specs.Files.{FileMap}
 use Rattle.tool_run.specs.Needs.{Need, is_stream, reads_files, reads_input}
 use Rattle.tool_run.specs.Lines.{line_of, read_failed}
-use Rattle.tool_run.specs.Tasks.{Answer, Done, Refused, Quiet, UsageError, LoadFault, Missing, TooLong, Outcome, Task, answered, bytes_of, ended, loaded, outcome_of, reached, reached_after}
+use Rattle.tool_run.specs.Tasks.{Answer, Both, Refused, Quiet, UsageError, LoadFault, Missing, TooLong, Outcome, Task, answered, bytes_of, ended, loaded, outcome_of, reached, reached_after}
 use Rattle.tool_run.specs.Effects.{Foretells, SourceRose, Tells}
 use Rattle.tool_run.specs.Loads.{AreTextsOf, FailsToLoad, IsReached}
 use Rattle.tool_run.specs.Stops.{StopsWith}
@@ -20,7 +20,7 @@ use Rattle.tool_run.proofs.Reaching.{AreTold, NameIsTold, WhereTold, input-reach
 -- ---- what the outcome reads is what is reached
 
 answered-reads_files : (task : Task) (needs : List Need) (answer : Answer) → (answered task needs answer).reads_files ≡ reads_files needs
-answered-reads_files task needs (Done bytes) = refl
+answered-reads_files task needs (Both bytes beside) = refl
 answered-reads_files task needs (Refused text) = refl
 answered-reads_files task needs Quiet = refl
 answered-reads_files task needs (UsageError text) = refl
@@ -31,7 +31,7 @@ ended-reads_files task needs (Err (Missing need)) = refl
 ended-reads_files task needs (Err (TooLong need)) = refl
 
 answered-reads_input : (task : Task) (needs : List Need) (answer : Answer) → (answered task needs answer).reads_input ≡ reads_input needs
-answered-reads_input task needs (Done bytes) = refl
+answered-reads_input task needs (Both bytes beside) = refl
 answered-reads_input task needs (Refused text) = refl
 answered-reads_input task needs Quiet = refl
 answered-reads_input task needs (UsageError text) = refl
@@ -99,15 +99,15 @@ foretold_unread task contents left input new_input is = λ known text tells unre
 
 -- ---- the answer's outcome
 
-pub has_bytes : (task : Task) (needs : List Need) (answer : Answer) (bytes : List ℕ) → answer ≡ Done bytes → HasBytes bytes (answered task needs answer)
-has_bytes task needs answer bytes done =
-    let has : Answer → Type 0 = λ a. HasBytes bytes (answered task needs a) in
-    subst has (sym done) (refl, refl)
+pub has_bytes : (task : Task) (needs : List Need) (answer : Answer) (bytes beside : List ℕ) → answer ≡ Both bytes beside → HasBytes bytes beside (answered task needs answer)
+has_bytes task needs answer bytes beside done =
+    let has : Answer → Type 0 = λ a. HasBytes bytes beside (answered task needs a) in
+    subst has (sym done) (refl, refl, refl)
 
--- the bytes that are made are an answer, or the stop is its refusal
-pub gives_of : {M : Type 0} (bytes : M → List ℕ) (made : Result M Stop) (answer : Answer) → IfOk made (λ content. answer ≡ Done (bytes content)) → IfErr made (StopsWith answer) → Gives bytes answer made
-gives_of bytes (Ok content) answer done stops = done
-gives_of bytes (Err stop) answer done stops = stops
+-- what is made is an answer, or the stop is its refusal
+pub gives_of : {M : Type 0} (answer_with : M → Answer) (made : Result M Stop) (answer : Answer) → IfOk made (λ product. answer ≡ answer_with product) → IfErr made (StopsWith answer) → Gives answer_with answer made
+gives_of answer_with (Ok product) answer done stops = done
+gives_of answer_with (Err stop) answer done stops = stops
 
 -- what an intake has taken at first, or why there is none
 pub begun : {I : Type 0} (takes : I → List ℕ → Type 0) (answer : List (List ℕ) → Answer) (result : Result I Stop) → IfOk result (λ intake. takes intake [])
@@ -117,7 +117,7 @@ begun takes answer (Err stop) taken stops = stops
 
 pub refuses : (task : Task) (needs : List Need) (answer : Answer) (status : ℕ) (said : Option (List ℕ)) (S : Option (List ℕ) → Type 0) → RefusesWith answer status said → S (option_map (line_of task.tool_name) said)
     → ((answered task needs answer).status ≡ status) × S (answered task needs answer).message
-refuses task needs (Done bytes) status said S none says = absurd none
+refuses task needs (Both bytes beside) status said S none says = absurd none
 refuses task needs (Refused text) status said S with says = (sym with.0, subst (λ (t : Option (List ℕ)). S (option_map (line_of task.tool_name) t)) with.1 says)
 refuses task needs Quiet status said S with says = (sym with.0, subst (λ (t : Option (List ℕ)). S (option_map (line_of task.tool_name) t)) with.1 says)
 refuses task needs (UsageError text) status said S with says = (sym with.0, subst (λ (t : Option (List ℕ)). S (option_map (line_of task.tool_name) t)) with.1 says)
@@ -125,7 +125,7 @@ refuses task needs (UsageError text) status said S with says = (sym with.0, subs
 -- the tool's refusal, or it is quiet
 pub refuses-so : (answer : Answer) (status : ℕ) (said : Option (List ℕ)) (S : Option (List ℕ) → Type 0) → status ≡ 1 → RefusesWith answer status said → S said
     → ((text : List ℕ) × (answer ≡ Refused text) × S (Some text)) ⊎ ((answer ≡ Quiet) × S None)
-refuses-so (Done bytes) status said S one_is none says = absurd none
+refuses-so (Both bytes beside) status said S one_is none says = absurd none
 refuses-so (Refused text) status said S one_is with says = inl (text, refl, subst S with.1 says)
 refuses-so Quiet status said S one_is with says = inr (refl, subst S with.1 says)
 refuses-so (UsageError text) status said S one_is with says = absurd (omega (arith, with.0))
@@ -133,7 +133,7 @@ refuses-so (UsageError text) status said S one_is with says = absurd (omega (ari
 -- a command line that isn't taken
 pub takes-not : (answer : Answer) (status : ℕ) (said : Option (List ℕ)) (S : Option (List ℕ) → Type 0) → status ≡ 2 → RefusesWith answer status said → S said
     → (text : List ℕ) × (answer ≡ UsageError text) × S (Some text)
-takes-not (Done bytes) status said S two_is none says = absurd none
+takes-not (Both bytes beside) status said S two_is none says = absurd none
 takes-not (Refused text) status said S two_is with says = absurd (omega (arith, with.0))
 takes-not Quiet status said S two_is with says = absurd (omega (arith, with.0))
 takes-not (UsageError text) status said S two_is with says = (text, refl, subst S with.1 says)
@@ -154,13 +154,14 @@ not-read status concluded read = absurd (grind arith)
 pub not-long : {P : Type 0} (status : ℕ) → IsConcluded status → status ≡ 6 → P
 not-long status concluded long = absurd (grind arith)
 
-pub exact-answer : (task : Task) (needs : List Need) (answer : Answer) (status : ℕ) → IsConcluded status → ((status ≡ 0) → (bytes : List ℕ) × (answer ≡ Done bytes)) → ((status ≡ 4) → (bytes : List ℕ) × (answer ≡ Done bytes))
+pub exact-answer : (task : Task) (needs : List Need) (answer : Answer) (status : ℕ) → IsConcluded status → ((status ≡ 0) → (bytes : List ℕ) × (beside : List ℕ) × (answer ≡ Both bytes beside))
+    → ((status ≡ 4) → (bytes : List ℕ) × (beside : List ℕ) × (answer ≡ Both bytes beside))
     → ((status ≡ 1) ⊎ (status ≡ 2) → (said : Option (List ℕ)) × RefusesWith answer status said) → IsStatusFor status (answered task needs answer)
 exact-answer task needs answer status concluded done part refused = elim concluded [
-  | inl zero_is ↦ let d = done zero_is in inl (zero_is ∙ sym (has_bytes task needs answer d.0 d.1).0)
+  | inl zero_is ↦ let d = done zero_is in inl (zero_is ∙ sym (has_bytes task needs answer d.0 d.1 d.2).0)
   | inr (inl one_is) ↦ let r = refused (inl one_is) in inl (sym (refuses task needs answer status r.0 (λ t. Unit {0}) r.1 tt).0)
   | inr (inr (inl two_is)) ↦ let r = refused (inr two_is) in inl (sym (refuses task needs answer status r.0 (λ t. Unit {0}) r.1 tt).0)
-  | inr (inr (inr (inl four_is))) ↦ let d = part four_is in inr (inr (inr (four_is, (has_bytes task needs answer d.0 d.1).0)))
+  | inr (inr (inr (inl four_is))) ↦ let d = part four_is in inr (inr (inr (four_is, (has_bytes task needs answer d.0 d.1 d.2).0)))
   | inr (inr (inr (inr five_is))) ↦ inr (inl five_is)
 ]
 

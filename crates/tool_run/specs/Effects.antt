@@ -4,12 +4,18 @@ use Rattle.std.specs.Io.KnownBytes.{Appends}
 use Rattle.ice_io.specs.Faults.{Rose}
 use Rattle.ice_io.specs.Files.{FileMap, with_file}
 use Rattle.tool_run.specs.Needs.{Need}
+use Rattle.tool_run.specs.Lines.{write_failed}
 use Rattle.tool_run.specs.Tasks.{Outcome, Task, outcome_of}
 
 -- the bytes were appended to standard output, or stored in the file, and nothing else changed
 abbrev pub Delivers : Option (List ℕ) → List ℕ → Option FileMap → Option FileMap → Option (List ℕ) → Option (List ℕ) → Type 0
 Delivers None bytes files new_files held new_held = (new_files ≡ files) × Appends held new_held bytes
 Delivers (Some name) bytes files new_files held new_held = (new_files ≡ with_file files name bytes) × (new_held ≡ held)
+
+-- the files after these bytes were stored beside the target, if there is a file beside it
+abbrev pub with_beside : Option FileMap → Option (List ℕ) → List ℕ → Option FileMap
+with_beside files None bytes = files
+with_beside files (Some name) bytes = with_file files name bytes
 
 -- some first bytes were delivered, or nothing changed at all
 abbrev pub DeliversPart : Option (List ℕ) → List ℕ → Option FileMap → Option FileMap → Option (List ℕ) → Option (List ℕ) → Type 0
@@ -35,6 +41,24 @@ SourceRose need load_faults new_load_faults input_faults new_input_faults =
 abbrev pub TargetRose : Option (List ℕ) → ℕ → ℕ → ℕ → ℕ → Type 0
 TargetRose None store_faults new_store_faults output_faults new_output_faults = Rose output_faults new_output_faults
 TargetRose (Some name) store_faults new_store_faults output_faults new_output_faults = Rose store_faults new_store_faults
+
+module _ {F O : Type 0} (contents : F → Option FileMap) (store_faults : F → ℕ) (held : O → Option (List ℕ)) (output_faults : O → ℕ)
+    (files new_files : F) (output new_output : O) (S : List ℕ → Type 0) where
+  -- over files as they were before, a target took no more than some first ones of these bytes, its count rose, and S holds of what is said
+  pub record FailsToTake (before : Option FileMap) (target : Option (List ℕ)) (bytes : List ℕ) : Type 0 where
+    pub part : DeliversPart target bytes before (contents new_files) (held output) (held new_output)
+    pub rose : TargetRose target (store_faults files) (store_faults new_files) (output_faults output) (output_faults new_output)
+    pub said : S (write_failed target)
+
+  -- the file beside the target wasn't stored whole, and the target got nothing
+  abbrev pub FailsBeside : Option (List ℕ) → List ℕ → Type 0
+  FailsBeside None bytes = ⊥
+  FailsBeside (Some name) bytes = FailsToTake (contents files) (Some name) bytes × (new_output ≡ output)
+
+  -- the file beside the target wasn't stored whole; or it was, if there is one, and the target didn't take all of its bytes
+  abbrev pub FailsToDeliver : Option (List ℕ) → List ℕ → Option (List ℕ) → List ℕ → Type 0
+  FailsToDeliver beside beside_bytes target bytes =
+      FailsBeside beside beside_bytes ⊎ FailsToTake (with_beside (contents files) beside beside_bytes) target bytes
 
 -- the files and the input are these, as far as the outcome reads them
 pub record Tells (o : Outcome) (contents : Option FileMap) (left : Option (List ℕ)) (files : FileMap) (input : List ℕ) : Type 0 where

@@ -4,9 +4,9 @@ use Rattle.std.specs.Io.KnownBytes.{IsAtEnd}
 use Rattle.ice_io.specs.Faults.{Rose}
 use Rattle.ice_io.specs.Files.{FileMap}
 use Rattle.tool_run.specs.Needs.{Need, is_stream, reads_files, reads_input}
-use Rattle.tool_run.specs.Lines.{line_of, out_of_memory, read_failed, too_long, write_failed}
-use Rattle.tool_run.specs.Tasks.{Answer, Done, Refused, Quiet, UsageError, Outcome, Task}
-use Rattle.tool_run.specs.Effects.{Delivers, DeliversPart, Foretells, Speaks, TargetRose, Writes}
+use Rattle.tool_run.specs.Lines.{line_of, out_of_memory, read_failed, too_long}
+use Rattle.tool_run.specs.Tasks.{Answer, Both, Refused, Quiet, UsageError, Outcome, Task}
+use Rattle.tool_run.specs.Effects.{Delivers, FailsToDeliver, Foretells, Speaks, Writes, with_beside}
 use Rattle.tool_run.specs.Loads.{AreTextsOf, FailsToLoad, PassesLimit}
 
 -- how clauses read the files, the input, the output and the errors of a run
@@ -54,9 +54,13 @@ IsRefusal status = (status ≡ 1) ⊎ (status ≡ 2) ⊎ (status ≡ 6)
 abbrev pub IsStatusFor : ℕ → Outcome → Type 0
 IsStatusFor status o = (status ≡ o.status) ⊎ (status ≡ 5) ⊎ (status ≡ 3) ⊎ ((status ≡ 4) × (o.status ≡ 0))
 
--- the outcome delivers these bytes
-abbrev pub HasBytes : List ℕ → Outcome → Type 0
-HasBytes bytes o = (o.status ≡ 0) × (o.bytes ≡ bytes)
+-- the outcome delivers these bytes, and these beside its target
+abbrev pub HasBytes : List ℕ → List ℕ → Outcome → Type 0
+HasBytes bytes beside o = (o.status ≡ 0) × (o.bytes ≡ bytes) × (o.beside_bytes ≡ beside)
+
+-- the task stores no file
+abbrev pub StoresNoFile : Task → Type 0
+StoresNoFile task = (task.beside ≡ None) × (task.target ≡ None)
 
 module _ {F I O E : Type 0} where
   -- this line was written to standard error, or a part of it
@@ -85,11 +89,12 @@ module _ {F I O E : Type 0} where
   -- status has its cause in these
   pub record Does (by : Outside F I O E) (task : Task) (status : ℕ) (old new : Scene F I O E) : Type 0 where
     pub statuses : status ≤ 6
-    -- 0: the outcome was delivered whole, that is, what the tool makes of texts; the input was read to the end, and nothing was said
-    pub whole : status ≡ 0 → (bytes : List ℕ)
-        × Delivers task.target bytes (by.contents old.files) (by.contents new.files) (by.held old.output) (by.held new.output)
-        × Foresees by task old (HasBytes bytes)
-        × Makes by task old (Done bytes)
+    -- 0: the outcome was delivered whole, that is, what the tool makes of texts: first the file beside the target, if there is one, and
+    -- then the bytes for the target; the input was read to the end, and nothing was said
+    pub whole : status ≡ 0 → (bytes : List ℕ) × (beside : List ℕ)
+        × Delivers task.target bytes (with_beside (by.contents old.files) task.beside beside) (by.contents new.files) (by.held old.output) (by.held new.output)
+        × Foresees by task old (HasBytes bytes beside)
+        × Makes by task old (Both bytes beside)
     pub end : status ≡ 0 → reads_input task.needs ≡ true → IsAtEnd (by.left new.input)
     pub silent : status ≡ 0 → new.errors ≡ old.errors
     -- 1, 2 and 6: the outcome's status, and its line, if it has one
@@ -109,13 +114,12 @@ module _ {F I O E : Type 0} where
     pub steady : status ≡ 3 → by.steady old.files ≡ true → Foresees by task old (λ o.
         (o.reads_input ≡ true → Rose (by.input_faults old.input) (by.input_faults new.input) → ⊥)
         → (o.status ≡ 3) × SaysIfAny by old new o.message)
-    -- 4: the target took a part of what was made, and its count rose
-    pub part : status ≡ 4 → (bytes : List ℕ)
-        × DeliversPart task.target bytes (by.contents old.files) (by.contents new.files) (by.held old.output) (by.held new.output)
-        × Foresees by task old (HasBytes bytes)
-        × Makes by task old (Done bytes)
-    pub rose : status ≡ 4 → TargetRose task.target (by.store_faults old.files) (by.store_faults new.files) (by.output_faults old.output) (by.output_faults new.output)
-    pub target_line : status ≡ 4 → Says by old new (line_of task.tool_name (write_failed task.target))
+    -- 4: the file beside the target, or the target after it, took only a part of what was made; its count rose, and its line says so
+    pub part : status ≡ 4 → (bytes : List ℕ) × (beside : List ℕ)
+        × FailsToDeliver by.contents by.store_faults by.held by.output_faults old.files new.files old.output new.output
+        (λ said. Says by old new (line_of task.tool_name said)) task.beside beside task.target bytes
+        × Foresees by task old (HasBytes bytes beside)
+        × Makes by task old (Both bytes beside)
     -- 5: out of memory
     pub memory : status ≡ 5 → Says by old new (line_of task.tool_name out_of_memory)
     -- whatever it is, it is the outcome's status, or 3, 4 or 5 came in its place
@@ -123,8 +127,8 @@ module _ {F I O E : Type 0} where
     -- only 0 and 4 deliver anything, and what isn't asked for stays as it was
     pub untouched : status ≢ 0 → status ≢ 4 → new.output ≡ old.output
     pub kept : status ≢ 0 → status ≢ 4 → by.contents new.files ≡ by.contents old.files
-    pub unstored : (task.target ≡ None) ⊎ ((status ≢ 0) × (status ≢ 4)) → by.store_faults new.files ≡ by.store_faults old.files
+    pub unstored : StoresNoFile task ⊎ ((status ≢ 0) × (status ≢ 4)) → by.store_faults new.files ≡ by.store_faults old.files
     pub aside : task.target ≢ None → new.output ≡ old.output
     pub unread : reads_input task.needs ≡ false → new.input ≡ old.input
     pub unreached : Foresees by task old (λ o. o.reads_input ≡ false → new.input ≡ old.input)
-    pub unasked : reads_files task.needs ≡ false → task.target ≡ None → new.files ≡ old.files
+    pub unasked : reads_files task.needs ≡ false → StoresNoFile task → new.files ≡ old.files

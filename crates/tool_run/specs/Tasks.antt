@@ -5,20 +5,34 @@ use Rattle.ice_io.specs.Files.{FileMap}
 use Rattle.tool_run.specs.Needs.{Need, reads_files, reads_input, with_layout}
 use Rattle.tool_run.specs.Lines.{line_of, read_failed, too_long, usage_text}
 
--- what a tool makes of what it read: the bytes for its target, or why it refuses, or that it refuses and says nothing, or that the command
--- line isn't taken
+-- what a tool makes of what it read: the bytes for its target and those for the file beside it, or why it refuses, or that it refuses and
+-- says nothing, or that the command line isn't taken
 pub data Answer : Type 0 where
-  Done : List ℕ → Answer
+  Both : List ℕ → List ℕ → Answer
   Refused : List ℕ → Answer
   Quiet : Answer
   UsageError : List ℕ → Answer
 
--- who speaks, what is read, in order, the file that is stored, or none for standard output, and what is made of what was read
+-- the bytes for the target, and none for a file beside it
+abbrev pub Done : List ℕ → Answer
+Done bytes = Both bytes []
+
+-- who speaks, what is read, in order, the file that is stored beside the target, if there is one, the target, which is a file that is
+-- stored, or none for standard output, and what is made of what was read
 pub record Task : Type 0 where
   pub tool_name : List ℕ
   pub needs : List Need
+  pub beside : Option (List ℕ)
   pub target : Option (List ℕ)
   pub answer : List (List ℕ) → Answer
+
+-- a task with no file beside its target
+abbrev pub plain_task : List ℕ → List Need → Option (List ℕ) → (List (List ℕ) → Answer) → Task
+plain_task tool_name needs target answer = record { tool_name = tool_name; needs = needs; beside = None; target = target; answer = answer }
+
+-- a task that also stores this file beside its target, if one is named
+abbrev pub beside_task : Option (List ℕ) → Task → Task
+beside_task file task = record task { beside = file }
 
 -- what is said of a layout file, if one is named, and of other texts, said of the texts of all needs: the first of them is the layout
 -- file if one is named
@@ -28,16 +42,11 @@ layout_first (Some file) said = λ texts. said (Some (get_or texts 0 [])) (drop 
 
 -- a task that reads a layout file before its other needs, if one is named
 abbrev pub layout_task : List ℕ → Option (List ℕ) → List Need → Option (List ℕ) → (Option (List ℕ) → List (List ℕ) → Answer) → Task
-layout_task tool_name layout needs target answer = record {
-  tool_name = tool_name;
-  needs = with_layout layout needs;
-  target = target;
-  answer = layout_first layout answer;
-}
+layout_task tool_name layout needs target answer = plain_task tool_name (with_layout layout needs) target (layout_first layout answer)
 
 -- a task that reads nothing
 abbrev pub at_once : List ℕ → Option (List ℕ) → Answer → Task
-at_once tool_name target answer = record { tool_name = tool_name; needs = []; target = target; answer = λ texts. answer }
+at_once tool_name target answer = plain_task tool_name [] target (λ texts. answer)
 
 -- a command line that isn't taken: the one that would be is told
 abbrev pub usage_error : List ℕ → List ℕ → Task
@@ -102,36 +111,40 @@ abbrev pub reached : FileMap → List ℕ → List Need → List Need
 reached files input [] = []
 reached files input (need ∷ needs) = need ∷ reached_after (bytes_of files input need) (reached files input needs)
 
--- the status, whether a file and whether standard input is read, the file that is stored, or none for standard output, the
--- bytes for it, and the line for standard error, if there is one
+-- the status, whether a file and whether standard input is read, the file beside the target, if there is one, and the bytes for it, the
+-- target, a file or none for standard output, and the bytes for it, and the line for standard error, if there is one
 pub record Outcome : Type 0 where
   pub status : ℕ
   pub reads_files : Bool
   pub reads_input : Bool
+  pub beside : Option (List ℕ)
+  pub beside_bytes : List ℕ
   pub target : Option (List ℕ)
   pub bytes : List ℕ
   pub message : Option (List ℕ)
 
-abbrev pub ending : Task → List Need → ℕ → List ℕ → Option (List ℕ) → Outcome
-ending task needs status bytes message = record {
+abbrev pub ending : Task → List Need → ℕ → List ℕ → List ℕ → Option (List ℕ) → Outcome
+ending task needs status bytes beside message = record {
   status = status;
   reads_files = reads_files needs;
   reads_input = reads_input needs;
+  beside = task.beside;
+  beside_bytes = beside;
   target = task.target;
   bytes = bytes;
   message = message;
 }
 
 abbrev pub answered : Task → List Need → Answer → Outcome
-answered task needs (Done bytes) = ending task needs 0 bytes None
-answered task needs (Refused text) = ending task needs 1 [] (Some (line_of task.tool_name text))
-answered task needs Quiet = ending task needs 1 [] None
-answered task needs (UsageError text) = ending task needs 2 [] (Some (line_of task.tool_name text))
+answered task needs (Both bytes beside) = ending task needs 0 bytes beside None
+answered task needs (Refused text) = ending task needs 1 [] [] (Some (line_of task.tool_name text))
+answered task needs Quiet = ending task needs 1 [] [] None
+answered task needs (UsageError text) = ending task needs 2 [] [] (Some (line_of task.tool_name text))
 
 abbrev pub ended : Task → List Need → Result (List (List ℕ)) LoadFault → Outcome
 ended task needs (Ok texts) = answered task needs (task.answer texts)
-ended task needs (Err (Missing need)) = ending task needs 3 [] (Some (line_of task.tool_name (read_failed need)))
-ended task needs (Err (TooLong need)) = ending task needs 6 [] (Some (line_of task.tool_name (too_long need)))
+ended task needs (Err (Missing need)) = ending task needs 3 [] [] (Some (line_of task.tool_name (read_failed need)))
+ended task needs (Err (TooLong need)) = ending task needs 6 [] [] (Some (line_of task.tool_name (too_long need)))
 
 -- the outcome of a task, on files and an input
 abbrev pub outcome_of : Task → FileMap → List ℕ → Outcome

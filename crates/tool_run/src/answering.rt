@@ -3,7 +3,7 @@ ghost use Rattle.std.specs.Prelude.{[], ℕ, List, Option, map};
 ghost use Rattle.tool_run.specs.Answering.{Answers, Gives};
 ghost use Rattle.tool_run.specs.Intakes.{TakesOrStops};
 ghost use Rattle.tool_run.specs.Needs.{IsSound, need_of, text_of, with_layout};
-ghost use Rattle.tool_run.specs.Tasks.{layout_first};
+ghost use Rattle.tool_run.specs.Tasks.{Both, Done, layout_first};
 
 use crate::load::{Load, LoadStop, layout_load, load_all, load_one};
 use crate::piece_tool::PieceTool;
@@ -21,7 +21,7 @@ pub(crate) fn answer_whole<'a, T: Tool, F: Files, I: Source>(
     input: &mut I,
 ) -> Result<Result<T::Made, Stop<'a>>, LoadStop<'a>>
     requires { IsSound (map need_of loads.now) }
-    ensures { Answers F.contents F.steady F.load_faults F.store_faults I.left I.faults (map need_of loads.now) (T.answer_of tool.now) T.Made.bytes result
+    ensures { Answers F.contents F.steady F.load_faults F.store_faults I.left I.faults (map need_of loads.now) (T.answer_of tool.now) (λ made. Done (T.Made.bytes made)) result
         files.old files.new input.old input.new }
 {
     let mut loaded = Vec::new(alloc);
@@ -38,7 +38,7 @@ fn finished<'a, T: PieceTool>(
     intake: Result<T::Intake, Stop<'static>>,
 ) -> Result<T::Made, Stop<'a>>
     ensures { (layout : Option (List ℕ)) (texts : List (List ℕ)) → TakesOrStops (T.takes tool.now layout texts) (T.answer_of tool.now layout) intake.entry []
-        → Gives T.Made.bytes (T.answer_of tool.now layout texts) result }
+        → Gives (λ made. Both (T.Made.bytes made) (T.Made.beside made)) (T.answer_of tool.now layout texts) result }
 {
     match intake {
         Ok(intake) => tool.finish(alloc, intake),
@@ -56,8 +56,8 @@ fn answer_taken<'a, T: PieceTool, F: Files, I: Source>(
     input: &mut I,
 ) -> Result<Result<T::Made, Stop<'a>>, LoadStop<'a>>
     requires { IsSound (map need_of loads.now) }
-    ensures { Answers F.contents F.steady F.load_faults F.store_faults I.left I.faults (map need_of loads.now) (T.answer_of tool.now (text_of layout.entry)) T.Made.bytes
-        result files.old files.new input.old input.new }
+    ensures { Answers F.contents F.steady F.load_faults F.store_faults I.left I.faults (map need_of loads.now) (T.answer_of tool.now (text_of layout.entry))
+        (λ made. Both (T.Made.bytes made) (T.Made.beside made)) result files.old files.new input.old input.new }
 {
     let intake = tool.begin(alloc, layout);
     let mut taker = ToolTaker { tool, intake };
@@ -80,7 +80,7 @@ pub(crate) fn answer_in_pieces<'a, T: PieceTool, F: Files, I: Source>(
 ) -> Result<Result<T::Made, Stop<'a>>, LoadStop<'a>>
     requires { IsSound (map need_of loads.now) }
     ensures { Answers F.contents F.steady F.load_faults F.store_faults I.left I.faults (with_layout (text_of layout.entry) (map need_of loads.now))
-        (layout_first (text_of layout.entry) (T.answer_of tool.now)) T.Made.bytes result files.old files.new input.old input.new }
+        (layout_first (text_of layout.entry) (T.answer_of tool.now)) (λ made. Both (T.Made.bytes made) (T.Made.beside made)) result files.old files.new input.old input.new }
 {
     match layout {
         None => answer_taken(alloc, tool, None, loads, files, input),

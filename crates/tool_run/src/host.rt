@@ -4,7 +4,7 @@ ghost use Rattle.tool_run.specs.AtOnce.{at_once_answer};
 ghost use Rattle.tool_run.specs.Jobs.{task_of, task_under};
 ghost use Rattle.tool_run.specs.Needs.{IsSound, need_of, text_of};
 ghost use Rattle.tool_run.specs.Runs.{Does, Outside, Scene};
-ghost use Rattle.tool_run.specs.Tasks.{Task, at_once};
+ghost use Rattle.tool_run.specs.Tasks.{Task, at_once, beside_task};
 
 use crate::at_once::{AtOnce, answer_at_once};
 use crate::performing::{Job, give_up, perform, perform_in_pieces};
@@ -54,6 +54,21 @@ pub trait Host {
     ) -> u8
         requires { IsSound (map need_of job.now.loads.now) }
         ensures { Does outside (task_under (text_of layout.entry) job.now (T.answer_of tool.now)) result (scene self.old) (scene self.new) };
+
+    /// Performs the job as `perform_in_pieces` does, but stores a file beside standard output, if one is named: first that file is stored
+    /// whole, and then the bytes for standard output go out. If the file can't be stored, the status is 4, and nothing goes out.
+    fn perform_beside<T: PieceTool>(
+        &mut self,
+        alloc: Global,
+        tool: &T,
+        layout: Option<&str>,
+        job: &Job<'_>,
+        beside: Option<&str>,
+    ) -> u8
+        requires sound { IsSound (map need_of job.now.loads.now) }
+        requires output { text_of job.now.target ≡ None }
+        ensures { Does outside (beside_task (text_of beside.entry) (task_under (text_of layout.entry) job.now (T.answer_of tool.now))) result
+            (scene self.old) (scene self.new) };
 
     /// Delivers an answer that is known from the command line alone.
     fn answer_at_once(&mut self, alloc: Global, tool_name: &'static str, answer: AtOnce) -> u8
@@ -112,6 +127,28 @@ impl<F: Files, I: Source, O: Sink, E: Sink> Host for FilesAndStreams<F, I, O, E>
             tool,
             layout,
             job,
+            None,
+            &mut self.files,
+            &mut self.input,
+            &mut self.output,
+            &mut self.errors,
+        )
+    }
+
+    fn perform_beside<T: PieceTool>(
+        &mut self,
+        alloc: Global,
+        tool: &T,
+        layout: Option<&str>,
+        job: &Job<'_>,
+        beside: Option<&str>,
+    ) -> u8 {
+        perform_in_pieces(
+            alloc,
+            tool,
+            layout,
+            job,
+            beside,
             &mut self.files,
             &mut self.input,
             &mut self.output,

@@ -1,11 +1,11 @@
 // A task from its loads to its target.
-ghost use Rattle.std.specs.Prelude.{◌≡◌, map};
+ghost use Rattle.std.specs.Prelude.{◌≡◌, None, map};
 ghost use Rattle.tool_run.specs.Needs.{IsSound, need_of, text_of};
 ghost use Rattle.tool_run.specs.Lines.{line_of, out_of_memory, source_name, target_name};
-ghost use Rattle.tool_run.specs.Tasks.{Task};
+ghost use Rattle.tool_run.specs.Tasks.{Task, beside_task};
 ghost use Rattle.tool_run.specs.Effects.{Writes};
 ghost use Rattle.tool_run.specs.Concluding.{Concludes, TellsStop};
-ghost use Rattle.tool_run.specs.Jobs.{task_of, task_under};
+ghost use Rattle.tool_run.specs.Jobs.{IsBesideOutput, task_of, task_under};
 ghost use Rattle.tool_run.specs.Runs.{Does, outside, scene};
 
 use crate::answering::{answer_in_pieces, answer_whole};
@@ -13,8 +13,9 @@ use crate::delivery::{Undelivered, deliver};
 use crate::line::{Phrase, Refusal, decimal, text, write_named, write_refusal};
 use crate::load::{Load, LoadStop};
 use crate::piece_tool::PieceTool;
+use crate::product::Product;
 use crate::tool::{Stop, Tool};
-use ice_io::{Content, Files, Sink, Source};
+use ice_io::{Files, Sink, Source};
 use std::alloc::Global;
 
 /// What a tool is asked to do, beside its own options.
@@ -56,22 +57,25 @@ fn write_out_of_memory<E: Sink>(errors: &mut E, tool_name: &str)
 }
 
 // Delivers what the tool made, or says why there is nothing.
-fn conclude<C: Content, F: Files, O: Sink, E: Sink>(
+fn conclude<P: Product, F: Files, O: Sink, E: Sink>(
     alloc: Global,
     job: &Job<'_>,
-    made: Result<C, Stop<'_>>,
+    beside: Option<&str>,
+    made: Result<P, Stop<'_>>,
     files: &mut F,
     output: &mut O,
     errors: &mut E,
 ) -> u8
-    ensures { Concludes F.contents F.store_faults O.held O.faults E.held E.faults job.now.tool_name.now (text_of job.now.target) C.bytes made.entry result
+    requires { IsBesideOutput (text_of beside) (text_of job.now.target) }
+    ensures { Concludes F.contents F.store_faults O.held O.faults E.held E.faults job.now.tool_name.now (text_of beside.entry) (text_of job.now.target)
+        P.beside P.bytes made.entry result
         files.old files.new output.old output.new errors.old errors.new }
 {
     match made {
-        Ok(content) => match deliver(alloc, job.target, content, files, output) {
+        Ok(product) => match deliver(alloc, beside, job.target, product, files, output) {
             Ok(()) => 0,
-            Err(Undelivered::Failed) => {
-                let name = target_name(job.target);
+            Err(Undelivered::Failed(target)) => {
+                let name = target_name(target);
                 write_named(errors, job.tool_name, "write failed: ", name, text(""));
                 4
             }
@@ -137,31 +141,34 @@ pub(crate) fn perform<T: Tool, F: Files, I: Source, O: Sink, E: Sink>(
         (scene files.old input.old output.old errors.old) (scene files.new input.new output.new errors.new) }
 {
     match answer_whole(alloc, tool, job.loads, files, input) {
-        Ok(made) => conclude(alloc, job, made, files, output, errors),
+        Ok(made) => conclude(alloc, job, None, made, files, output, errors),
         Err(stop) => tell_stop(errors, job.tool_name, stop),
     }
 }
 
 /// Performs the job as `perform` does, but the tool takes its loads in pieces, as they are read, and its answer is made while it
 /// is written. A layout file, if one is named, is loaded whole before the first of them. The tool refuses, if it does, after its last
-/// load was read to the end and before the first byte goes out, so the statuses are the same.
+/// load was read to the end and before the first byte goes out, so the statuses are the same. The file beside the target, if one is named, is
+/// stored before the first byte goes to the target.
 pub(crate) fn perform_in_pieces<T: PieceTool, F: Files, I: Source, O: Sink, E: Sink>(
     alloc: Global,
     tool: &T,
     layout: Option<&str>,
     job: &Job<'_>,
+    beside: Option<&str>,
     files: &mut F,
     input: &mut I,
     output: &mut O,
     errors: &mut E,
 ) -> u8
-    requires { IsSound (map need_of job.now.loads.now) }
+    requires sound { IsSound (map need_of job.now.loads.now) }
+    requires output { IsBesideOutput (text_of beside) (text_of job.now.target) }
     ensures { Does (outside F.contents F.steady F.load_faults F.store_faults I.left I.faults O.held O.faults E.held E.faults)
-        (task_under (text_of layout.entry) job.now (T.answer_of tool.now)) result
+        (beside_task (text_of beside.entry) (task_under (text_of layout.entry) job.now (T.answer_of tool.now))) result
         (scene files.old input.old output.old errors.old) (scene files.new input.new output.new errors.new) }
 {
     match answer_in_pieces(alloc, tool, layout, job.loads, files, input) {
-        Ok(made) => conclude(alloc, job, made, files, output, errors),
+        Ok(made) => conclude(alloc, job, beside, made, files, output, errors),
         Err(stop) => tell_stop(errors, job.tool_name, stop),
     }
 }

@@ -2,11 +2,11 @@
 ghost use Rattle.std.specs.Prelude.{◌≡◌, ◌∷◌, [], ◌+◌, ◌++◌, ◌<◌, ◌≤◌, ◌^◌, ℕ, List, Option, length, IfOk, IfErr};
 ghost use Rattle.ice_io.specs.Takers.{TakesMore};
 ghost use Rattle.tool_run.specs.Needs.{text_of};
-ghost use Rattle.tool_run.specs.Tasks.{Answer, Done};
+ghost use Rattle.tool_run.specs.Tasks.{Answer, Both};
 ghost use Rattle.tool_run.specs.Stops.{StopsWith};
 
+use crate::product::Product;
 use crate::tool::Stop;
-use ice_io::Content;
 use std::alloc::Global;
 
 /// A tool that takes the texts of its needs one after the other, each piece by piece, and makes the bytes for its target while
@@ -18,8 +18,8 @@ pub trait PieceTool {
     /// What the tool keeps of the texts that it has taken. A refusal is kept too.
     type Intake: Drop;
 
-    /// The bytes for the target, as the tool gives them.
-    type Made: Content;
+    /// The bytes for the target, and those for the file beside it if there is one, as the tool gives them.
+    type Made: Product;
 
     /// Under a layout file, an intake has taken these texts whole, and these bytes of the next.
     ghost takes: { Self → Option (List ℕ) → List (List ℕ) → Self.Intake → List ℕ → Type 0 };
@@ -47,10 +47,10 @@ pub trait PieceTool {
             → takes self.now layout (texts ++ bytes ∷ []) intake.new [] }
         ensures none { fed intake.new ≡ 0 };
 
-    /// The bytes for the target, or why there are none, after the last text.
+    /// The bytes for the target and for the file beside it, or why there are none, after the last text.
     fn finish(&self, alloc: Global, intake: Self::Intake) -> Result<Self::Made, Stop<'_>>
         ensures bytes { IfOk result (λ made. (layout : Option (List ℕ)) (texts : List (List ℕ)) → takes self.now layout texts intake []
-            → answer_of self.now layout texts ≡ Done (Self.Made.bytes made)) }
+            → answer_of self.now layout texts ≡ Both (Self.Made.bytes made) (Self.Made.beside made)) }
         ensures stops { IfErr result (λ stop. (layout : Option (List ℕ)) (texts : List (List ℕ)) → takes self.now layout texts intake []
             → StopsWith (answer_of self.now layout texts) stop) };
 }

@@ -30,7 +30,7 @@ impl From<AllocError> for Stop<'_> {
     }
 }
 
-/// A tool with its options: a function from the bytes that it loaded to the bytes for its target.
+/// A tool with its options: a function from the bytes that it loaded to the bytes for its target. It makes no file beside that.
 pub trait Tool {
     /// What the tool makes of the bytes of its needs, in their order.
     ghost answer_of: { Self → List (List ℕ) → Answer };

@@ -13,23 +13,10 @@ use Rattle.vlog_module.specs.Uses.{Use}
 use Rattle.vlog_module.specs.Uses.Use.{Declares, Starts}
 use Rattle.vlog_module.specs.Maps.{value_in}
 use Rattle.vlog_module.specs.WellFormed.{Scope, Reading, sort_in, declared_by, read_by, assigned_by, started_by, is_unless, is_read_unless}
-use Rattle.vlog_parser.specs.Kept.{has_name, with_name, has_word, with_word, with_sort, is_only_unless}
+use Rattle.name_set.proofs.Sets.{has-with}
+use Rattle.name_set.specs.Sets.{has_name, with_name}
+use Rattle.vlog_parser.specs.Kept.{has_word, with_word, with_sort, is_only_unless}
 use Rattle.vlog_parser.specs.Scopes.{Known, Holds, wire_reads, entered}
-
--- ---- names that are assigned
-
-absorbed : (b : Bool) (names : List (List ℕ)) (name other : List ℕ) → bytes_eq name other ≡ b → has_name names name ≡ true → has_name names other ≡ (has_name names other || b)
-absorbed true names name other same there =
-    let here : has_name names other ≡ true = ap (has_name names) (sym ((bytes_eq-Decides name other).0 same)) ∙ there in
-    here ∙ ap (λ b. b || true) (sym here)
-absorbed false names name other same there = sym (or-false (has_name names other))
-
-with_case : (b : Bool) (names : List (List ℕ)) (name other : List ℕ) → has_name names name ≡ b → has_name (if b then names else names ++ name ∷ []) other ≡ (has_name names other || bytes_eq name other)
-with_case true names name other there = absorbed (bytes_eq name other) names name other refl there
-with_case false names name other there = list_any-push (λ each. bytes_eq each other) names name
-
-has-with : (names : List (List ℕ)) (name other : List ℕ) → has_name (with_name names name) other ≡ (has_name names other || bytes_eq name other)
-has-with names name other = with_case (has_name names name) names name other refl
 
 -- ---- words of memories
 

@@ -1,16 +1,8 @@
--- Names, kinds, readings and words that are kept, each once.
+-- Kinds, readings and words that are kept, each once.
 use Rattle.std.specs.Prelude.{ℕ, Bool, true, ◌&&◌, ◌==◌, List, [], ◌∷◌, ◌++◌, Option, Some, None, is_some, bytes_eq, if◌then◌else◌}
 use Rattle.std.specs.List.{list_any}
 use Rattle.vlog_module.specs.declared.sort.Sort.{Sort}
 use Rattle.vlog_module.specs.WellFormed.{Reading, sort_in, is_unless}
-
--- whether a name is among others
-abbrev pub has_name : List (List ℕ) → List ℕ → Bool
-has_name names name = list_any (λ other. bytes_eq other name) names
-
--- names with one more, if it isn't listed yet
-abbrev pub with_name : List (List ℕ) → List ℕ → List (List ℕ)
-with_name names name = if has_name names name then names else names ++ name ∷ []
 
 -- whether a word of a memory is among others
 abbrev pub has_word : List (List ℕ × ℕ) → List ℕ → ℕ → Bool

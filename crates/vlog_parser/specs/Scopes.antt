@@ -6,7 +6,8 @@ use Rattle.vlog_module.specs.declared.item.Item.TheVariants.{Wire}
 use Rattle.vlog_module.specs.Maps.{value_in}
 use Rattle.vlog_module.specs.Uses.{Use}
 use Rattle.vlog_module.specs.WellFormed.{Scope, Reading, sort_in, declared_by, read_by, assigned_by, started_by, is_read_unless}
-use Rattle.vlog_parser.specs.Kept.{has_name, has_word, is_only_unless}
+use Rattle.name_set.specs.Sets.{has_name}
+use Rattle.vlog_parser.specs.Kept.{has_word, is_only_unless}
 
 -- the names that are declared, read by wires and assigned so far, and the words with a start value; a name that is read in several ways
 -- counts as one that is read as it is

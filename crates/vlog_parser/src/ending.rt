@@ -3,7 +3,7 @@ ghost use Rattle.std.specs.Prelude.{◌≡◌, ◌≤◌, ◌||◌, length, not}
 ghost use Rattle.std.specs.List.{list_all};
 ghost use Rattle.vlog_tokens.specs.Tokens.{spots_at};
 ghost use Rattle.vlog_forms.specs.Outcome.{are_assigned, at_end, ending, is_end};
-ghost use Rattle.vlog_parser.specs.Kept.{has_name};
+ghost use Rattle.name_set.specs.Sets.{has_name};
 ghost use Rattle.vlog_parser.specs.Drafts.{IsKept, so_far};
 ghost use Rattle.vlog_parser.specs.Steps.{Ends};
 

@@ -16,7 +16,6 @@ mod name_faults;
 mod names;
 mod ports;
 mod readings;
-mod set;
 mod sorts;
 mod uses;
 mod words;

@@ -10,8 +10,8 @@ ghost use Rattle.vlog_parser.specs.Scopes.{Holds};
 ghost use Rattle.vlog_parser.specs.Seen.{seen_fault, seen_use};
 
 use crate::names::Names;
-use crate::set::NameSet;
 use crate::uses::{Use, use_of};
+use name_set::NameSet;
 use std::alloc::{AllocError, Global};
 use vlog_form_parser::{Found, text_of};
 use vlog_forms::VlogCause;

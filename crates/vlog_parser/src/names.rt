@@ -5,15 +5,15 @@ ghost use Rattle.vlog_forms.specs.Outcome.{uses_from, uses_in, value_uses};
 ghost use Rattle.vlog_forms.specs.Reading.{values_of};
 ghost use Rattle.vlog_forms.specs.Values.{seen};
 ghost use Rattle.vlog_form_parser.specs.Found.{all_found};
-ghost use Rattle.vlog_parser.specs.Kept.{has_name};
+ghost use Rattle.name_set.specs.Sets.{has_name};
 ghost use Rattle.vlog_parser.specs.Scopes.{Holds, entered};
 ghost use Rattle.vlog_parser.specs.Seen.{seen_use};
 
 use crate::readings::{Reading, ReadingMap};
-use crate::set::NameSet;
 use crate::sorts::SortMap;
 use crate::uses::{Use, use_of};
 use crate::words::WordSet;
+use name_set::NameSet;
 use std::alloc::{AllocError, Global};
 use std::marker::Model;
 use vlog_form_parser::Found;

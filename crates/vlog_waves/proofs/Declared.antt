@@ -11,7 +11,7 @@ use Rattle.vlog_semantics.specs.Run.{register_start, word_start}
 use Rattle.vlog_waves.specs.Variables.{Kind as kind_told, Variable, of_kind}
 use Rattle.vlog_waves.specs.Variables.Kind.{wire_kind}
 use Rattle.vlog_waves.specs.Waves.{variable_line, variable_lines}
-use Rattle.vlog_waves.specs.inside.Declared.{declared_by, kind_of, names_of_kind}
+use Rattle.vlog_waves.specs.inside.Declared.{declared_by, kind_of, names_of_kind, shown, shown_by, shown_of_kind}
 use Rattle.vlog_waves.specs.declared.items.Kind.{Kind}
 use Rattle.vlog_waves.specs.declared.items.Kind.TheVariants.{Wire, Register, Word}
 use Rattle.vlog_waves.proofs.Cuts.{variables-append}
@@ -56,34 +56,54 @@ kinds-append kind number some more =
     ∙ text_of-append (variable_lines number (of_kind kind some)) (variable_lines (number + length (of_kind kind some)) (of_kind kind more))
     ∙ ap (λ n. text_of (variable_lines number (of_kind kind some)) ++ text_of (variable_lines (number + n) (of_kind kind more))) (length-map some variable)
 
+-- how they are written, from a place on
+shown-cut : (names : List (List ℕ × List ℕ)) (kind : Kind) (items : List Item) (place : ℕ) (d : Item) → place < length items
+    → shown_of_kind names kind (drop place items) ≡ shown_by names kind (get_or items place d) ++ shown_of_kind names kind (drop (place + 1) items)
+shown-cut names kind items place d within =
+    ap (map (shown names kind)) (names-cut kind items place d within)
+    ∙ map-append (shown names kind) (declared_by kind (get_or items place d)) (names_of_kind kind (drop (place + 1) items))
+
 -- the lines of items from a place on
-pub items-cut : (kind : Kind) (number : ℕ) (items : List Item) (place : ℕ) (d : Item) → place < length items
-    → text_of (variable_lines number (of_kind (kind_of kind) (names_of_kind kind (drop place items))))
-    ≡ text_of (variable_lines number (of_kind (kind_of kind) (declared_by kind (get_or items place d))))
-    ++ text_of (variable_lines (number + length (declared_by kind (get_or items place d))) (of_kind (kind_of kind) (names_of_kind kind (drop (place + 1) items))))
-items-cut kind number items place d within =
-    ap (λ names. text_of (variable_lines number (of_kind (kind_of kind) names))) (names-cut kind items place d within)
-    ∙ kinds-append (kind_of kind) number (declared_by kind (get_or items place d)) (names_of_kind kind (drop (place + 1) items))
+pub items-cut : (names : List (List ℕ × List ℕ)) (kind : Kind) (number : ℕ) (items : List Item) (place : ℕ) (d : Item) → place < length items
+    → text_of (variable_lines number (of_kind (kind_of kind) (shown_of_kind names kind (drop place items))))
+    ≡ text_of (variable_lines number (of_kind (kind_of kind) (shown_by names kind (get_or items place d))))
+    ++ text_of (variable_lines (number + length (declared_by kind (get_or items place d))) (of_kind (kind_of kind) (shown_of_kind names kind (drop (place + 1) items))))
+items-cut names kind number items place d within =
+    let item : Item = get_or items place d in
+    let more : List (List ℕ) = shown_of_kind names kind (drop (place + 1) items) in
+    ap (λ list. text_of (variable_lines number (of_kind (kind_of kind) list))) (shown-cut names kind items place d within)
+    ∙ kinds-append (kind_of kind) number (shown_by names kind item) more
+    ∙ ap (λ n. text_of (variable_lines number (of_kind (kind_of kind) (shown_by names kind item))) ++ text_of (variable_lines (number + n) (of_kind (kind_of kind) more)))
+    (length-map (declared_by kind item) (shown names kind))
 
 -- the same by the item there and the number of the next variable
-pub items-next : (kind : Kind) (number next : ℕ) (items : List Item) (place : ℕ) (item : Item) → place < length items → item ≡ get_or items place item
+pub items-next : (names : List (List ℕ × List ℕ)) (kind : Kind) (number next : ℕ) (items : List Item) (place : ℕ) (item : Item) → place < length items → item ≡ get_or items place item
     → next ≡ number + length (declared_by kind item)
-    → text_of (variable_lines number (of_kind (kind_of kind) (names_of_kind kind (drop place items))))
-    ≡ text_of (variable_lines number (of_kind (kind_of kind) (declared_by kind item)))
-    ++ text_of (variable_lines next (of_kind (kind_of kind) (names_of_kind kind (drop (place + 1) items))))
-items-next kind number next items place item within is next_is =
+    → text_of (variable_lines number (of_kind (kind_of kind) (shown_of_kind names kind (drop place items))))
+    ≡ text_of (variable_lines number (of_kind (kind_of kind) (shown_by names kind item)))
+    ++ text_of (variable_lines next (of_kind (kind_of kind) (shown_of_kind names kind (drop (place + 1) items))))
+items-next names kind number next items place item within is next_is =
     let told = kind_of kind in
-    let more = of_kind told (names_of_kind kind (drop (place + 1) items)) in
-    items-cut kind number items place item within
-    ∙ ap (λ (one : Item). text_of (variable_lines number (of_kind told (declared_by kind one))) ++ text_of (variable_lines (number + length (declared_by kind one)) more)) (sym is)
-    ∙ ap (λ n. text_of (variable_lines number (of_kind told (declared_by kind item))) ++ text_of (variable_lines n more)) (sym next_is)
+    let more = of_kind told (shown_of_kind names kind (drop (place + 1) items)) in
+    items-cut names kind number items place item within
+    ∙ ap (λ (one : Item). text_of (variable_lines number (of_kind told (shown_by names kind one))) ++ text_of (variable_lines (number + length (declared_by kind one)) more)) (sym is)
+    ∙ ap (λ n. text_of (variable_lines number (of_kind told (shown_by names kind item))) ++ text_of (variable_lines n more)) (sym next_is)
 
 -- no items are left
-pub items-end : (kind : Kind) (number : ℕ) (items : List Item) (place : ℕ) → length items ≤ place
-    → text_of (variable_lines number (of_kind (kind_of kind) (names_of_kind kind (drop place items)))) ≡ []
-items-end kind number items place past =
-    ap (λ (rest : List Item). text_of (variable_lines number (of_kind (kind_of kind) (names_of_kind kind rest)))) (drop_of_length-le items past)
-    ∙ ap (λ names. text_of (variable_lines number (of_kind (kind_of kind) names))) (names-none kind) ∙ text_of-none
+pub items-end : (names : List (List ℕ × List ℕ)) (kind : Kind) (number : ℕ) (items : List Item) (place : ℕ) → length items ≤ place
+    → text_of (variable_lines number (of_kind (kind_of kind) (shown_of_kind names kind (drop place items)))) ≡ []
+items-end names kind number items place past =
+    ap (λ (rest : List Item). text_of (variable_lines number (of_kind (kind_of kind) (shown_of_kind names kind rest)))) (drop_of_length-le items past)
+    ∙ ap (λ list. text_of (variable_lines number (of_kind (kind_of kind) (map (shown names kind) list)))) (names-none kind) ∙ text_of-none
+
+-- registers have their own names
+pub shown-register : (names : List (List ℕ × List ℕ)) (list : List (List ℕ)) → map (shown names Register) list ≡ list
+shown-register names [] = refl
+shown-register names (name ∷ list) = ap (λ rest. name ∷ rest) (shown-register names list)
+
+pub shown-word : (names : List (List ℕ × List ℕ)) (list : List (List ℕ)) → map (shown names Word) list ≡ list
+shown-word names [] = refl
+shown-word names (name ∷ list) = ap (λ rest. name ∷ rest) (shown-word names list)
 
 -- the lines of ports from a place on
 pub ports-cut : (ports : List Port) (place : ℕ) (d : Port) → place < length ports

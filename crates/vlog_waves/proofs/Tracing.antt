@@ -29,15 +29,15 @@ events-told m time entry event (next ∷ events) =
     ap (λ lines. lines_of_event m time entry event ++ lines) (events-told m (suc time) (followed m entry event) next events)
 
 -- the lines before the first event, and those of the events
-pub waves-whole : (m : Parts) (events : List Event)
-    → waves_text m events ≡ text_of (head_lines m ++ start_lines (values_in m (start m))) ++ text_of (lines_after m 1 (start m) events)
+pub waves-whole : (names : List (List ℕ × List ℕ)) (m : Parts) (events : List Event)
+    → waves_text names m events ≡ text_of (head_lines names m ++ start_lines (values_in m (start m))) ++ text_of (lines_after m 1 (start m) events)
 unfolding waves_text module_run run_from
-waves-whole m events =
+waves-whole names m events =
     let first = start_lines (values_in m (start m)) in
     let told : run_lines m (module_run m events) ≡ first ++ lines_after m 1 (start m) events = by_case events in
-    ap (λ lines. text_of (head_lines m ++ lines)) told
-    ∙ ap text_of (sym (append_assoc (head_lines m) first (lines_after m 1 (start m) events)))
-    ∙ text_of-append (head_lines m ++ first) (lines_after m 1 (start m) events)
+    ap (λ lines. text_of (head_lines names m ++ lines)) told
+    ∙ ap text_of (sym (append_assoc (head_lines names m) first (lines_after m 1 (start m) events)))
+    ∙ text_of-append (head_lines names m ++ first) (lines_after m 1 (start m) events)
   where
     by_case : (events : List Event) → run_lines m (module_run m events) ≡ start_lines (values_in m (start m)) ++ lines_after m 1 (start m) events
     by_case [] = refl

@@ -42,11 +42,12 @@ abbrev pub variable_lines : ℕ → List Variable → List (List ℕ)
 variable_lines number [] = []
 variable_lines number (variable ∷ variables) = variable_line number variable ∷ variable_lines (suc number) variables
 
-unfoldable pub head_lines : Parts → List (List ℕ)
-head_lines m =
+-- the lines before the values, by wires with the names that are given to them
+unfoldable pub head_lines : List (List ℕ × List ℕ) → Parts → List (List ℕ)
+head_lines names m =
     codes "$timescale 1 ns $end"
     ∷ (codes "$scope module " ++ (m.name ++ codes " $end"))
-    ∷ variable_lines 0 (variables_of m)
+    ∷ variable_lines 0 (variables_of names m)
     ++ (codes "$upscope $end" ∷ codes "$enddefinitions $end" ∷ [])
 
 -- ---- the values
@@ -93,6 +94,6 @@ abbrev pub run_lines : Parts → List Entry → List (List ℕ)
 run_lines m [] = []
 run_lines m (entry ∷ entries) = start_lines (values_in m entry) ++ event_lines m 1 entry entries
 
--- the VCD of the run of a module over events
-unfoldable pub waves_text : Parts → List Event → List ℕ
-waves_text m events = text_of (head_lines m ++ run_lines m (module_run m events))
+-- the VCD of the run of a module over events; wires have the names that are given to them
+unfoldable pub waves_text : List (List ℕ × List ℕ) → Parts → List Event → List ℕ
+waves_text names m events = text_of (head_lines names m ++ run_lines m (module_run m events))

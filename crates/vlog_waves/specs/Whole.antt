@@ -4,4 +4,4 @@ use Rattle.vlog_waves.specs.declared.waves.Waves.{Waves}
 use Rattle.vlog_waves.specs.Waves.{waves_text}
 
 abbrev pub waves_in : Waves → List ℕ
-waves_in waves = waves_text waves.«module» waves.events.items
+waves_in waves = waves_text waves.names waves.«module» waves.events.items

@@ -5,6 +5,7 @@
 mod changes;
 mod declarations;
 mod items;
+mod labels;
 mod lines;
 mod sending;
 mod starting;
@@ -14,5 +15,6 @@ mod waves;
 
 pub use waves::Waves;
 
-// The events of a run.
+// The events of a run, and the names of its wires.
 pub use vlog_semantics::Event;
+pub use wire_names::WireNames;

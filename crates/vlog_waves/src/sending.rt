@@ -1,5 +1,5 @@
 // Writes a VCD to a sink, piece by piece.
-ghost use Rattle.std.specs.Prelude.{◌≡◌, ◌+◌, ◌*◌, ◌<◌, ◌≤◌, ◌^◌, ◌++◌, All, length, OnErr};
+ghost use Rattle.std.specs.Prelude.{◌≡◌, ◌+◌, ◌*◌, ◌<◌, ◌≤◌, ◌^◌, ◌++◌, ℕ, List, All, length, OnErr};
 ghost use Rattle.ice_io.specs.Faults.{Rose};
 ghost use Rattle.text_lines.specs.Written.{text_of};
 ghost use Rattle.vlog_module.specs.Parts.{Parts};
@@ -66,8 +66,8 @@ pub(crate) fn write_run<K: Sink>(
     requires inputs { All (λ event. event.pin < input_count tracer.old.runner) events.now }
     requires few { length beginning.now + length events.now * event_room tracer.old.values < 2 ^ 64 }
     requires traces { Traces tracer.old «module».now (start «module».now) }
-    requires beginning { beginning.now ≡ text_of (head_lines «module».now ++ start_lines (values_in «module».now (start «module».now))) }
-    ensures sends { Sends (K.held sink.old) (K.held sink.new) 0 (waves_text «module».now events.now) result }
+    ensures sends { (names : List (List ℕ × List ℕ)) → beginning.now ≡ text_of (head_lines names «module».now ++ start_lines (values_in «module».now (start «module».now)))
+        → Sends (K.held sink.old) (K.held sink.new) 0 (waves_text names «module».now events.now) result }
     ensures never_falls { K.faults sink.old ≤ K.faults sink.new }
     ensures failed { OnErr result (Rose (K.faults sink.old) (K.faults sink.new)) }
 {

@@ -17,6 +17,7 @@ use ice_io::{Content, PutFault, Sink};
 use std::alloc::{AllocError, Global};
 use vlog_module::Module;
 use vlog_semantics::Event;
+use wire_names::WireNames;
 
 /// The VCD of a module's run over events, which is made while it is written. Only the lines before the first event and the lines of one
 /// event are in memory at a time.
@@ -24,7 +25,7 @@ use vlog_semantics::Event;
 /// # Example
 /// ```ignore
 /// let events = read_events(alloc, &module, b"d 1\nc 1\n")?;
-/// let waves = Waves::new(alloc, module, events)?;
+/// let waves = Waves::new(alloc, module, WireNames::none(alloc), events)?;
 /// let mut sink = MemSink::new(alloc, 4096, 512, Vec::new(alloc))?;
 /// let done = waves.write_to(&mut sink);
 /// assert!(done == Ok(()));
@@ -32,6 +33,7 @@ use vlog_semantics::Event;
 #[derive(Drop)]
 pub struct Waves {
     module: Module,
+    names: WireNames,
     events: Vec<Event>,
     /// The lines before the first event.
     beginning: Vec<u8>,
@@ -39,7 +41,7 @@ pub struct Waves {
     ghost inputs: { All (λ event. event.pin < input_count tracer.runner) events.items },
     ghost few: { vec_len beginning + vec_len events * event_room tracer.values < 2 ^ 64 },
     ghost traces: { Traces tracer «module» (start «module») } by { Prim.hlevel (props, shaped-prop, in_range-prop) },
-    ghost begun: { beginning.items ≡ text_of (head_lines «module» ++ start_lines (values_in «module» (start «module»))) },
+    ghost begun: { beginning.items ≡ text_of (head_lines names «module» ++ start_lines (values_in «module» (start «module»))) },
 }
 
 impl Waves {
@@ -48,21 +50,28 @@ impl Waves {
     ghost use Rattle.vlog_waves.specs.Waves.{waves_text};
     ghost use Rattle.vlog_waves.specs.Whole.{waves_in};
 
-    /// Prepares the VCD of this module's run over these events. All memory is taken here.
+    /// Prepares the VCD of this module's run over these events. Wires have the names that are given to them, and all other variables their
+    /// own. All memory is taken here.
     ///
     /// # Errors
     /// `AllocError` if memory is out, or if the most bytes that the VCD may have don't fit 64 bits.
-    pub fn new(alloc: Global, module: Module, events: Vec<Event>) -> Result<Waves, AllocError>
+    pub fn new(
+        alloc: Global,
+        module: Module,
+        names: WireNames,
+        events: Vec<Event>,
+    ) -> Result<Waves, AllocError>
         requires { All (λ event. event.pin < length (input_names «module».ports)) events.items }
-        ensures { IfOk result (λ waves. waves_in waves ≡ waves_text «module» events.items) }
+        ensures { IfOk result (λ waves. waves_in waves ≡ waves_text names «module» events.items) }
     {
         let tracer = Tracer::new(alloc, &module)?;
-        let beginning = beginning(alloc, &module, &tracer.values)?;
+        let beginning = beginning(alloc, &module, &names, &tracer.values)?;
         if !is_countable(beginning.len(), events.len(), tracer.event_room()) {
             return Err(AllocError);
         }
         Ok(Waves {
             module,
+            names,
             events,
             beginning,
             tracer,
@@ -89,6 +98,7 @@ impl Content for Waves {
     fn write_to<K: Sink>(self, sink: &mut K) -> Result<(), PutFault> {
         let Waves {
             module,
+            names: _,
             events,
             beginning,
             mut tracer,

@@ -14,8 +14,8 @@ use ice_image::AnyImage;
 use layout_file::Layouts;
 use std::alloc::Global;
 
-/// The configuration and the names of nets that a text gives under the standard layouts. No tool of this project needs the names of nets:
-/// this is for users of the library.
+/// The configuration and the names of nets that a text gives under the standard layouts. No tool of this project needs it: it is for users of
+/// the library.
 ///
 /// # Errors
 /// `AscFault::At` for the first faulty line, with its tile or RAM and its cause; `AscFault::Memory` if memory is out.
@@ -29,8 +29,7 @@ pub fn read(alloc: Global, bytes: &[u8]) -> Result<AscFile, AscFault>
     read_with(alloc, bytes, Layouts::standard())
 }
 
-/// The configuration and the names of nets that a text gives under the layouts. No tool of this project needs the names of nets: this is
-/// for users of the library.
+/// The configuration and the names of nets that a text gives under the layouts.
 ///
 /// # Errors
 /// As [`read`].

@@ -1,10 +1,12 @@
-// The text of the module of a design.
+// The text of the module of a design, and names for its wires.
 
 use super::{Case, Gives, NO_OPTIONS, is_so};
+use asc_text::{AscFault, read};
 use fabric::Design;
 use fabric_model::FabricOptions;
 use sample_images::{INVERTER, INVERTS, REGISTERED_OUTPUT, REGISTERED_OUTPUT_PINS, SampleBit};
 use std::alloc::{AllocError, Global};
+use symbol_names::symbol_names;
 use vlog_emit::emit;
 use vlog_module::{Module, is_name};
 use vlog_print::print;
@@ -41,6 +43,42 @@ fn named(alloc: Global, design: &Design, name: &[u8]) -> Option<Module> {
 pub(super) fn is_printed(alloc: Global, design: &Design, text: &str) -> Result<bool, AllocError> {
     match named(alloc, design, b"chip") {
         Some(module) => Ok(print(alloc, &module)?.as_slice() == text.as_bytes()),
+        None => Ok(false),
+    }
+}
+
+/// A text with names of nets: of two nets with one name, of one with two names, of one that isn't in the module, and of one whose name
+/// the module has.
+const SYMBOLS: &[u8] = b".device 1k
+.sym 2 lamp[0]
+.sym 3 lamp[0]
+.sym 2 lamp[1]
+.sym 70 far
+.sym 1 io_0_1_0
+.sym 1 button
+";
+
+/// Whether the symbols of the text give this list of names to the wires of a module.
+fn are_listed(
+    alloc: Global,
+    design: &Design,
+    module: &Module,
+    list: &str,
+) -> Result<bool, AllocError> {
+    match read(alloc, SYMBOLS) {
+        Ok(file) => {
+            let names = symbol_names(alloc, design, module, &file.symbols)?;
+            Ok(names.text()?.as_slice() == list.as_bytes())
+        }
+        Err(AscFault::Memory(refused)) => Err(refused),
+        Err(_) => Ok(false),
+    }
+}
+
+/// Whether the symbols of the text give this list of names to the wires of the module of a design.
+pub(super) fn are_named(alloc: Global, design: &Design, list: &str) -> Result<bool, AllocError> {
+    match named(alloc, design, b"chip") {
+        Some(module) => are_listed(alloc, design, &module, list),
         None => Ok(false),
     }
 }
@@ -113,6 +151,19 @@ fn writes_a_module(rt: HostRuntime) {
     let case = Case {
         more: &REGISTERED_OUTPUT_PINS,
         ..Case::of(REGISTERED_OUTPUT, &INVERTS, Gives::Module(OUTPUT_TEXT))
+    };
+    assert!(rt; is_so(rt.alloc(), case));
+}
+
+#[test]
+fn names_wires_by_symbols(rt: HostRuntime) {
+    let case = Case {
+        more: &REGISTERED_OUTPUT_PINS,
+        ..Case::of(
+            REGISTERED_OUTPUT,
+            &INVERTS,
+            Gives::Names("n_2 lamp[0]\nn_1 button\n"),
+        )
     };
     assert!(rt; is_so(rt.alloc(), case));
 }

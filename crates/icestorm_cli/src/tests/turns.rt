@@ -24,6 +24,11 @@ const BLANK: &[u8] = b".device 1k\n";
 
 const EVENTS: &[u8] = b"io_0_1_0 1\nio_0_1_0 0\n";
 
+/// A name of a net, and a list of names.
+const SYMBOL: &[u8] = b".sym 2 lamp[0]\n";
+
+const NAMES: &[u8] = b"n_2 lamp[0]\n";
+
 /// The files that the jobs read and that are made for them.
 #[derive(Drop)]
 struct Made {
@@ -33,6 +38,7 @@ struct Made {
     rising: Vec<u8>,
     falling: Vec<u8>,
     packaged: Vec<u8>,
+    symbols: Vec<u8>,
 }
 
 /// These bytes, repeated `times` times.
@@ -62,11 +68,19 @@ fn packaged(alloc: Global) -> Result<Vec<u8>, AllocError> {
     Ok(packaged)
 }
 
+/// An image with a name of a net.
+fn with_symbol(alloc: Global, image: &[u8]) -> Result<Vec<u8>, AllocError> {
+    let mut symbols = image.to_vec(alloc)?;
+    symbols.extend_from_slice(SYMBOL)?;
+    Ok(symbols)
+}
+
 impl Made {
     fn new(alloc: Global) -> Result<Made, AllocError> {
         let image = image(alloc)?;
         let stream = made(alloc, &["icepack"], &image)?;
         let boot = boot_of(alloc, &stream)?;
+        let symbols = with_symbol(alloc, &image)?;
         Ok(Made {
             image,
             stream,
@@ -74,11 +88,12 @@ impl Made {
             rising: repeated(alloc, RISING, 16)?,
             falling: repeated(alloc, b"f e d c b a 9 8 7 6 5 4 3 2 1 0\n", 16)?,
             packaged: packaged(alloc)?,
+            symbols,
         })
     }
 
     /// The files by their names.
-    fn named(&self) -> [Named<'_>; 13] {
+    fn named(&self) -> [Named<'_>; 15] {
         [
             ("out", BEFORE),
             ("image", &self.image),
@@ -93,6 +108,8 @@ impl Made {
             ("layout", LAYOUT),
             ("module", MODULE.as_bytes()),
             ("events", EVENTS),
+            ("symbols", &self.symbols),
+            ("names", NAMES),
         ]
     }
 }
@@ -123,7 +140,7 @@ type Job = (
     Part,
 );
 
-static JOBS: [Job; 26] = [
+static JOBS: [Job; 28] = [
     (
         &["icepack", "image", "out"],
         Way::InParts,
@@ -278,6 +295,13 @@ static JOBS: [Job; 26] = [
         Part::Small,
     ),
     (
+        &["icebox_vlog", "--names", "out", "A", "symbols"],
+        Way::InParts,
+        &["A", "symbols"],
+        "",
+        Part::Small,
+    ),
+    (
         &["vlogrun", "module", "events"],
         Way::Whole,
         &["module", "events"],
@@ -296,6 +320,13 @@ static JOBS: [Job; 26] = [
         Way::Whole,
         &["module"],
         "events",
+        Part::Small,
+    ),
+    (
+        &["vlogrun", "--vcd", "--names", "names", "module", "events"],
+        Way::Whole,
+        &["module", "names", "events"],
+        "",
         Part::Small,
     ),
     (
@@ -463,7 +494,7 @@ fn is_taken(job: &Job, writes: u64, bytes: usize) -> bool {
     }
 }
 
-/// Whether a job has ended with status 4, and standard output has what `writes` writes took.
+/// Whether a job has ended with status 4, and standard output has what `writes` writes took. A file that the job stores is whole.
 fn is_cut(
     alloc: Global,
     job: &Job,
@@ -476,7 +507,7 @@ fn is_cut(
         ended.says(4, &line)
             && is_taken(job, writes, ended.output.len())
             && whole.output.starts_with(&ended.output)
-            && ended.stored.as_slice() == BEFORE,
+            && ended.stored == whole.stored,
     )
 }
 

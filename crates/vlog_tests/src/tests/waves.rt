@@ -1,4 +1,4 @@
-// The VCD of a register that takes a wire at rising edges, and of another that reads word 5 of a memory.
+// The VCD of a register that takes a wire at rising edges, and of another that reads word 5 of a memory. The wire has a name.
 
 ghost use Rattle.std.specs.Prelude.{◌<◌, All, length};
 ghost use Rattle.vlog_semantics.specs.Run.{input_names};
@@ -8,6 +8,7 @@ use std::alloc::{AllocError, Global};
 use vlog_parser::{Module, parse};
 use vlog_run::{Event, read_events};
 use vlog_waves::Waves;
+use wire_names::{WireNames, read_names};
 
 const MODULE: &[u8] = b"module m (c, q, d);
   input c;
@@ -26,6 +27,9 @@ const MODULE: &[u8] = b"module m (c, q, d);
 endmodule
 ";
 
+/// The name of a wire, which is no simple identifier.
+const NAMES: &[u8] = b"n data[0]\n";
+
 const BEGINNING: &str = "$timescale 1 ns $end
 $scope module m $end
 $var wire 1 ! c $end
@@ -35,7 +39,7 @@ $var reg 1 $ r $end
 $var reg 16 % w [15:0] $end
 $var wire 1 & o $end
 $var wire 1 ' i $end
-$var wire 1 ( n $end
+$var wire 1 ( \\data[0] $end
 $upscope $end
 $enddefinitions $end
 #0
@@ -74,19 +78,33 @@ fn are_written(alloc: Global, waves: Waves, case: &Case<'_>) -> Result<bool, All
 fn are_waves_over(
     alloc: Global,
     module: Module,
+    names: WireNames,
     events: Vec<Event>,
     case: &Case<'_>,
 ) -> Result<bool, AllocError>
     requires { All (λ event. event.pin < length (input_names «module».ports)) events.items }
 {
-    let waves = Waves::new(alloc, module, events)?;
+    let waves = Waves::new(alloc, module, names, events)?;
     are_written(alloc, waves, case)
+}
+
+/// Whether the case holds for the run of a module over the events of its text, with these names of wires.
+fn are_named_waves(
+    alloc: Global,
+    module: Module,
+    names: WireNames,
+    case: &Case<'_>,
+) -> Result<bool, AllocError> {
+    match read_events(alloc, &module, case.events.as_bytes()) {
+        Ok(events) => are_waves_over(alloc, module, names, events, case),
+        Err(_) => Ok(false),
+    }
 }
 
 /// Whether the case holds for the run of a module over the events of its text.
 fn are_waves_of(alloc: Global, module: Module, case: &Case<'_>) -> Result<bool, AllocError> {
-    match read_events(alloc, &module, case.events.as_bytes()) {
-        Ok(events) => are_waves_over(alloc, module, events, case),
+    match read_names(alloc, &module, NAMES) {
+        Ok(names) => are_named_waves(alloc, module, names, case),
         Err(_) => Ok(false),
     }
 }

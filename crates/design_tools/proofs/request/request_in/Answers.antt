@@ -19,7 +19,7 @@ returns c =
     let pins : option_map pins_of_request c.pins_wanted-pins.result ≡ pins_in rows = c.pins_wanted-pins.ensures ∙ ap₂ named_by c.value-file.ensures c.value-package_name.ensures in
     let given = name_given (first_of (codes "name") rows) in
     c.wanted.ensures
-    ∙ ap (λ (one : FabricOptions). vlog_task_of one (name_text c.name_given-name.result) (option_map pins_of_request c.pins_wanted-pins.result) (text_of c.value-layout.result) (text_of c.value-db.result) (text_of c.value-image.result)) options
-    ∙ ap₂ (λ (n : Option Text) (p : Option (Option Named)). vlog_task_of (options_in rows) n p (text_of c.value-layout.result) (text_of c.value-db.result) (text_of c.value-image.result)) name pins
-    ∙ ap (λ (l : Option Text). vlog_task_of (options_in rows) given (pins_in rows) l (text_of c.value-db.result) (text_of c.value-image.result)) c.value-layout.ensures
-    ∙ ap₂ (vlog_task_of (options_in rows) given (pins_in rows) (first_of (codes "layout") rows)) c.value-db.ensures c.value-image.ensures
+    ∙ ap (λ (one : FabricOptions). vlog_task_of one (name_text c.name_given-name.result) (option_map pins_of_request c.pins_wanted-pins.result) (text_of c.value-names.result) (text_of c.value-layout.result) (text_of c.value-db.result) (text_of c.value-image.result)) options
+    ∙ ap₂ (λ (n : Option Text) (p : Option (Option Named)). vlog_task_of (options_in rows) n p (text_of c.value-names.result) (text_of c.value-layout.result) (text_of c.value-db.result) (text_of c.value-image.result)) name pins
+    ∙ ap₂ (λ (n l : Option Text). vlog_task_of (options_in rows) given (pins_in rows) n l (text_of c.value-db.result) (text_of c.value-image.result)) c.value-names.ensures c.value-layout.ensures
+    ∙ ap₂ (vlog_task_of (options_in rows) given (pins_in rows) (first_of (codes "names") rows) (first_of (codes "layout") rows)) c.value-db.ensures c.value-image.ensures

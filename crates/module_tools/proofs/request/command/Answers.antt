@@ -2,4 +2,4 @@ use Rattle.std.proofs.lemmas.Result.{IfOk-weaker}
 use Rattle.module_tools.proofs.request.command.Goals as goal
 
 pub returns : goal.returns
-returns c = IfOk-weaker c.with-4.result _ _ (λ command made. made _ _ (c.in_ok-command-3.ensures _ _ (c.in_ok-command-2.ensures _ _ (c.in_ok-command.ensures _ _ c.new-command.ensures.app c.flag.ensures.rule) c.long_flag.ensures.rule) c.required.ensures.rule) c.positional.ensures.rule) c.with-4.ensures
+returns c = IfOk-weaker c.with-5.result _ _ (λ command made. made _ _ (c.in_ok-command-4.ensures _ _ (c.in_ok-command-3.ensures _ _ (c.in_ok-command-2.ensures _ _ (c.in_ok-command.ensures _ _ c.new-command.ensures.app c.flag.ensures.rule) c.long_flag.ensures.rule) c.long_option.ensures.rule) c.required.ensures.rule) c.positional.ensures.rule) c.with-5.ensures

@@ -2,6 +2,7 @@ use Rattle.std.proofs.Common.{◌≡◌, [], List, ℕ, ap, subst, sym}
 use Rattle.std.specs.Prelude.{map, vec_items}
 use Rattle.tool_run.specs.Needs.{need_of}
 use Rattle.tool_run.specs.Loads.{AreTextsOf}
+use Rattle.tool_run.specs.Tasks.{Done}
 use Rattle.tool_run.proofs.Outcomes.{gives_of}
 use Rattle.tool_run.proofs.answering.answer_whole.Goals as goal
 
@@ -15,7 +16,7 @@ returns-in-Ok g c =
       made = (
         texts,
         subst (λ (all : List (List ℕ)). AreTextsOf (g.F.Files.contents c.args.files.now) (g.I.Source.left c.args.input.now) needs all) (sym read) l.texts.1,
-        gives_of g.T.Made.Content.bytes c.answer.result (g.T.Tool.answer_of c.args.tool.now texts) c.answer.ensures.bytes c.answer.ensures.stops,
+        gives_of (λ made. Done (g.T.Made.Content.bytes made)) c.answer.result (g.T.Tool.answer_of c.args.tool.now texts) c.answer.ensures.bytes c.answer.ensures.stops,
       );
       stops = tt;
       end = λ reads. l.end reads;

@@ -18,8 +18,6 @@ returns-clause-does g c = λ task speaks.
       read = λ three_is. absurd (omega arith);
       steady = λ three_is. absurd (omega arith);
       part = λ four_is. absurd (omega arith);
-      rose = λ four_is. absurd (omega arith);
-      target_line = λ four_is. absurd (omega arith);
       memory = λ five_is. subst writes (sym speaks) c.write_out_of_memory.ensures;
       exact = λ known text tells. inr (inl refl);
       untouched = λ not_zero not_four. refl;
@@ -28,5 +26,5 @@ returns-clause-does g c = λ task speaks.
       aside = λ no_stream. refl;
       unread = λ none. refl;
       unreached = λ known text tells none. refl;
-      unasked = λ no_file no_target. refl;
+      unasked = λ no_need no_file. refl;
     }

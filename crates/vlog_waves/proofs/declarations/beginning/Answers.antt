@@ -11,7 +11,7 @@ pub returns : goal.returns
 unfolding head_lines
 returns c =
     let m = c.args.module.now in
-    let variables = variable_lines 0 (variables_of m) in
+    let variables = variable_lines 0 (variables_of c.args.names.now m) in
     let values = value_lines 0 (values_held c.args.values.now) in
     beginning-made c.in_ok-text.text.items c.extend_from_slice.new.self.items c.extend_from_slice-2.new.self.items c.push_variables.new.text.items c.extend_from_slice-3.new.self.items c.push_values.new.text.items c.extend_from_slice-4.new.self.items
     (codes "$timescale 1 ns $end\n$scope module ") m.name (codes " $end\n") (text_of variables) (codes "$upscope $end\n$enddefinitions $end\n#0\n$dumpvars\n") (text_of values) (codes "$end\n")

@@ -18,4 +18,4 @@ invariant_of-result-clause-inputs c =
 pub invariant_of-result-clause-begun : goal.invariant_of-result-clause-begun
 invariant_of-result-clause-begun c =
     let m = c.args.module in
-    c.in_ok-beginning.ensures ∙ ap (λ (values : List Value). text_of (head_lines m ++ start_lines values)) c.in_ok-tracer.ensures.held
+    c.in_ok-beginning.ensures ∙ ap (λ (values : List Value). text_of (head_lines c.args.names m ++ start_lines values)) c.in_ok-tracer.ensures.held

@@ -1,0 +1,6 @@
+//! Sets of names, which are kept where they stand.
+#![tactic(auto)]
+
+mod set;
+
+pub use set::NameSet;

@@ -1,0 +1,2 @@
+-- Definitions that only contracts inside this crate cite.
+pub mod Reading

@@ -319,6 +319,14 @@ def name_lists(wire, count):
     yield "blanks around a name", "%s%s%sn%s\n" % (" \t" * count, wire, " " * count, "\t" * count)
 
 
+def pin_files(count):
+    """Pin files that are long in one thing each."""
+    yield "one pin many times", "set_io led 99\n" * count
+    yield "empty lines", "\n" * count
+    yield "one long name", "set_io %s 99\n" % ("<" * 10 * count)
+    yield "options before a name", "set_io %sled 99\n" % ("-nowarn " * count)
+
+
 def grown(files):
     """What grows: a name, what is made of a count, the least count, the arguments, and what goes to standard input."""
     text, stream, database, small, known, player = (
@@ -327,6 +335,7 @@ def grown(files):
     yield "text", texts, 100000, ["icebram", known, known], "FILE"
     yield "text", texts, 100000, ["icebox_stat", database, "FILE"], None
     yield "text", texts, 100000, ["icebox_vlog", "--names", "TARGET", database, "FILE"], None
+    yield "pin file", pin_files, 12000, ["icebox_plan", "-p", "FILE", "-d", "tq144", database, text], None
     yield "bitstream", streams, 250000, ["iceunpack", "FILE", "TARGET"], None
     yield "bitstream", streams, 250000, ["icebox_explain", database, "FILE"], None
     yield "bitstream", streams, 250000, ["icebox_diff", database, stream, "FILE"], None
@@ -337,6 +346,7 @@ def grown(files):
     yield "database", databases, 50000, ["icebox_diff", "FILE", small, text], None
     yield "database", databases, 50000, ["icebox_vlog", "FILE", small], None
     yield "database", databases, 50000, ["icebox_stat", "FILE", small], None
+    yield "database", databases, 50000, ["icebox_plan", "FILE", small], None
     yield "module", modules, 20000, ["vlogrun", "FILE"], None
     yield "module", modules, 20000, ["vlogsweep", "FILE", os.devnull, os.devnull], None
     with open(files["lamp.events"]) as events:

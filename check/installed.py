@@ -193,12 +193,16 @@ def try_arguments(tries):
     gets(["icebox_vlog", "--all-pins", "a.asc"], layout + ["--register-clocks", "--used-inputs", small, "--all-pins", "a.asc"])
     gets(["icebox_vlog", "--register-clocks", "a.asc"], layout + ["--all-pins", "--used-inputs", small, "--register-clocks", "a.asc"])
     gets(["icebox_stat", "--all-pins", "a.asc"], layout + [small, "--all-pins", "a.asc"])
+    gets(["icebox_plan", "b.asc", "-p", "pins.pcf"], stat + ["-d", "ct256", large, "b.asc", "-p", "pins.pcf"])
+    gets(["icebox_plan", "-d", "qn84", "-p", "pins.pcf", "a.asc"], stat + [small, "-d", "qn84", "-p", "pins.pcf", "a.asc"])
+    gets(["icebox_plan", "--all-pins", "a.asc"], layout + [small, "--all-pins", "a.asc"])
 
     # pipes: none is named, or one that can't be read twice
     gets(["icebox_explain"], layout + [small], source=TEXT_1K)
     gets(["icebox_vlog", "-n", "top"], vlog + [large, "-n", "top"], source=TEXT_8K)
     gets(["icebox_stat"], stat + [large], source=(tries.work / "b.bin").read_bytes())
     gets(["icebox_stat"], stat + [small], source=BEHIND_PIPE)
+    gets(["icebox_plan", "-p", "pins.pcf"], stat + ["-d", "tq144", small, "-p", "pins.pcf"], source=TEXT_1K)
     gets(["icebox_vlog", "/dev/stdin", "-n", "top"], vlog + [large, "-n", "top"], source=TEXT_8K)
     gets(["icebox_stat"], stat + [small], source=b"")
 
@@ -260,7 +264,7 @@ def try_pages(tries, prefix):
         page = prefix / "share/man/man1" / (tool + ".1")
         shown = subprocess.run(["groff", "-man", "-ww", "-Tascii", "-P-cbou", page], capture_output=True)
         text = shown.stdout.decode(errors="replace")
-        sections = ["NAME", "SYNOPSIS", "EXIT STATUS", "EXAMPLES", "SEE ALSO"] + ["DESCRIPTION"] * (tool in ("icebox_vlog", "icebox_stat"))
+        sections = ["NAME", "SYNOPSIS", "EXIT STATUS", "EXAMPLES", "SEE ALSO"] + ["DESCRIPTION"] * (tool in ("icebox_vlog", "icebox_stat", "icebox_plan"))
         missing = [section for section in sections if "\n%s\n" % section not in text]
         missing += [option for option in options(prefix, tool) if "\n       %s" % option not in text]
         fault = first_lines(shown.stderr) or ("it has no " + ", ".join(missing) if missing else "")
@@ -292,7 +296,7 @@ def try_completions(tries, prefix):
         tries.tell("bash completes %s" % tool, "" if found == wanted and is_bound else "to: %s; %s" % (" ".join(found), said))
     found, said = completed(prefix, "iceverify", ["iceverify", "-"])
     tries.tell("bash completes iceverify", "" if found == options(prefix, "iceverify") and said else "to: " + " ".join(found))
-    for words, wanted in ((["icestorm", "icebox_"], ["icebox_explain", "icebox_diff", "icebox_stat", "icebox_vlog"]), (["icepack", "--la"], ["--layout"]),
+    for words, wanted in ((["icestorm", "icebox_"], ["icebox_explain", "icebox_diff", "icebox_stat", "icebox_plan", "icebox_vlog"]), (["icepack", "--la"], ["--layout"]),
                           (["icestorm", "icebram", "--b"], ["--by-mode"]), (["icestorm", "--e"], ["--explain"]),
                           (["icestorm", "--explain", "Lo"], ["LongPayload", "Loop"]), (["icepack", "a"], []), (["icestorm", "icepack", ""], [])):
         found, _ = completed(prefix, words[0], words)

@@ -96,6 +96,7 @@ def try_all(tries):
     tries.try_run("icebox_diff of the full 8k text and a busy 8k", ["icebox_diff", large, path("full.asc"), path("busy.asc")])
     tries.try_run("icebox_diff of equal 8k texts", ["icebox_diff", "-q", large, path("busy.asc"), path("busy.asc")])
     tries.try_run("icebox_stat of a busy 8k", ["icebox_stat", str(CHIPDB / "chipdb-8k.txt"), path("busy.asc")])
+    tries.try_run("icebox_plan of a busy 8k", ["icebox_plan", "--all-pins", str(CHIPDB / "chipdb-8k.txt"), path("busy.asc")])
     tries.try_run("icebox_vlog of an empty 1k", ["icebox_vlog", str(CHIPDB / "chipdb-1k.txt"), path("least.asc")])
     tries.try_run("icebox_vlog of a busy 8k", ["icebox_vlog", str(CHIPDB / "chipdb-8k.txt"), path("busy.asc")])
     tries.try_run("vlogrun of 40,000 wires", ["vlogrun", path("chain.v")])

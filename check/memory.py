@@ -120,7 +120,7 @@ def of_sample(tries, name, database, image, *options):
     tries.run(["icebox_vlog", *options, chip, text])
     pathlib.Path(module).write_bytes(tries.output())
     pathlib.Path(events).write_bytes(b"io_0_1_0 1\nio_0_1_0 0\n")
-    over_both = [[tool, chip, text] for tool in ("icebox_explain", "icebox_stat")] + [["icebox_vlog", *options, chip, text]]
+    over_both = [[tool, chip, text] for tool in ("icebox_explain", "icebox_stat", "icebox_plan")] + [["icebox_vlog", *options, chip, text]]
     over_both.append(["icebox_diff", chip, text, str(TOP / "examples/one_bit.asc")])
     return [(words, os.devnull) for words in over_both + [["vlogrun", module, events], ["vlogsweep", module, events, events]]]
 

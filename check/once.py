@@ -65,6 +65,8 @@ CALLS = (
     (["icebox_explain", "--layout", "layout", "database", "text"], ["layout", "database", "text"]),
     (["icebox_diff", "--layout", "layout", "database", "text", "stream"], ["layout", "database", "text", "stream"]),
     (["icebox_stat", "--layout", "layout", "database", "stream"], ["layout", "database", "stream"]),
+    (["icebox_plan", "--layout", "layout", "database", "text"], ["layout", "database", "text"]),
+    (["icebox_plan", "-p", "pins", "-d", "tq144", "--layout", "layout", "database"], ["layout", "pins", "database", "text"]),
     (["icebox_vlog", "--layout", "layout", "database", "text"], ["layout", "database", "text"]),
     (["icebox_vlog", "-p", "pins", "-d", "tq144", "--layout", "layout", "database"], ["layout", "pins", "database", "text"]),
     (["vlogrun", "-s", "module", "events"], ["module", "events"]),

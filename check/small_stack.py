@@ -77,6 +77,7 @@ def main(given):
         tries.try_job(["icebox_explain", chain, pins], 0, None)
         tries.try_job(["icebox_diff", chain, pins, last], 0, None)
         tries.try_job(["icebox_stat", chain, pins], 0, None)
+        tries.try_job(["icebox_plan", chain, pins], 0, None)
         tries.try_job(["icebox_vlog", chain, pins], 0, module(length))
         tries.try_job(["icebox_vlog", cycle, last], 1, "", "icebox_vlog: net 0: Loop\n")
         words = ["icebox_vlog", tries.put("ring", ring(length)), tries.put("cells", text_of(RING))]

@@ -58,7 +58,7 @@ variable the folder is share/icestorm/chipdb where the tools are installed, or
 else /usr/share/fpga-icestorm/chipdb.
 END
   fi
-  if [ "$tool" = icebox_vlog ]; then
+  if [ "$tool" = icebox_vlog ] || [ "$tool" = icebox_plan ]; then
     cat <<END
 
 Where it takes the database by itself, -p without -d is for the package that the

@@ -11,8 +11,8 @@ from modules.programs import CHIPDB, TOP, program
 
 MOST_SECONDS = 120
 BEFORE = b"what was there before\n"
-TOOLS = ("icepack", "iceunpack", "icemulti", "icesplit", "icebram", "icebox_explain", "icebox_diff", "icebox_stat", "icebox_vlog", "vlogrun",
-         "vlogsweep", "selfrun")
+TOOLS = ("icepack", "iceunpack", "icemulti", "icesplit", "icebram", "icebox_explain", "icebox_diff", "icebox_stat", "icebox_plan", "icebox_vlog",
+         "vlogrun", "vlogsweep", "selfrun")
 
 
 def limited(memory, closed, stack):
@@ -204,6 +204,11 @@ def places(files):
         (["icebox_stat", "FILE", text], None, database),
         (["icebox_stat", database, "FILE"], None, text),
         (["icebox_stat", "--layout", "FILE", database, text], None, layout),
+        (["icebox_plan", "FILE", text], None, database),
+        (["icebox_plan", "--all-pins", database, "FILE"], None, stream),
+        (["icebox_plan", "--layout", "FILE", database, text], None, layout),
+        (["icebox_plan", "-p", "FILE", "-d", "tq144", database, text], None, pins),
+        (["icebox_plan", "-p", pins, "-d", "tq144", database], "FILE", text),
         (["icebox_vlog", "FILE", text], None, database),
         (["icebox_vlog", "-n", "name", database, "FILE"], None, text),
         (["icebox_vlog", "--all-pins", "--register-clocks", database, "FILE"], None, stream),

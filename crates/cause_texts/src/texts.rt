@@ -136,7 +136,7 @@ BitRange, in a chip database:
 ";
 
 pub const CASCADE: &str = "\
-Cascade, in the design of an image (icebox_vlog, icebox_stat):
+Cascade, in a design (icebox_vlog, icebox_stat, icebox_plan):
   Message: tile X Y: Cascade
   A function whose name begins with RamCascade. is on in one of the two tiles of
   a block RAM that is read: the RAM passes its address on to the next one.
@@ -175,7 +175,7 @@ Check, in a bitstream (.bin):
 ";
 
 pub const CLOCK: &str = "\
-Clock, in the design of an image (icebox_vlog):
+Clock, in a design (icebox_vlog):
   Messages:
     tile X Y cell I: Clock net N
     tile X Y input P: Clock net N
@@ -286,7 +286,7 @@ Device, in a chip database:
     Take the database of a 1k or an 8k. No other device is taken. A text (.asc)
     has this cause too: the database comes first, then the image.
 
-Device, in the design of an image (icebox_vlog, icebox_stat, icebox_explain):
+Device, in a design (icebox_vlog, icebox_stat, icebox_plan, icebox_explain):
   The database is for another device than the image.
   Example, the database of a 1k and an image of an 8k:
     $ icestorm icebox_vlog small.chipdb examples/lights_8k/lights.asc
@@ -419,7 +419,7 @@ LongPayload, in a bitstream (.bin):
 ";
 
 pub const LOOP: &str = "\
-Loop, in the design of an image (icebox_vlog):
+Loop, in a design (icebox_vlog):
   Message: net N: Loop
   A combinational loop: net N depends on itself, and no clock edge lies between.
   A flip-flop that is reset at once depends on its reset, so one that resets
@@ -626,7 +626,7 @@ Pin, in a pin file (.pcf):
 ";
 
 pub const PIN_MODE: &str = "\
-PinMode, in the design of an image (icebox_vlog, icebox_stat):
+PinMode, in a design (icebox_vlog, icebox_stat, icebox_plan):
   Message: tile X Y pin N: PinMode BITS
   The type of a pin isn't taken, or the way in which the design uses the pin.
   BITS are the six bits of its type, PIN_TYPE of SB_IO, the highest first.
@@ -664,7 +664,7 @@ Place, in a layout file:
 ";
 
 pub const PLL: &str = "\
-Pll, in the design of an image (icebox_vlog, icebox_stat):
+Pll, in a design (icebox_vlog, icebox_stat, icebox_plan):
   Message: tile X Y: Pll
   The design uses a PLL that isn't taken.
   Example, a flip-flop that a PLL clocks, without --all-pins:
@@ -884,7 +884,7 @@ Truncated, in a bitstream (.bin):
 ";
 
 pub const TWO_DRIVERS: &str = "\
-TwoDrivers, in the design of an image (icebox_vlog):
+TwoDrivers, in a design (icebox_vlog):
   Message: net N: TwoDrivers
   Two drivers or more drive net N, or nets that are joined with it: two outputs
   would work against each other.

@@ -4,3 +4,5 @@ pub mod Order
 pub mod Lines
 -- The cause of a refusal is the fault that it tells
 pub mod Causes
+-- the texts that are taken if a pin file comes first
+pub mod NamedIntakes

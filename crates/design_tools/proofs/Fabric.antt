@@ -55,8 +55,9 @@ use Rattle.design_tools.specs.declared.request.TheConstants.{ICEBOX_VLOG_HELP}
 use Rattle.design_tools.specs.Names.{name_given}
 use Rattle.design_answers.specs.Lines.{fabric_events}
 use Rattle.design_answers.specs.Order.{write_order}
-use Rattle.design_tools.specs.Pins.{database_text, pin_text, texts_without_pins}
-use Rattle.design_tools.specs.Vlog.{Named, icebox_vlog, list_text, listed, module_with_names, named_answer, named_by, named_where, named_with, options_in, pins_in, written, written_module, written_named, written_with, vlog_answer, vlog_command, vlog_name, vlog_outcome, vlog_task_by, vlog_task_of, vlog_usage}
+use Rattle.design_answers.specs.Pins.{database_text, pin_text, texts_without_pins}
+use Rattle.design_answers.specs.PinRequests.{Named, named_by, pins_in}
+use Rattle.design_tools.specs.Vlog.{icebox_vlog, list_text, listed, module_with_names, named_answer, named_where, named_with, options_in, written, written_module, written_named, written_with, vlog_answer, vlog_command, vlog_name, vlog_outcome, vlog_task_by, vlog_task_of, vlog_usage}
 use Rattle.design_tools.specs.Fabric.{HasNoPinFault, NamesWires, PromisesFabric, PromisesNames, SpellsFabric, WritesFabric, fabric_meant, layout_given, list_given, names_given, options_given, package_given, texts_of_design}
 use Rattle.tool_inputs.proofs.Appended.{first_gives, helped-kept}
 use Rattle.tool_inputs.proofs.Databases.{read-few, read-fit}

@@ -1,7 +1,5 @@
 -- the name of a module, from the command line
 mod CommandLines
--- the texts that are taken if a pin file names the ports
-mod NamedIntakes
 -- a fabric has few nets, with the inner nets of its pins too
 mod FewNets
 -- what is written for a design, and what is told if there is none

@@ -28,7 +28,7 @@ use Rattle.tool_run.specs.Stops.{StopsWith}
 use Rattle.tool_run.specs.Tasks.{Answer, Both, Refused as Refuses}
 use Rattle.design_answers.specs.Faults.{StopsFor, design_fault_text, told_fault}
 use Rattle.design_answers.proofs.Causes.{cause-told}
-use Rattle.design_tools.specs.Pins.{StopsForPins}
+use Rattle.design_answers.specs.Pins.{StopsForPins}
 use Rattle.design_tools.specs.Vlog.{both_texts, module_with_names, named_where, named_with, written, written_module, written_named, written_with}
 use Rattle.design_answers.proofs.Order.{order-is}
 

@@ -31,7 +31,7 @@ use Rattle.tool_inputs.specs.Appended.{AppendsFor, UnderLayout}
 use Rattle.tool_inputs.specs.Databases.{database_read}
 use Rattle.tool_inputs.specs.Images.{image_read}
 use Rattle.design_answers.specs.Lines.{fabric_events, fabric_text}
-use Rattle.design_tools.specs.Pins.{database_text, pin_text, texts_without_pins}
+use Rattle.design_answers.specs.Pins.{database_text, pin_text, texts_without_pins}
 use Rattle.design_tools.specs.Vlog.{options_in, vlog_command, vlog_outcome}
 
 -- A text spells a fabric. Its ports have the names of a pin file, if these are given.

@@ -4,7 +4,8 @@ use Rattle.clap.specs.Words.{Row, Text, first_of, is_simple_and_free}
 use Rattle.clap.proofs.OnLiterals.{clap_on_literals}
 use Rattle.fabric_model.specs.declared.options.FabricOptions.{FabricOptions}
 use Rattle.design_tools.specs.Names.{name_given}
-use Rattle.design_tools.specs.Vlog.{Named, options_in, pins_in, vlog_command, vlog_name, vlog_task_by, vlog_task_of}
+use Rattle.design_answers.specs.PinRequests.{Named, pins_in}
+use Rattle.design_tools.specs.Vlog.{options_in, vlog_command, vlog_name, vlog_task_by, vlog_task_of}
 
 pub vlog-simple : is_simple_and_free vlog_command ≡ true
 unfolding clap_on_literals

@@ -1,7 +1,6 @@
 -- `icebox_vlog`: writes the module of a database and an image. `-n` and `-p` are options of Project IceStorm's `icebox_vlog` (its usage
 -- text).
 use Rattle.std.specs.Prelude.{ℕ, Bool, true, false, List, [], ◌∷◌, codes, get_or, Option, None, Some, is_some}
-use Rattle.std.specs.Option.{option_map}
 use Rattle.clap.specs.Words.{App, Row, Text, first_of}
 use Rattle.ice_image.specs.Configuration.{Configuration}
 use Rattle.chipdb_reader.specs.Database.{Database}
@@ -26,10 +25,10 @@ use Rattle.tool_inputs.specs.Images.{image_limit, symbols_read}
 use Rattle.tool_inputs.specs.Databases.{database_limit}
 use Rattle.design_tools.specs.declared.name.ModuleName.{ModuleName}
 use Rattle.design_tools.specs.declared.request.Request.{Request}
-use Rattle.design_tools.specs.declared.request.PinRequest.{PinRequest}
 use Rattle.design_tools.specs.declared.request.TheConstants.{ICEBOX_VLOG_HELP}
 use Rattle.design_tools.specs.Names.{name_given}
-use Rattle.design_tools.specs.Pins.{database_text, pin_fault_text, pin_text, texts_without_pins}
+use Rattle.design_answers.specs.PinRequests.{Named, pins_in, pins_limit, pins_of_request}
+use Rattle.design_answers.specs.Pins.{database_text, pin_fault_text, pin_text, texts_without_pins}
 use Rattle.pin_file.specs.declared.fault.PinFileFault.{PinFileFault}
 use Rattle.pin_file.specs.declared.pin_name.PinName.{PinName}
 use Rattle.pin_file.specs.Faults.{pin_fault_of, ports_of}
@@ -128,15 +127,6 @@ write_task options name names layout db image =
     beside_task names (layout_task vlog_name layout (record { name = Some db; limit = database_limit } ∷ record { name = image; limit = image_limit } ∷ [])
     None (λ file texts. vlog_answer options file name (is_some names) texts))
 
--- the most bytes that a pin file may have
-abbrev pub pins_limit : ℕ
-pins_limit = 1048576
-
--- a pin file, and the package that it is for
-pub record Named : Type 0 where
-  pub file : Text
-  pub package_name : Text
-
 -- the task with a pin file: it needs that, and what is needed without it
 abbrev pub named_task : FabricOptions → Text → Named → Option Text → Option Text → Text → Option Text → Task
 named_task options name pins names layout db image =
@@ -148,12 +138,6 @@ named_task options name pins names layout db image =
 abbrev pub task_with : FabricOptions → Text → Option Named → Option Text → Option Text → Text → Option Text → Task
 task_with options name (Some pins) names layout db image = named_task options name pins names layout db image
 task_with options name None names layout db image = write_task options name names layout db image
-
--- a pin file and a package are given together, or neither is
-abbrev pub named_by : Option Text → Option Text → Option (Option Named)
-named_by (Some file) (Some package_name) = Some (Some (record { file = file; package_name = package_name }))
-named_by None None = Some None
-named_by _ _ = None
 
 -- the bytes of a name, if there is one
 abbrev pub name_text : Option ModuleName → Option Text
@@ -171,10 +155,6 @@ vlog_task_of options None pins names layout db image = usage_error vlog_name vlo
 abbrev pub options_in : List Row → FabricOptions
 options_in rows = options_wanted (has_flag (codes "used-inputs") rows) (has_flag (codes "all-pins") rows) (has_flag (codes "register-clocks") rows)
 
--- the pin file and the package that the arguments name
-abbrev pub pins_in : List Row → Option (Option Named)
-pins_in rows = named_by (first_of (codes "pins") rows) (first_of (codes "package") rows)
-
 abbrev pub vlog_task_by : List Row → Task
 vlog_task_by rows =
     vlog_task_of (options_in rows) (name_given (first_of (codes "name") rows)) (pins_in rows) (first_of (codes "names") rows)
@@ -187,14 +167,6 @@ icebox_vlog = record { name = vlog_name; usage = vlog_usage; help = ICEBOX_VLOG_
 -- what the arguments of `icebox_vlog` ask for, which may be its help
 abbrev pub vlog_outcome : List Text → Task
 vlog_outcome args = outcome icebox_vlog args
-
--- a pin file and its package
-abbrev pub pins_named : PinRequest → Named
-pins_named pins = record { file = pins.file.now; package_name = pins.package_name.now }
-
--- a pin file and its package, if the arguments name them
-abbrev pub pins_of_request : Option PinRequest → Option Named
-pins_of_request pins = option_map pins_named pins
 
 -- the task of the request that was found in the arguments
 abbrev pub vlog_task_for : Option Request → Task

@@ -5,7 +5,6 @@
 #![tactic(auto)]
 
 mod name;
-mod named_intake;
 mod naming;
 mod request;
 mod source;

@@ -8,37 +8,32 @@ ghost use Rattle.vlog_module.specs.Names.{IsName};
 ghost use Rattle.fabric.specs.Design.{IsDesignOf};
 ghost use Rattle.pin_file.specs.Feeding.{kept_in};
 ghost use Rattle.pin_file.specs.Packages.{package_of};
-ghost use Rattle.pin_file.specs.declared.fault.PinFileFault.TheVariants.{At};
 ghost use Rattle.port_names.specs.Named.{AreAccepted, port_pins};
 ghost use Rattle.tool_run.specs.Collected.{Collects};
-ghost use Rattle.tool_run.specs.Lines.{refusal_text};
 ghost use Rattle.tool_run.specs.Needs.{text_of};
 ghost use Rattle.tool_run.specs.Runs.{Does};
 ghost use Rattle.tool_run.specs.Stops.{StopsWith};
 ghost use Rattle.tool_run.specs.Tasks.{Both};
 ghost use Rattle.fabric_model.specs.Fabric.{fabric_with};
+ghost use Rattle.design_answers.specs.PinRequests.{pins_named};
+ghost use Rattle.design_answers.specs.Pins.{HasPins};
+ghost use Rattle.design_answers.specs.Taken.{TakesNamed};
 ghost use Rattle.design_tools.specs.Sources.{symbols_in};
-ghost use Rattle.design_tools.specs.Pins.{HasPins, StopsForPins, pin_cause_text, pin_fault_text};
-ghost use Rattle.design_tools.specs.Taken.{TakesNamed};
-ghost use Rattle.design_tools.specs.Vlog.{both_texts, module_with_names, named_answer, named_task, pins_named, written_named};
+ghost use Rattle.design_tools.specs.Vlog.{both_texts, module_with_names, named_answer, named_task, written_named};
 
 use crate::name::ModuleName;
-use crate::named_intake::NamedIntake;
-use crate::request::{PinRequest, Request};
+use crate::request::Request;
 use crate::source::{DesignSource, both_texts, read_source};
 use asc_text::Symbol;
-use design_answers::design_stop;
+use design_answers::{NamedIntake, PINS_LIMIT, PinRequest, design_stop, package_pins, pin_stop};
 use fabric::{Design, design_with};
 use fabric_model::FabricOptions;
-use pin_file::{PackagePins, PinFileCause, PinFileFault, PinName, PinReader, PortPin, pin_names};
+use pin_file::{PackagePins, PinName, PinReader, PortPin, pin_names};
 use port_names::{name_ports, port_pins};
 use std::alloc::{AllocError, Global};
-use tool_inputs::{DB_LIMIT, IMAGE_LIMIT, refusal};
-use tool_run::{Collected, Host, Job, Load, PieceTool, Refusal, Stop, WithFile, decimal, text};
+use tool_inputs::{DB_LIMIT, IMAGE_LIMIT};
+use tool_run::{Collected, Host, Job, Load, PieceTool, Stop, WithFile};
 use vlog_emit::emit;
-
-/// The most bytes that a pin file may have.
-const PINS_LIMIT: usize = 1_048_576;
 
 /// Writes the module of a database and an image under a name, with the names of a pin file for its ports, and a list of names for its wires.
 /// The options are those of the design. The pin file comes first. The image is read under the layouts of the layout file, if one is named.
@@ -53,7 +48,7 @@ struct Naming<'a> {
 }
 
 impl<'a> PieceTool for Naming<'a> {
-    ghost use Rattle.design_tools.specs.Taken.{TakesNamed, fed_named};
+    ghost use Rattle.design_answers.specs.Taken.{TakesNamed, fed_named};
     ghost use Rattle.design_tools.specs.Vlog.{named_answer};
 
     type Intake = NamedIntake;
@@ -183,16 +178,6 @@ fn texts_by_pins(
     }
 }
 
-// The pins of the package that were read from the database.
-fn package_pins(pins: Option<PinReader>) -> Result<PackagePins, AllocError>
-    ensures { IfOk result (λ kept. (package_name text : List ℕ) → HasPins package_name text pins → kept_in kept ≡ package_of package_name text) }
-{
-    match pins {
-        Some(reader) => reader.finish(),
-        None => Err(AllocError),
-    }
-}
-
 // The text of the module of a design, whose ports have these names, and the list of names for its wires.
 fn named_texts(
     alloc: Global,
@@ -209,34 +194,6 @@ fn named_texts(
     let written = emit(alloc, design, name)?;
     let module = name_ports(alloc, design, written, named)?;
     both_texts(alloc, design, &module, symbols)
-}
-
-// Why a line of a pin file is refused, after a colon.
-fn pin_cause_text(cause: PinFileCause) -> &'static str
-    ensures { result.now ≡ pin_cause_text cause }
-{
-    match cause {
-        PinFileCause::Statement => ": Statement",
-        PinFileCause::Package => ": Package",
-        PinFileCause::Pin => ": Pin",
-    }
-}
-
-// The refusal of a pin file: the line and the cause.
-fn pin_refusal(line: u64, cause: PinFileCause) -> Refusal<'static>
-    ensures { refusal_text result ≡ pin_fault_text (At line cause) }
-{
-    refusal(decimal("pin file line ", line), text(pin_cause_text(cause)))
-}
-
-// The stop for a pin file with this fault.
-fn pin_stop(fault: PinFileFault) -> Stop<'static>
-    ensures { StopsForPins fault result }
-{
-    match fault {
-        PinFileFault::At { line, cause } => Stop::Refused(pin_refusal(line, cause)),
-        PinFileFault::Memory(_) => Stop::Memory,
-    }
 }
 
 /// Does a request with a pin file: loads its files and writes the module, whose ports have the names of the pin file.

@@ -3,10 +3,12 @@ ghost use Rattle.std.specs.Prelude.{◌≡◌, IfOk};
 ghost use Rattle.std.specs.Option.{option_map};
 ghost use Rattle.clap.specs.Words.{app_of, found_of, rows_of};
 ghost use Rattle.tool_run.specs.Needs.{text_of};
-ghost use Rattle.design_tools.specs.Vlog.{inputs_wanted, options_wanted, name_text, named_by, pins_of_request, vlog_command, vlog_task_by, vlog_task_for, vlog_task_of};
+ghost use Rattle.design_answers.specs.PinRequests.{pins_of_request};
+ghost use Rattle.design_tools.specs.Vlog.{inputs_wanted, options_wanted, name_text, vlog_command, vlog_task_by, vlog_task_for, vlog_task_of};
 
 use crate::name::{ModuleName, name_given};
 use clap::{ArgMatches, Command};
+use design_answers::{PinRequest, pins_wanted};
 use fabric_model::{FabricOptions, LutInputs};
 use std::alloc::{AllocError, Global};
 use tool_inputs::{has_flag, long_flag, long_option, positional, short_option, value, with};
@@ -144,13 +146,6 @@ than its limit.
 icestorm --explain CAUSE tells what the cause in a message means.
 ";
 
-/// A pin file, and the package whose pins it names.
-#[derive(Clone, Copy)]
-pub(crate) struct PinRequest<'a> {
-    pub(crate) file: &'a str,
-    pub(crate) package_name: &'a str,
-}
-
 /// What the arguments ask for: the name of the module, a pin file, a file for the list of names, the options, a layout file, a database and an
 /// image.
 #[derive(Clone, Copy)]
@@ -199,20 +194,6 @@ fn options_wanted(used: bool, all: bool, registers: bool) -> FabricOptions
         lut_inputs: inputs_wanted(used),
         all_pins: all,
         register_clocks: registers,
-    }
-}
-
-// The pin file and its package, if both are given (`Some(Some(..))`) or neither is (`Some(None)`).
-fn pins_wanted<'a>(
-    file: Option<&'a str>,
-    package_name: Option<&'a str>,
-) -> Option<Option<PinRequest<'a>>>
-    ensures { option_map pins_of_request result ≡ named_by (text_of file.entry) (text_of package_name.entry) }
-{
-    match (file, package_name) {
-        (Some(file), Some(package_name)) => Some(Some(PinRequest { file, package_name })),
-        (None, None) => Some(None),
-        (Some(_), None) | (None, Some(_)) => None,
     }
 }
 

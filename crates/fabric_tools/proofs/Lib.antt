@@ -2,3 +2,5 @@
 mod Counted
 -- What is answered of equal images, and of others
 mod Equal
+-- What is told if nothing is drawn
+mod Planned

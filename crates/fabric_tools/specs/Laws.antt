@@ -1,4 +1,4 @@
--- Laws of the command lines of `icebox_explain`, `icebox_diff` and `icebox_stat`: each command is simple, as `clap`'s statement needs it, and each task
+-- Laws of the command lines of `icebox_explain`, `icebox_diff`, `icebox_stat` and `icebox_plan`: each command is simple, as `clap`'s statement needs it, and each task
 -- has the name of its tool.
 use Rattle.std.specs.Prelude.{◌≡◌, Bool, true, List, codes, refl, Option, None, Some}
 use Rattle.clap.specs.Words.{Row, Text, first_of, is_simple_and_free}
@@ -6,7 +6,9 @@ use Rattle.clap.proofs.OnLiterals.{clap_on_literals}
 use Rattle.asc_text.specs.declared.fault.TileXy.{TileXy}
 use Rattle.tool_inputs.specs.Commands.{has_flag}
 use Rattle.fabric_tools.specs.Explain.{explain_command, explain_name, explain_task_by, explain_task_of, tile_given}
+use Rattle.design_answers.specs.PinRequests.{Named, pins_in}
 use Rattle.fabric_tools.specs.Diff.{diff_command, diff_name, diff_task_by, diff_task_of}
+use Rattle.fabric_tools.specs.Plan.{plan_command, plan_name, plan_task_by, plan_task_of}
 use Rattle.fabric_tools.specs.Stat.{stat_command, stat_name, stat_task_by, stat_task_of}
 
 pub explain-simple : is_simple_and_free explain_command ≡ true
@@ -49,3 +51,18 @@ stat_of-speaks all layout None image = refl
 
 pub stat-speaks : (rows : List Row) → (stat_task_by rows).tool_name ≡ stat_name
 stat-speaks rows = stat_of-speaks (has_flag (codes "all-pins") rows) (first_of (codes "layout") rows) (first_of (codes "db") rows) (first_of (codes "image") rows)
+
+-- ---- icebox_plan
+
+pub plan-simple : is_simple_and_free plan_command ≡ true
+unfolding clap_on_literals
+plan-simple = refl
+
+plan_of-speaks : (all : Bool) (pins : Option (Option Named)) (layout db image : Option Text) → (plan_task_of all pins layout db image).tool_name ≡ plan_name
+plan_of-speaks all (Some (Some pins)) layout (Some db) image = refl
+plan_of-speaks all (Some None) layout (Some db) image = refl
+plan_of-speaks all (Some pins) layout None image = refl
+plan_of-speaks all None layout db image = refl
+
+pub plan-speaks : (rows : List Row) → (plan_task_by rows).tool_name ≡ plan_name
+plan-speaks rows = plan_of-speaks (has_flag (codes "all-pins") rows) (pins_in rows) (first_of (codes "layout") rows) (first_of (codes "db") rows) (first_of (codes "image") rows)

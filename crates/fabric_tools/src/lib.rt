@@ -1,6 +1,6 @@
-//! The tools that report what is in an image, by a chip database: `icebox_explain`, `icebox_diff` and `icebox_stat`.
+//! The tools that report what is in an image, by a chip database: `icebox_explain`, `icebox_diff`, `icebox_stat` and `icebox_plan`.
 //!
-//! Each tool is one module, with its command line, its usage line and its answer for what it loads. The function that
+//! Each tool has its command line, its usage line and its answer for what it loads. The function that
 //! runs it has one clause: a run does the task that the arguments ask for.
 #![tactic(auto)]
 
@@ -8,6 +8,9 @@ mod comparing;
 mod counting;
 mod explaining;
 mod faults;
+mod plan_naming;
+mod plan_request;
+mod planning;
 mod request;
 
 pub use comparing::{
@@ -15,4 +18,6 @@ pub use comparing::{
 };
 pub use counting::{ICEBOX_STAT_HELP, ICEBOX_STAT_USAGE, run_icebox_stat};
 pub use explaining::run_icebox_explain;
+pub use plan_request::{ICEBOX_PLAN_HELP, ICEBOX_PLAN_USAGE};
+pub use planning::run_icebox_plan;
 pub use request::{ICEBOX_EXPLAIN_HELP, ICEBOX_EXPLAIN_USAGE};

@@ -10,13 +10,14 @@ use Rattle.bitstream_tools.specs.Split.{icesplit_outcome}
 use Rattle.bitstream_tools.specs.Unpack.{iceunpack_outcome}
 use Rattle.fabric_tools.specs.Diff.{diff_outcome}
 use Rattle.fabric_tools.specs.Explain.{explain_outcome}
+use Rattle.fabric_tools.specs.Plan.{plan_outcome}
 use Rattle.fabric_tools.specs.Stat.{stat_outcome}
 use Rattle.module_tools.specs.Vlogrun.{vlogrun_outcome}
 use Rattle.module_tools.specs.Vlogsweep.{vlogsweep_outcome}
 use Rattle.design_tools.specs.Vlog.{vlog_outcome}
 use Rattle.selfrun_tool.specs.Selfrun.{IsSelfrunAnswer, selfrun_outcome}
 use Rattle.icestorm_cli.specs.declared.tool.Tool.{Tool}
-use Rattle.icestorm_cli.specs.declared.tool.Tool.TheVariants.{Icepack, Iceunpack, Icemulti, Icesplit, Icebram, IceboxExplain, IceboxDiff, IceboxStat, IceboxVlog, Vlogrun, Vlogsweep, Selfrun}
+use Rattle.icestorm_cli.specs.declared.tool.Tool.TheVariants.{Icepack, Iceunpack, Icemulti, Icesplit, Icebram, IceboxExplain, IceboxDiff, IceboxStat, IceboxPlan, IceboxVlog, Vlogrun, Vlogsweep, Selfrun}
 use Rattle.icestorm_cli.specs.declared.tool.TheConstants.{HELP, VERSION}
 
 -- the tool that a word names, if it names one
@@ -30,6 +31,7 @@ tool_named word =
     else if bytes_eq word (codes "icebox_explain") then Some IceboxExplain
     else if bytes_eq word (codes "icebox_diff") then Some IceboxDiff
     else if bytes_eq word (codes "icebox_stat") then Some IceboxStat
+    else if bytes_eq word (codes "icebox_plan") then Some IceboxPlan
     else if bytes_eq word (codes "icebox_vlog") then Some IceboxVlog
     else if bytes_eq word (codes "vlogrun") then Some Vlogrun
     else if bytes_eq word (codes "vlogsweep") then Some Vlogsweep
@@ -82,6 +84,7 @@ IsOutcomeOf (Some Icebram) args task = task ≡ icebram_outcome args
 IsOutcomeOf (Some IceboxExplain) args task = task ≡ explain_outcome args
 IsOutcomeOf (Some IceboxDiff) args task = task ≡ diff_outcome args
 IsOutcomeOf (Some IceboxStat) args task = task ≡ stat_outcome args
+IsOutcomeOf (Some IceboxPlan) args task = task ≡ plan_outcome args
 IsOutcomeOf (Some IceboxVlog) args task = task ≡ vlog_outcome args
 IsOutcomeOf (Some Vlogrun) args task = task ≡ vlogrun_outcome args
 IsOutcomeOf (Some Vlogsweep) args task = task ≡ vlogsweep_outcome args

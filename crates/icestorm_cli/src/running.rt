@@ -13,7 +13,7 @@ use crate::tool::{HELP, Tool, VERSION, tool_of};
 use bitstream_tools::{run_icebram, run_icemulti, run_icepack, run_icesplit, run_iceunpack};
 use cause_texts::{WORDS, explained};
 use design_tools::run_icebox_vlog;
-use fabric_tools::{run_icebox_diff, run_icebox_explain, run_icebox_stat};
+use fabric_tools::{run_icebox_diff, run_icebox_explain, run_icebox_plan, run_icebox_stat};
 use module_tools::{run_vlogrun, run_vlogsweep};
 use selfrun_tool::run_selfrun;
 use std::alloc::Global;
@@ -88,6 +88,7 @@ pub fn run<H: Host>(alloc: Global, args: &[String], host: &mut H) -> u8
         Some(Tool::IceboxExplain) => { run_icebox_explain(alloc, args, host) }
         Some(Tool::IceboxDiff) => run_icebox_diff(alloc, args, host),
         Some(Tool::IceboxStat) => run_icebox_stat(alloc, args, host),
+        Some(Tool::IceboxPlan) => run_icebox_plan(alloc, args, host),
         Some(Tool::IceboxVlog) => run_icebox_vlog(alloc, args, host),
         Some(Tool::Vlogrun) => run_vlogrun(alloc, args, host),
         Some(Tool::Vlogsweep) => run_vlogsweep(alloc, args, host),

@@ -21,6 +21,8 @@ pub enum Tool {
     IceboxDiff,
     /// Counts of what an image uses.
     IceboxStat,
+    /// A picture of what an image uses.
+    IceboxPlan,
     /// The module of an image.
     IceboxVlog,
     /// A run of a module.
@@ -54,6 +56,7 @@ Tools:
                tells what the set bits of an image mean
   icebox_diff  tells what two images differ in
   icebox_stat  counts what an image uses
+  icebox_plan  draws what an image uses as a floor plan, an SVG
   icebox_vlog  writes the design of an image in a subset of Verilog
   vlogrun      runs a module of that subset over a list of events
   vlogsweep    runs a module over up to 64 lists of events, each on its own
@@ -95,6 +98,7 @@ fn tool_named(word: &str) -> Option<Tool>
         "icebox_explain" => Some(Tool::IceboxExplain),
         "icebox_diff" => Some(Tool::IceboxDiff),
         "icebox_stat" => Some(Tool::IceboxStat),
+        "icebox_plan" => Some(Tool::IceboxPlan),
         "icebox_vlog" => Some(Tool::IceboxVlog),
         "vlogrun" => Some(Tool::Vlogrun),
         "vlogsweep" => Some(Tool::Vlogsweep),

@@ -10,10 +10,8 @@ use crate::cells::{carries, flops};
 use crate::counts::{Counts, text_of};
 use crate::fault::StatFault;
 use crate::globals::globals;
+use crate::parts::used_parts;
 use chipdb_reader::ChipDb;
-use fabric_model::links;
-use fabric_parts::{cells, pins, rams};
-use fabric_plls::plls;
 use ice_image::AnyImage;
 use std::alloc::Global;
 
@@ -55,21 +53,17 @@ fn counts(alloc: Global, db: &ChipDb, image: &AnyImage, all_pins: bool) -> Resul
     ensures taken { OnOk result (stat_fault all_pins (database_in db.now) (configuration_of image.now) ≡ None) }
     ensures refused { IfErr result (IsCause (stat_fault all_pins (database_in db.now) (configuration_of image.now))) }
 {
-    let links = links(alloc, db, image, all_pins)?;
-    let sources = plls(alloc, db, image, all_pins)?;
-    let pins = pins(alloc, db, image, &links, all_pins, &sources)?;
-    let rams = rams(alloc, db, image, &links)?;
-    let cells = cells(alloc, db, image)?;
+    let parts = used_parts(alloc, db, image, all_pins)?;
     let extras = image.extra_bits(alloc)?;
     Ok(Counts {
-        luts: cells.lcs.len(),
-        flops: flops(&cells.lcs),
-        carries: carries(&cells.lcs),
-        rams: rams.len(),
-        pins: pins.pins.len(),
-        globals: globals(&pins.globals),
-        buffers: links.buffers().len(),
-        routings: links.routings().len(),
+        luts: parts.cells.lcs.len(),
+        flops: flops(&parts.cells.lcs),
+        carries: carries(&parts.cells.lcs),
+        rams: parts.rams.len(),
+        pins: parts.pins.pins.len(),
+        globals: globals(&parts.pins.globals),
+        buffers: parts.links.buffers().len(),
+        routings: parts.links.routings().len(),
         bits: set_bits(alloc, image)?,
         extra: extras.len(),
     })

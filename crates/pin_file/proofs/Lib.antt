@@ -8,6 +8,8 @@ pub mod PinSteps
 pub mod PackageSteps
 -- the ports that lines give, one more at a time
 pub mod PortSteps
+-- the names of pins as they stand in the file
+pub mod GivenSteps
 -- lines taken one after the other, and the first that is faulty
 pub mod Ends
 -- names that can be used in a module

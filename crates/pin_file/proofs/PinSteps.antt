@@ -63,16 +63,18 @@ place-stays pins pin other place known =
 
 -- ---- pins that have a port
 
--- a kept pin stays
+-- what is kept at a place stays
+pub value-stays : {A : Type 0} (kept : PinPlace → Option A) (value : A) (place other : PinPlace) → is_some (kept place) ≡ true
+    → kept other ≡ or_else (kept other) (if is_place other place then Some value else None)
+value-stays kept value place other known =
+    elim (cases_Bool (is_place other place)) [
+      | inl same ↦ or_else-known (kept other) (if is_place other place then Some value else None) (ap (λ p. is_some (kept p)) (place-same other place same) ∙ known)
+      | inr apart ↦ rw apart (sym (or_else-none (kept other)))
+    ]
+
 pub pin-stays : (kept : PortPins) (pin : PortPin) (place : PinPlace) → is_some (pin_kept kept pin.place) ≡ true
     → pin_kept kept place ≡ or_else (pin_kept kept place) (if is_place place pin.place then Some pin else None)
-pin-stays kept pin place known =
-    elim (cases_Bool (is_place place pin.place)) [
-      | inl same ↦
-          or_else-known (pin_kept kept place) (if is_place place pin.place then Some pin else None)
-          (ap (λ p. is_some (pin_kept kept p)) (place-same place pin.place same) ∙ known)
-      | inr apart ↦ rw apart (sym (or_else-none (pin_kept kept place)))
-    ]
+pin-stays kept pin place known = value-stays (pin_kept kept) pin pin.place place known
 
 either-is : {A : Type 0} (first other : Option A) → option_or first other ≡ or_else first other
 either-is (Some value) other = refl

@@ -3,4 +3,5 @@ pub mod PortNames
 pub mod Packages
 pub mod Faults
 pub mod Feeding
+pub mod GivenNames
 pub mod inside

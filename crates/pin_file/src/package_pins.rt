@@ -2,6 +2,7 @@
 ghost use Rattle.std.specs.Prelude.{◌≡◌, ◌||◌, ℕ, List, None, Some, false, bytes_eq, if◌then◌else◌, OnOk};
 ghost use Rattle.index_search.specs.Places.{or_else};
 
+use crate::fault::PinFileCause;
 use crate::place::PinPlace;
 use indexmap::IndexMap;
 use std::alloc::{AllocError, Global};
@@ -15,6 +16,7 @@ pub struct PackagePins {
 }
 
 impl PackagePins {
+    ghost use Rattle.pin_file.specs.Faults.{place_in};
     ghost use Rattle.pin_file.specs.Feeding.{kept_in, place_kept};
 
     /// A package that isn't listed so far, without pins. It takes no memory yet.
@@ -50,6 +52,20 @@ impl PackagePins {
         ensures { result ≡ place_kept self.now pin.now }
     {
         self.places.get(pin).copied()
+    }
+
+    /// The place of a pin, or why there is none.
+    pub(crate) fn place_in(&self, pin: &[u8]) -> Result<PinPlace, PinFileCause>
+        ensures { result ≡ place_in (kept_in self.now) pin.now }
+    {
+        if self.is_known() {
+            match self.place_of(pin) {
+                Some(place) => Ok(place),
+                None => Err(PinFileCause::Pin),
+            }
+        } else {
+            Err(PinFileCause::Package)
+        }
     }
 
     /// Marks the package as listed, if `here` is set.

@@ -95,7 +95,7 @@ impl Ports {
         ensures fits { OnOk result (cause_in (place_in (kept_in chosen.now) pin.now) ≡ None) }
         ensures refused { IfErr result (RefusesFor (cause_in (place_in (kept_in chosen.now) pin.now))) }
     {
-        match place_in(chosen, pin) {
+        match chosen.place_in(pin) {
             Ok(place) => Ok(self.accept_at(place, name)?),
             Err(cause) => Err(PinLineRefusal::Cause(cause)),
         }
@@ -135,22 +135,5 @@ impl Ports {
         let name = Name::new(self.alloc, &port)?;
         self.list.push(PinName { place, name })?;
         self.names.insert_all(names)
-    }
-}
-
-ghost use Rattle.pin_file.specs.Faults.{place_in};
-ghost use Rattle.pin_file.specs.Feeding.{kept_in};
-
-/// The place of a pin of the package, or why there is none.
-fn place_in(chosen: &PackagePins, pin: &[u8]) -> Result<PinPlace, PinFileCause>
-    ensures { result ≡ place_in (kept_in chosen.now) pin.now }
-{
-    if chosen.is_known() {
-        match chosen.place_of(pin) {
-            Some(place) => Ok(place),
-            None => Err(PinFileCause::Pin),
-        }
-    } else {
-        Err(PinFileCause::Package)
     }
 }

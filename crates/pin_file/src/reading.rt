@@ -12,7 +12,6 @@ use crate::pin_name::PinName;
 use crate::place::PortPin;
 use crate::port_pins::PortPins;
 use crate::ports::Ports;
-use crate::refusal::PinLineRefusal;
 use std::alloc::Global;
 use text_lines::first_line;
 
@@ -79,10 +78,6 @@ fn take_line(
 {
     match named.accept(pins, line) {
         Ok(()) => Ok(()),
-        Err(PinLineRefusal::Cause(cause)) => Err(PinFileFault::At {
-            line: number,
-            cause,
-        }),
-        Err(PinLineRefusal::Memory(e)) => Err(PinFileFault::Memory(e)),
+        Err(refusal) => Err(refusal.of_line(number)),
     }
 }

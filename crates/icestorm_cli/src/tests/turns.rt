@@ -140,7 +140,7 @@ type Job = (
     Part,
 );
 
-static JOBS: [Job; 28] = [
+static JOBS: [Job; 30] = [
     (
         &["icepack", "image", "out"],
         Way::InParts,
@@ -255,6 +255,20 @@ static JOBS: [Job; 28] = [
         &["A", "image"],
         "",
         Part::Small,
+    ),
+    (
+        &["icebox_plan", "A", "image"],
+        Way::InParts,
+        &["A", "image"],
+        "",
+        Part::Large,
+    ),
+    (
+        &["icebox_plan", "-p", "pins", "-d", "small", "packaged"],
+        Way::InParts,
+        &["pins", "packaged"],
+        "image",
+        Part::Large,
     ),
     (
         &["icebox_vlog", "A", "image"],
@@ -651,7 +665,7 @@ fn leaves_what_a_file_has_room_for(rt: HostRuntime) {
 }
 
 /// The first words of command lines that aren't taken.
-static TOOLS: [&str; 12] = [
+static TOOLS: [&str; 13] = [
     "icepack",
     "iceunpack",
     "icemulti",
@@ -660,6 +674,7 @@ static TOOLS: [&str; 12] = [
     "icebox_explain",
     "icebox_diff",
     "icebox_stat",
+    "icebox_plan",
     "icebox_vlog",
     "vlogrun",
     "vlogsweep",

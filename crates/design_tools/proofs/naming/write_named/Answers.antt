@@ -7,7 +7,8 @@ use Rattle.tool_inputs.specs.Images.{image_limit}
 use Rattle.tool_run.proofs.Same.{Does-same}
 use Rattle.tool_run.specs.Needs.{text_of}
 use Rattle.tool_run.specs.Tasks.{beside_task, layout_task}
-use Rattle.design_tools.specs.Vlog.{named_answer, pins_limit, vlog_name}
+use Rattle.design_answers.specs.PinRequests.{pins_limit}
+use Rattle.design_tools.specs.Vlog.{named_answer, vlog_name}
 use Rattle.design_tools.proofs.naming.write_named.Goals as goal
 
 pub perform_beside-requires-clause-sound : goal.perform_beside-requires-clause-sound

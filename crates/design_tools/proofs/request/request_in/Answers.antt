@@ -5,8 +5,9 @@ use Rattle.clap.specs.Words.{Text, first_of, found_of, rows_of}
 use Rattle.fabric_model.specs.declared.options.FabricOptions.{FabricOptions}
 use Rattle.tool_run.specs.Needs.{text_of}
 use Rattle.tool_inputs.specs.Commands.{has_flag}
+use Rattle.design_answers.specs.PinRequests.{Named, named_by, pins_in, pins_of_request}
 use Rattle.design_tools.specs.Names.{name_given}
-use Rattle.design_tools.specs.Vlog.{Named, name_text, named_by, options_in, options_wanted, pins_in, pins_of_request, vlog_task_of}
+use Rattle.design_tools.specs.Vlog.{name_text, options_in, options_wanted, vlog_task_of}
 use Rattle.design_tools.proofs.CommandLines.{name_text-map}
 use Rattle.design_tools.proofs.request.request_in.Goals as goal
 

@@ -2,7 +2,7 @@ use Rattle.std.proofs.Common.{[]}
 use Rattle.std.specs.Prelude.{get_or}
 use Rattle.std.proofs.lemmas.Result.{IfErr-weaker}
 use Rattle.pin_file.specs.Packages.{package_of}
-use Rattle.design_tools.specs.Pins.{database_text, pin_text, texts_without_pins}
+use Rattle.design_answers.specs.Pins.{database_text, pin_text, texts_without_pins}
 use Rattle.design_tools.specs.Vlog.{listed, written_named}
 use Rattle.design_tools.proofs.naming.NamingPieceTool.begin.Goals as goal
 

@@ -1,0 +1,36 @@
+-- Places on a sheet lie as those on the chip.
+use Rattle.std.proofs.Common.{◌≡◌, ℕ, zero, suc, ◌+◌, ◌<◌, ◌≤◌, refl, arith}
+use Rattle.std.specs.Prelude.{Option, None, Some, is_some}
+use denote.Ref.{Bor}
+use Rattle.pin_file.specs.declared.given.GivenNames.{GivenNames}
+use Rattle.plan_svg.specs.declared.sheet.Sheet.{Sheet}
+use Rattle.plan_svg.specs.Laws.{CellsLie, LiesAsOnChip, PinsLie}
+use Rattle.plan_svg.specs.Names.{names_in}
+use Rattle.plan_svg.specs.Sheet.{cell_offset}
+
+pub lies : (sheet : Sheet) → LiesAsOnChip sheet
+lies sheet = record { columns = λ x. omega arith; rows = λ y low. omega arith }
+
+beside : (i : ℕ) → i < 4 → (cell_offset (i + i)).x + 16 < (cell_offset (i + i + 1)).x × ((cell_offset (i + i)).y ≡ (cell_offset (i + i + 1)).y)
+beside zero lt = (omega arith, refl)
+beside (suc zero) lt = (omega arith, refl)
+beside (suc (suc zero)) lt = (omega arith, refl)
+beside (suc (suc (suc zero))) lt = (omega arith, refl)
+beside (suc (suc (suc (suc i)))) lt = absurd (omega arith)
+
+upwards : (i : ℕ) → i < 6 → (cell_offset (i + 2)).y + 7 < (cell_offset i).y × ((cell_offset i).x ≡ (cell_offset (i + 2)).x)
+upwards i lt = (omega arith, omega arith)
+
+inside : (i : ℕ) → i < 8 → ((cell_offset i).x + 16 ≤ 40) × ((cell_offset i).y + 7 ≤ 40)
+inside i lt = (omega arith, omega arith)
+
+pub cells-lie : CellsLie
+cells-lie = record { beside = beside; upwards = upwards; inside = inside }
+
+pub pins-lie : PinsLie
+pins-lie = record { at_left = omega arith; at_right = omega arith; at_top = omega arith; at_bottom = omega arith }
+
+-- there are names if a pin file was read
+pub named-some : (names : Option (Bor GivenNames)) → is_some names ≡ is_some (names_in names)
+named-some None = refl
+named-some (Some names) = refl

@@ -1,0 +1,11 @@
+pub mod Pieces
+pub mod Sheet
+pub mod Names
+pub mod Hover
+pub mod Tiles
+pub mod Margins
+pub mod Sources
+pub mod Legend
+pub mod Svg
+pub mod Reader
+pub mod Laws

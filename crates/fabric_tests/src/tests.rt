@@ -17,6 +17,7 @@ mod nets;
 mod orders;
 mod pin_files;
 mod pins;
+mod plans;
 mod plls;
 mod rams;
 

@@ -1,5 +1,5 @@
 -- Marks and counts of links by their tiles.
-use Rattle.std.proofs.Common.{◌≡◌, ◌≢◌, ℕ, zero, suc, ◌+◌, ◌*◌, ◌<◌, ◌≤◌, Bool, true, false, cond, ◌&&◌, ◌==◌, List, [], ◌∷◌, ◌++◌, count_by, filter, get_or, drop, length, map, replicate, set, subst, take, refl, sym, ap, ap₂, ◌∙◌, arith, append-nil, get_or-set_other, get_or-set_same}
+use Rattle.std.proofs.Common.{◌≡◌, ◌≢◌, ℕ, zero, suc, ◌+◌, ◌<◌, Bool, true, false, cond, ◌&&◌, ◌==◌, List, [], ◌∷◌, ◌++◌, count_by, filter, get_or, drop, length, map, replicate, set, subst, take, refl, sym, ap, ap₂, ◌∙◌, arith, append-nil, get_or-set_other, get_or-set_same}
 use Rattle.std.specs.Prelude.{All, IfSome, None, Option, Some, slice_get}
 use Rattle.std.specs.declared.vec.Vec.{Vec}
 use Rattle.std.proofs.lemmas.Bool.{and_parts, eqb-true, eqb-false}

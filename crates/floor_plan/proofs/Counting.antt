@@ -1,5 +1,5 @@
 -- What can be counted in a plan is what icebox_stat tells.
-use Rattle.std.proofs.Common.{◌≡◌, ℕ, ◌+◌, ◌<◌, Bool, true, false, ◌&&◌, ◌==◌, List, [], ◌∷◌, count_by, length, map, refl, sym, ap, ap₂, subst, ◌∙◌, inl, inr, arith}
+use Rattle.std.proofs.Common.{◌≡◌, ℕ, ◌+◌, ◌<◌, Bool, true, false, ◌&&◌, ◌==◌, List, [], ◌∷◌, count_by, map, refl, sym, ap, ap₂, subst, ◌∙◌, inl, inr, arith}
 use Rattle.std.specs.Prelude.{All, not, None, Option, Some, sum_by, codes, if◌then◌else◌}
 use Rattle.std.specs.List.{list_any}
 use Rattle.std.proofs.lemmas.Bool.{and_parts, both_ways, cases_Bool, eqb-true}
@@ -25,12 +25,10 @@ use Rattle.fabric_model.specs.declared.pin.PadDrive.TheVariants.{Never, Always, 
 use Rattle.fabric_model.specs.Rams.{rams_of}
 use Rattle.fabric_model.specs.Tiles.{over_grid}
 use Rattle.image_stat.specs.Counts.{counts_of}
-use Rattle.plan_marks.specs.declared.plan.CellPart.{CellPart}
 use Rattle.plan_marks.specs.declared.plan.Mark.{Mark}
 use Rattle.plan_marks.specs.declared.plan.Part.{Part}
 use Rattle.plan_marks.specs.declared.plan.Part.TheVariants.{Cell, Lower, Upper, Pin}
-use Rattle.plan_marks.specs.declared.plan.PinPart.{PinPart}
-use Rattle.plan_marks.specs.Plans.{Plan, TilePlan, cell_class, class_of, count_of, has_class, marks_in, pin_class}
+use Rattle.plan_marks.specs.Plans.{Plan, TilePlan, class_of, count_of, has_class, marks_in}
 use Rattle.plan_marks.proofs.Classes.{cell-classes, pin-classes}
 use Rattle.floor_plan.specs.Laws.{CountsAgree, has_registers, is_cell, is_lower, is_pin, is_upper, marks_that}
 use Rattle.floor_plan.specs.Marks.{cell_mark, is_registered, lower_mark, pin_mark, pin_part, upper_mark}

@@ -6,7 +6,7 @@ use Rattle.std.proofs.lemmas.Bool.{ltb-false, ne_eqb}
 use Rattle.std.proofs.lemmas.List.{length-replicate}
 use Rattle.std.proofs.lemmas.List.Folds.{list_any_none}
 use Rattle.std.proofs.lemmas.List.Elements.{All-cons, All-head, All-nil, All-tail, All-weaker}
-use Rattle.plane_map.specs.Layout.{kind_of, grid_width, grid_height}
+use Rattle.plane_map.specs.Layout.{kind_of}
 use Rattle.plane_map.specs.declared.device.DeviceName.{DeviceName}
 use Rattle.plane_map.specs.declared.tile.RowCol.{RowCol}
 use Rattle.plane_map.specs.declared.tile.TileKind.TheVariants.{RamB}

@@ -1,10 +1,10 @@
 -- Lists in the order of a key: what is gathered of them key by key is the list.
-use Rattle.std.proofs.Common.{◌≡◌, ◌≢◌, ℕ, zero, suc, ◌+◌, ◌*◌, ◌<◌, ◌≤◌, Bool, true, false, cond, ◌&&◌, ◌==◌, ltb, List, [], ◌∷◌, ◌++◌, filter, refl, sym, ap, ◌∙◌, arith, inl, inr, map, get_or}
+use Rattle.std.proofs.Common.{◌≡◌, ◌≢◌, ℕ, zero, suc, ◌+◌, ◌*◌, ◌<◌, ◌≤◌, Bool, ◌&&◌, ◌==◌, ltb, List, [], ◌∷◌, ◌++◌, filter, refl, sym, ap, ◌∙◌, arith, inl, inr, map, get_or}
 use Rattle.std.specs.Prelude.{All, flat_map}
 use Rattle.std.proofs.lemmas.Bool.{cases_Bool, eqb-true, eqb-false, ltb-true, ltb-false, lt-ltb, le-ltb, ne_eqb}
-use Rattle.std.proofs.lemmas.List.Elements.{All-nil, All-cons, All-head, All-tail, All-weaker, All-append, All-filter, All-map}
+use Rattle.std.proofs.lemmas.List.Elements.{All-head, All-tail, All-weaker, All-append, All-filter, All-map}
 use Rattle.index_search.specs.Places.{gathered_below}
-use Rattle.index_search.proofs.Places.{gathered_below-more, gathered_below-same}
+use Rattle.index_search.proofs.Places.{gathered_below-same}
 use Rattle.index_search.proofs.Gathered.{All-gathered_below}
 use Rattle.fabric_model.specs.Numbered.{numbered_from}
 use Rattle.fabric_model.proofs.Within.{All-filtered, All-flat_map, All-numbered}

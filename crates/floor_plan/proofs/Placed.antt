@@ -1,7 +1,7 @@
 -- Used cells, used RAMs and pins that are ports stand in tiles of their kind, in the order of the tiles.
-use Rattle.std.proofs.Common.{◌≡◌, ℕ, suc, ◌+◌, ◌*◌, ◌<◌, ◌≤◌, Bool, List, [], ◌∷◌, refl, sym, ap, ◌∙◌, arith}
-use Rattle.std.specs.Prelude.{All, Some, flat_map, if◌then◌else◌}
-use Rattle.std.proofs.lemmas.List.Elements.{All-weaker, All-map, All-cons, All-nil}
+use Rattle.std.proofs.Common.{◌≡◌, ℕ, suc, ◌+◌, ◌*◌, ◌<◌, ◌≤◌, Bool, List, [], ◌∷◌, refl, arith}
+use Rattle.std.specs.Prelude.{All, Some, if◌then◌else◌}
+use Rattle.std.proofs.lemmas.List.Elements.{All-weaker}
 use Rattle.index_search.specs.Places.{gathered_below}
 use Rattle.index_search.proofs.Gathered.{All-gathered_below}
 use Rattle.plane_map.specs.Layout.{kind_of, grid_width, grid_height}

@@ -1,5 +1,5 @@
 -- Each mark stands in the tile at its place: the marks of all tiles, one tile after the other, are the marks of a database and an image.
-use Rattle.std.proofs.Common.{◌≡◌, ℕ, suc, ◌+◌, ◌*◌, ◌<◌, ◌≤◌, Bool, true, false, ◌&&◌, ◌||◌, ◌==◌, List, [], ◌∷◌, ◌++◌, filter, map, refl, subst, sym, ap, ◌∙◌, arith, append-nil, inl, inr}
+use Rattle.std.proofs.Common.{◌≡◌, ℕ, ◌+◌, ◌<◌, Bool, true, false, ◌&&◌, ◌||◌, ◌==◌, List, [], ◌∷◌, ◌++◌, filter, map, refl, subst, sym, ap, ◌∙◌, arith, append-nil, inl, inr}
 use Rattle.std.specs.Prelude.{All, Some, None, Option, flat_map, IsTrue}
 use Rattle.std.specs.List.{AllZip}
 use Rattle.std.proofs.lemmas.Bool.{and_parts, cases_Bool, eqb-true}
@@ -29,7 +29,7 @@ use Rattle.fabric_model.specs.Tiles.{item_if, over_grid}
 use Rattle.fabric_model.proofs.Within.{All-over_grid, All-single}
 use Rattle.plan_marks.specs.declared.plan.Mark.{Mark}
 use Rattle.plan_marks.specs.declared.plan.Part.{Part}
-use Rattle.plan_marks.specs.Plans.{Plan, TilePlan, marks_in}
+use Rattle.plan_marks.specs.Plans.{Plan, TilePlan}
 use Rattle.floor_plan.specs.Laws.{HasTiles, ShowsCell, ShowsLower, ShowsPin, ShowsUpper, StandsOnce, has_item, has_registers, is_cell, is_lower, is_upper, is_pin, marks_that, place_by, place_of, sends_inverted, sends_twice}
 use Rattle.floor_plan.specs.Marks.{cell_mark, is_registered, lower_mark, marks_of, pin_mark, sends_inverse, upper_mark}
 use Rattle.floor_plan.specs.Plans.{floor_plan, is_mark_at, links_at, marks_at, tile_of, tiles_of}

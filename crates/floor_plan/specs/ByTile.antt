@@ -1,5 +1,5 @@
 -- What is kept by tiles: 64 rows of 64 tiles, more than any device has. Only contracts within this crate use this.
-use Rattle.std.specs.Prelude.{◌≡◌, ℕ, ◌+◌, ◌*◌, ◌<◌, Bool, ◌&&◌, ◌==◌, false, List, [], ◌∷◌, get_or, set, length, map, All, count_by, nat_lt, slice_get, Option, None, Some}
+use Rattle.std.specs.Prelude.{◌≡◌, ℕ, ◌+◌, ◌*◌, ◌<◌, Bool, ◌&&◌, ◌==◌, false, List, [], ◌∷◌, get_or, set, length, map, count_by, nat_lt, slice_get, Option, None, Some}
 use Rattle.std.specs.declared.vec.Vec.{Vec}
 use Rattle.plane_map.specs.Layout.{kind_of}
 use Rattle.plane_map.specs.declared.device.DeviceName.{DeviceName}

@@ -143,8 +143,8 @@ pub record HasTiles (db : Database) (image : Configuration) (plan : Plan) : Type
 
 -- ---- what can be counted in it
 
--- The marks of a plan, by their classes, are as many as icebox_stat tells, and so are the links of its tiles. This holds if each line of the database names
--- a tile of the image's device, as those of a database that was read do.
+-- The marks of a plan, by their classes, are as many as icebox_stat tells, and so are the links of its tiles: each line of a database that was read names a
+-- tile of its device.
 pub record CountsAgree (all : Bool) (db : Database) (image : Configuration) (plan : Plan) : Type 0 where
   pub luts : count_of (codes "lfcd") plan ≡ (counts_of all db image).luts
   pub flops : count_of (codes "fd") plan ≡ (counts_of all db image).flops

@@ -1,5 +1,5 @@
 -- The marks of a floor plan: one for each used logic cell, one for each tile of a used RAM, and one for each pin that is a port.
-use Rattle.std.specs.Prelude.{ℕ, ◌+◌, Bool, true, false, ◌&&◌, ◌||◌, List, ◌++◌, map}
+use Rattle.std.specs.Prelude.{◌+◌, Bool, true, false, ◌&&◌, ◌||◌, List, ◌++◌, map}
 use Rattle.ice_image.specs.Configuration.{Configuration}
 use Rattle.chipdb_reader.specs.Database.{Database}
 use Rattle.fabric_model.specs.declared.cell.LogicCell.{LogicCell}

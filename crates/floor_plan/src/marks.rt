@@ -1,7 +1,7 @@
 // The marks of what is used.
-ghost use Rattle.std.specs.Prelude.{◌≡◌, ◌++◌, ◌<◌, All, IfOk, OnOk, map};
-ghost use Rattle.fabric_model.specs.PinTypes.{is_double, takes_by_register, has_register, is_by_register};
-ghost use Rattle.floor_plan.specs.Marks.{cell_mark, is_registered, lower_mark, pin_mark, pin_part, ram_part, sends_inverse, upper_mark};
+ghost use Rattle.std.specs.Prelude.{◌≡◌, ◌++◌, ◌<◌, All, OnOk, map};
+ghost use Rattle.fabric_model.specs.PinTypes.{is_double, has_register};
+ghost use Rattle.floor_plan.specs.Marks.{cell_mark, is_registered, lower_mark, pin_mark, ram_part, sends_inverse, upper_mark};
 
 use fabric_model::{LogicCell, PadData, PadDrive, PadInput, Pin, RamCell, has_input, has_outside};
 use plan_marks::{CellPart, Mark, Part, PinPart, RamPart};

@@ -1,6 +1,5 @@
 // The parts of a device that an image uses.
-ghost use Rattle.std.specs.Prelude.{◌≡◌, All, IfOk, IfErr, OnOk, None};
-ghost use Rattle.plane_map.specs.declared.tile.TileKind.TheVariants.{Io};
+ghost use Rattle.std.specs.Prelude.{◌≡◌, IfOk, IfErr, OnOk, None};
 ghost use Rattle.ice_image.specs.Either.{configuration_of};
 ghost use Rattle.chipdb_reader.specs.Kept.{database_in};
 ghost use Rattle.fabric_model.specs.Cells.{cells_of};

@@ -1,5 +1,5 @@
 // The ports that the lines of a pin file have named.
-ghost use Rattle.std.specs.Prelude.{◌≡◌, ◌++◌, ◌∷◌, [], None, List, IfErr, OnOk};
+ghost use Rattle.std.specs.Prelude.{◌≡◌, ◌∷◌, [], None, List, IfErr, OnOk};
 ghost use Rattle.pin_file.specs.declared.place.PinPlace.{PinPlace as Place};
 ghost use Rattle.pin_file.specs.declared.place.PortPin.{PortPin as PinWithPort};
 

@@ -1,5 +1,5 @@
 // Why a line is refused.
-ghost use Rattle.std.specs.Prelude.{◌≡◌, ℕ, Option};
+ghost use Rattle.std.specs.Prelude.{◌≡◌, Option};
 ghost use Rattle.pin_file.specs.declared.refusal.PinLineRefusal.TheVariants.{Memory};
 
 use crate::fault::{PinFileCause, PinFileFault};

@@ -51,12 +51,12 @@ cell-reads cell element elements classes =
 lower-reads : (mode : ℕ) → Reads (lower_mark mode) (codes "m" ∷ codes "r" ∷ [])
 unfolding lower_mark read
 lower-reads mode element elements classes = evaluates (reading content (element ∷ elements) classes)
-    (lit (codes "<use class=\"r\" xlink:href=\"#W") ∷ num mode ∷ lit (codes "\"/><text class=\"m\" x=\"20\" y=\"33\">W") ∷ num (bits_of mode) ∷ lit (codes "</text>") ∷ [])
+    (lit (codes "<use class=\"r\" xlink:href=\"#write") ∷ num mode ∷ lit (codes "\"/><text class=\"m\" x=\"20\" y=\"33\">W") ∷ num (bits_of mode) ∷ lit (codes "</text>") ∷ [])
 
 upper-reads : (mode : ℕ) → Reads (upper_mark mode) (codes "m" ∷ codes "u" ∷ [])
 unfolding upper_mark read
 upper-reads mode element elements classes = evaluates (reading content (element ∷ elements) classes)
-    (lit (codes "<use class=\"u\" xlink:href=\"#R") ∷ num mode ∷ lit (codes "\"/><text class=\"m\" x=\"20\" y=\"14\">R") ∷ num (bits_of mode) ∷ lit (codes "</text>") ∷ [])
+    (lit (codes "<use class=\"u\" xlink:href=\"#read") ∷ num mode ∷ lit (codes "\"/><text class=\"m\" x=\"20\" y=\"14\">R") ∷ num (bits_of mode) ∷ lit (codes "</text>") ∷ [])
 
 pin_bits : ℕ → ℕ → ℕ → ℕ → List Bit
 pin_bits class x y degrees =
@@ -79,7 +79,7 @@ part_words (Lower ram) = codes "m" ∷ codes "r" ∷ []
 part_words (Upper ram) = codes "m" ∷ codes "u" ∷ []
 part_words (Pin pin) = (pin_class pin ∷ []) ∷ []
 
-part-reads : (at : Side) (part : Part) → Reads (part_mark at part) (part_words part)
+pub part-reads : (at : Side) (part : Part) → Reads (part_mark at part) (part_words part)
 part-reads at (Cell cell) = cell-reads cell
 part-reads at (Lower ram) = lower-reads ram.write
 part-reads at (Upper ram) = upper-reads ram.read
@@ -165,7 +165,7 @@ calm-links : (links : ℕ) → IsCalm (links_line links)
 unfolding links_line read
 calm-links links = calm-append (codes "\nlinks ") (decimal links) (λ elements classes. refl) (calm-number links)
 
-calm-hover : (names : Names) (tile : TilePlan) → IsCalm (hover names tile)
+pub calm-hover : (names : Names) (tile : TilePlan) → IsCalm (hover names tile)
 unfolding hover
 calm-hover names tile =
     let lines = flat_map (mark_line names) tile.marks in
@@ -207,7 +207,7 @@ unfolding read
 group-ends element elements classes = refl
 
 module _ (sheet : Sheet) (names : Names) (tile : TilePlan) where
-  abbrev at : Side
+  abbrev pub at : Side
   at = side_of sheet tile.x tile.y
 
   abbrev marks : List ℕ
@@ -223,12 +223,12 @@ module _ (sheet : Sheet) (names : Names) (tile : TilePlan) where
     in-place = evaluates (reading content (element ∷ elements) classes)
         (lit (codes "<g transform=\"translate(") ∷ num (left sheet tile.x) ∷ lit (codes " ") ∷ num (top sheet tile.y) ∷ lit (codes ")\"><title>") ∷ [])
 
-    on-ground : read (reading content (heading ∷ group ∷ element ∷ elements) classes) (ground at tile) ≡ reading content (group ∷ element ∷ elements) (shade_word tile.links ∷ classes)
+    pub on-ground : read (reading content (heading ∷ element ∷ elements) classes) (ground at tile) ≡ reading content (element ∷ elements) (shade_word tile.links ∷ classes)
     unfolding ground ground_bits read
     on-ground =
-        let now = reading content (heading ∷ group ∷ element ∷ elements) classes in
+        let now = reading content (heading ∷ element ∷ elements) classes in
         evaluates now (ground_bits (shade tile.links) (shape at tile.kind))
-        ∙ shapes (λ form. evaluated now (ground_bits (shade tile.links) form) ≡ reading content (group ∷ element ∷ elements) (shade_word tile.links ∷ classes)) refl refl refl refl refl refl refl at tile.kind
+        ∙ shapes (λ form. evaluated now (ground_bits (shade tile.links) form) ≡ reading content (element ∷ elements) (shade_word tile.links ∷ classes)) refl refl refl refl refl refl refl at tile.kind
 
     with-marks : read (reading content (group ∷ element ∷ elements) (shade_word tile.links ∷ classes)) marks
         ≡ reading content (group ∷ element ∷ elements) (words_of (λ (mark : Mark). part_words mark.part) tile.marks ++ shade_word tile.links ∷ classes)
@@ -245,7 +245,7 @@ module _ (sheet : Sheet) (names : Names) (tile : TilePlan) where
       (read-then now (place_text sheet tile ++ shown ++ ground at tile) marks
       (read-then now (place_text sheet tile ++ shown) (ground at tile)
       (read-then now (place_text sheet tile) shown (in-place element elements classes) (calm-hover names tile (heading ∷ group ∷ element ∷ elements) classes))
-      (on-ground element elements classes)) (with-marks element elements classes))
+      (on-ground group (element ∷ elements) classes)) (with-marks element elements classes))
       (group-ends element elements (inner ++ shade_word tile.links ∷ classes)
       ∙ ap (reading content (element ∷ elements)) (sym (append_assoc inner (shade_word tile.links ∷ []) classes)))
 

@@ -11,5 +11,7 @@ pub mod Rows
 pub mod Legends
 -- a picture draws its plan
 pub mod Pictures
+-- elements are at their places
+pub mod Placed
 -- places on a sheet lie as those on the chip
 pub mod Sheets

@@ -1,6 +1,7 @@
 -- A picture is a document, and the classes of its marks are those of the plan.
 use Rattle.std.proofs.Common.{◌≡◌, ℕ, zero, suc, ◌+◌, ◌<◌, Bool, true, false, not, cond, ◌&&◌, ◌||◌, ◌==◌, List, [], ◌∷◌, ◌++◌, count_by, drop, length, refl, sym, ap, ◌∙◌, subst, arith, inl, inr}
 use Rattle.std.specs.Prelude.{Option, None, Some, bytes_eq, codes, decimal, flat_map, if◌then◌else◌, is_some}
+use Rattle.std.specs.Fmt.{digits}
 use Rattle.std.specs.List.{concat, list_all, list_any}
 use Rattle.std.proofs.lemmas.Bool.{and_parts, both_ways, cases_Bool, eqb-true}
 use Rattle.std.proofs.lemmas.List.Sums.{sum_by-append, sum_by-cons}
@@ -17,7 +18,7 @@ use Rattle.plan_marks.specs.declared.plan.PllMark.{PllMark}
 use Rattle.plan_svg.specs.declared.sheet.Sheet.{Sheet}
 use Rattle.plan_svg.specs.declared.sheet.Side.{Side}
 use Rattle.plan_svg.specs.declared.sheet.Side.TheVariants as side
-use Rattle.plan_svg.specs.Laws.{Draws, drawn_with, is_framed, is_mark}
+use Rattle.plan_svg.specs.Laws.{Draws, drawn_with, has_name, is_framed, is_mark, names_onto}
 use Rattle.plan_svg.specs.Legend.{legend}
 use Rattle.plan_svg.specs.Margins.{column_numbers, pin_names, row_numbers}
 use Rattle.plan_svg.specs.Names.{Names, name_of}
@@ -27,14 +28,15 @@ use Rattle.plan_svg.specs.Sheet.{height, shade, sheet_of, side_of, width}
 use Rattle.plan_svg.specs.Sources.{global_mark, pll_mark}
 use Rattle.plan_svg.specs.Svg.{beginning, device_text, document_title, drawn, inside, paper, plan_svg, seen_title, sizes, title}
 use Rattle.plan_svg.specs.Tiles.{tile_text}
+use Rattle.plan_marks.proofs.Classes.{cell-classes, pin-classes}
 use Rattle.plan_svg.proofs.Drawn.{axis_words, badge_words, calm-concat, columns-read, global-reads, heading, name_classes, names-read, names_words, part_words, pll-reads, pll_words, read_letter, rows-read, shade_word, tile-reads, tile_name_words, tile_words, words}
 use Rattle.plan_svg.proofs.Legends.{legend-reads, legend_words, pll_row_words, row_words, rows_words}
 use Rattle.plan_svg.proofs.Shapes.{shapes-read, shapes_words}
-use Rattle.plan_svg.proofs.Reading.{Bit, IsCalm, Reads, calm-number, decimal-some, evaluates, length-onto, read-append, read-then, reads-append, reads-each, words_below, words_of, lit, num}
+use Rattle.plan_svg.proofs.Reading.{Bit, IsCalm, Reads, calm-number, evaluates, onto, read-append, read-then, reads-append, reads-each, words_below, words_of, lit, num}
 
 -- ---- before the legend
 
-abbrev root : List ℕ
+abbrev pub root : List ℕ
 root = codes "gvs"
 
 -- the start tag of the picture, after the declaration
@@ -43,7 +45,7 @@ sizes_bits sheet =
     lit (drop (length declaration) BEGINNING.now) ∷ num (width sheet) ∷ lit (codes "\" height=\"") ∷ num (height sheet) ∷ lit (codes "\" viewBox=\"0 0 ") ∷ num (width sheet)
     ∷ lit (codes " ") ∷ num (height sheet) ∷ lit (codes "\">\n") ∷ []
 
-abbrev root_tag : Sheet → List ℕ
+abbrev pub root_tag : Sheet → List ℕ
 root_tag sheet = concat (
     drop (length declaration) BEGINNING.now ∷ decimal (width sheet) ∷ codes "\" height=\"" ∷ decimal (height sheet) ∷ codes "\" viewBox=\"0 0 " ∷ decimal (width sheet)
     ∷ codes " " ∷ decimal (height sheet) ∷ codes "\">\n" ∷ [])
@@ -79,7 +81,7 @@ seen-reads plan element elements classes =
     ∙ ap (λ now. read now (codes "</text>\n")) (calm-title plan (words ∷ element ∷ elements) (codes "h" ∷ classes))
 
 -- the classes of the style sheet and of the shapes
-unfoldable style_words : List (List ℕ)
+unfoldable pub style_words : List (List ℕ)
 style_words = (read (reading content (root ∷ []) []) STYLE.now).classes
 
 style-reads : Reads STYLE.now style_words
@@ -94,14 +96,14 @@ paper-reads sheet element elements classes = evaluates (reading content (element
 -- ---- the whole
 
 -- what comes before the legend, after the declaration
-abbrev begun : Sheet → Plan → List ℕ
+abbrev pub begun : Sheet → Plan → List ℕ
 begun sheet plan = root_tag sheet ++ document_title plan ++ STYLE.now ++ SHAPES.now ++ paper sheet ++ seen_title plan
 
 -- its classes
-abbrev begun_words : List (List ℕ)
+abbrev pub begun_words : List (List ℕ)
 begun_words = codes "h" ∷ codes "hw" ∷ (shapes_words ++ (style_words ++ []))
 
-begun-read : (sheet : Sheet) (plan : Plan) → read (reading before [] []) (begun sheet plan) ≡ reading content (root ∷ []) begun_words
+pub begun-read : (sheet : Sheet) (plan : Plan) → read (reading before [] []) (begun sheet plan) ≡ reading content (root ∷ []) begun_words
 begun-read sheet plan =
     let now = reading before [] [] in
     let styled = style_words ++ [] in
@@ -172,28 +174,54 @@ module _ (sheet : Sheet) (names : Names) (plan : Plan) where
 
 -- ---- counts of classes
 
--- a word that is a class of marks
+-- a name that is a class of marks
+abbrev is_mark_name : List ℕ → Bool
+is_mark_name [] = false
+is_mark_name (letter ∷ []) = is_mark letter
+is_mark_name (letter ∷ next ∷ more) = false
+
+-- a value that has such a name
 abbrev is_mark_word : List ℕ → Bool
-is_mark_word [] = false
-is_mark_word (letter ∷ []) = is_mark letter
-is_mark_word (letter ∷ next ∷ more) = false
+is_mark_word word = list_any is_mark_name (names_onto [] word)
 
 last-false : (b : Bool) → (b && false) ≡ false
 last-false true = refl
 last-false false = refl
 
+neither : (a b : Bool) → (a || b) ≡ false → (a ≡ false) × (b ≡ false)
+neither true b none = absurd cc
+neither false true none = absurd cc
+neither false false none = (refl, refl)
+
+-- shades are below 7
+shade-low : (links : ℕ) → shade links < 7
+shade-low links =
+    elim (cases_Bool (links == 0)) [
+      | inl none ↦ rw none (omega arith)
+      | inr some ↦ rw some (omega arith)
+    ]
+
 module _ (letter : ℕ) (is : is_mark letter ≡ true) where
   abbrev has : List ℕ → Bool
-  has = bytes_eq (letter ∷ [])
+  has = has_name letter
 
-  other-word : (word : List ℕ) → is_mark_word word ≡ false → has word ≡ false
-  other-word [] none = refl
-  other-word (other ∷ []) none =
+  other-name : (name : List ℕ) → is_mark_name name ≡ false → bytes_eq (letter ∷ []) name ≡ false
+  other-name [] none = refl
+  other-name (other ∷ []) none =
       elim (cases_Bool (letter == other)) [
         | inl same ↦ absurd (both_ways (is_mark letter) (ap is_mark (eqb-true letter other same) ∙ none) is)
         | inr differ ↦ rw differ refl
       ]
-  other-word (other ∷ next ∷ more) none = last-false (letter == other)
+  other-name (other ∷ next ∷ more) none = last-false (letter == other)
+
+  other-names : (names : List (List ℕ)) → list_any is_mark_name names ≡ false → list_any (bytes_eq (letter ∷ [])) names ≡ false
+  other-names [] none = refl
+  other-names (name ∷ names) none =
+      let both = neither (is_mark_name name) (list_any is_mark_name names) none in
+      rw (other-name name both.0, other-names names both.1) refl
+
+  other-word : (word : List ℕ) → is_mark_word word ≡ false → has word ≡ false
+  other-word word none = other-names (names_onto [] word) none
 
   no-words : (words : List (List ℕ)) → list_all (λ word. not (is_mark_word word)) words ≡ true → count_by has words ≡ 0
   no-words [] all = refl
@@ -216,19 +244,24 @@ module _ (letter : ℕ) (is : is_mark letter ≡ true) where
   no-below (suc n) words none = sum_by-append (λ word. cond (has word) 1 0) (words n) (words_below n words) ∙ omega (arith, none n, no-below n words none)
 
   -- one word for each item that passes
-  one-each : {A : Type 0} (words : A → List (List ℕ)) (test : A → Bool) → ((item : A) → count_by has (words item) ≡ cond (test item) 1 0) → (items : List A) → count_by has (words_of words items) ≡ count_by test items
+  pub one-each : {A : Type 0} (words : A → List (List ℕ)) (test : A → Bool) → ((item : A) → count_by has (words item) ≡ cond (test item) 1 0) → (items : List A) → count_by has (words_of words items) ≡ count_by test items
   one-each words test one [] = refl
   one-each words test one (item ∷ items) =
       let split = sum_by-append (λ word. cond (has word) 1 0) (words_of words items) (words item) in
       let first = sum_by-cons (λ item. cond (test item) 1 0) item items in
       omega (arith, split, first, one item, one-each words test one items)
 
-  single : (other : ℕ) → count_by has ((other ∷ []) ∷ []) ≡ cond (letter == other) 1 0
-  single other =
+  -- a word of one letter that is no space
+  has-letter : (other : ℕ) → (other == 32) ≡ false → has (other ∷ []) ≡ (letter == other)
+  has-letter other no_space =
       elim (cases_Bool (letter == other)) [
-        | inl same ↦ rw same refl
-        | inr differ ↦ rw differ refl
+        | inl same ↦ rw (no_space, same) refl
+        | inr differ ↦ rw (no_space, differ) refl
       ]
+
+  single : (other : ℕ) → (other == 32) ≡ false → count_by has ((other ∷ []) ∷ []) ≡ cond (letter == other) 1 0
+  single other no_space =
+      sum_by-cons (λ word. cond {A = ℕ} (has word) 1 0) (other ∷ []) [] ∙ omega (arith, ap (λ b. cond {A = ℕ} b 1 0) (has-letter other no_space))
 
   -- ---- marks
 
@@ -236,30 +269,37 @@ module _ (letter : ℕ) (is : is_mark letter ≡ true) where
   first-true true = refl
   first-true false = refl
 
-  two-words : (word : List ℕ) (other : ℕ) → is_mark_word word ≡ false → count_by has (word ∷ (other ∷ []) ∷ []) ≡ cond (letter == other) 1 0
-  two-words word other none =
+  two-words : (word : List ℕ) (other : ℕ) → is_mark_word word ≡ false → (other == 32) ≡ false → count_by has (word ∷ (other ∷ []) ∷ []) ≡ cond (letter == other) 1 0
+  two-words word other none no_space =
       let split = sum_by-cons (λ word. cond (has word) 1 0) word ((other ∷ []) ∷ []) in
       let first : cond {A = ℕ} (has word) 1 0 ≡ 0 = ap (λ b. cond {A = ℕ} b 1 0) (other-word word none) in
-      omega (arith, split, first, single other)
+      omega (arith, split, first, single other no_space)
 
-  mark-words : (mark : Mark) → count_by has (part_words mark.part) ≡ cond (has_class (letter ∷ []) mark) 1 0
+  abbrev One : ℕ → Type 0
+  One class = count_by has ((class ∷ []) ∷ []) ≡ cond (letter == class) 1 0
+
+  pub mark-words : (mark : Mark) → count_by has (part_words mark.part) ≡ cond (has_class (letter ∷ []) mark) 1 0
   mark-words mark = by mark.part
     where
       by : (part : Part) → count_by has (part_words part) ≡ cond (list_any (λ class. class == class_of part) (letter ∷ [])) 1 0
-      by (Cell cell) = single (cell_class cell) ∙ sym (first-true (letter == cell_class cell))
-      by (Lower ram) = two-words (codes "m") 114 refl ∙ sym (first-true (letter == 114))
-      by (Upper ram) = two-words (codes "m") 117 refl ∙ sym (first-true (letter == 117))
-      by (Pin pin) = single (pin_class pin) ∙ sym (first-true (letter == pin_class pin))
+      by (Cell cell) = cell-classes One (single 100 refl) (single 99 refl) (single 102 refl) (single 108 refl) cell ∙ sym (first-true (letter == cell_class cell))
+      by (Lower ram) = two-words (codes "m") 114 refl refl ∙ sym (first-true (letter == 114))
+      by (Upper ram) = two-words (codes "m") 117 refl refl ∙ sym (first-true (letter == 117))
+      by (Pin pin) = pin-classes One (single 113 refl) (single 98 refl) (single 112 refl) (single 111 refl) (single 106 refl) (single 105 refl) pin ∙ sym (first-true (letter == pin_class pin))
 
-  long-word : (word : List ℕ) → 1 < length word → is_mark_word word ≡ false
-  long-word [] long = refl
-  long-word (letter ∷ []) long = absurd (omega arith)
-  long-word (letter ∷ next ∷ more) long = refl
-
-  shade-none : (links : ℕ) → count_by has (shade_word links ∷ []) ≡ 0
-  shade-none links =
-      let long : 1 < length (shade_word links) = omega (arith, length-onto (decimal (shade links)) (codes "s"), decimal-some (shade links)) in
-      rw (other-word (shade_word links) (long-word (shade_word links) long)) refl
+  pub shade-none : (links : ℕ) → count_by has (shade_word links ∷ []) ≡ 0
+  unfolding digits
+  shade-none links = by (shade links) (shade-low links)
+    where
+      by : (step : ℕ) → step < 7 → count_by has (onto (decimal step) (codes "s") ∷ []) ≡ 0
+      by zero low = no-words (codes "0s" ∷ []) refl
+      by (suc zero) low = no-words (codes "1s" ∷ []) refl
+      by (suc (suc zero)) low = no-words (codes "2s" ∷ []) refl
+      by (suc (suc (suc zero))) low = no-words (codes "3s" ∷ []) refl
+      by (suc (suc (suc (suc zero)))) low = no-words (codes "4s" ∷ []) refl
+      by (suc (suc (suc (suc (suc zero))))) low = no-words (codes "5s" ∷ []) refl
+      by (suc (suc (suc (suc (suc (suc zero)))))) low = no-words (codes "6s" ∷ []) refl
+      by (suc (suc (suc (suc (suc (suc (suc step))))))) low = absurd (omega arith)
 
   module _ (sheet : Sheet) (names : Names) where
     tile-words : (tile : TilePlan) → count_by has (tile_words sheet names tile) ≡ count_by (has_class (letter ∷ [])) tile.marks
@@ -268,7 +308,7 @@ module _ (letter : ℕ) (is : is_mark letter ≡ true) where
         sum_by-append (λ word. cond (has word) 1 0) marks (shade_word tile.links ∷ [])
         ∙ omega (arith, shade-none tile.links, one-each (λ (mark : Mark). part_words mark.part) (has_class (letter ∷ [])) mark-words tile.marks)
 
-    tiles-words : (tiles : List TilePlan) → count_by has (words_of (tile_words sheet names) tiles) ≡ count_by (has_class (letter ∷ [])) (flat_map (λ tile. tile.marks) tiles)
+    pub tiles-words : (tiles : List TilePlan) → count_by has (words_of (tile_words sheet names) tiles) ≡ count_by (has_class (letter ∷ [])) (flat_map (λ tile. tile.marks) tiles)
     tiles-words [] = refl
     tiles-words (tile ∷ tiles) =
         let split = sum_by-append (λ word. cond (has word) 1 0) (words_of (tile_words sheet names) tiles) (tile_words sheet names tile) in
@@ -289,11 +329,15 @@ module _ (letter : ℕ) (is : is_mark letter ≡ true) where
         none false = refl
 
         by : (framed : Bool) → count_by has (if framed then codes "y" ∷ [] else []) ≡ cond ((letter == 121) && framed) 1 0
-        by true = single 121 ∙ alone (letter == 121)
+        by true = single 121 refl ∙ alone (letter == 121)
         by false = none (letter == 121)
 
     badge-word : (global : GlobalMark) → count_by has (badge_words global) ≡ cond (letter == read_letter global.is_read) 1 0
-    badge-word global = two-words (codes "tg") (read_letter global.is_read) refl
+    badge-word global = by global.is_read
+      where
+        by : (is_read : Bool) → count_by has (codes "tg" ∷ (read_letter is_read ∷ []) ∷ []) ≡ cond (letter == read_letter is_read) 1 0
+        by true = two-words (codes "tg") 103 refl refl
+        by false = two-words (codes "tg") 122 refl refl
 
     name-words : (to : Side) (name : Option (List ℕ)) → count_by has (name_classes to name) ≡ 0
     name-words to None = refl
@@ -326,7 +370,7 @@ module _ (letter : ℕ) (is : is_mark letter ≡ true) where
     rows-none : count_by has rows_words ≡ 0
     rows-none = no-words rows_words refl
 
-    legend-none : (plan : Plan) → count_by has (legend_words plan) ≡ 0
+    pub legend-none : (plan : Plan) → count_by has (legend_words plan) ≡ 0
     legend-none plan =
         let plls = words_of pll_row_words plan.plls in
         let globals = words_of row_words plan.globals in
@@ -344,7 +388,7 @@ module _ (letter : ℕ) (is : is_mark letter ≡ true) where
           rows-none,
         )
 
-    begin-none : count_by has begun_words ≡ 0
+    pub begin-none : count_by has begun_words ≡ 0
     unfolding style_words read
     begin-none = no-words begun_words refl
 

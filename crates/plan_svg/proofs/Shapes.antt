@@ -127,35 +127,35 @@ unfolding read
 shapes-17 element elements classes = refl
 
 abbrev shapes_18 : List ℕ
-shapes_18 = codes "<path id=\"W0\" d=\"M4 -2h32v38h-32z\"/>\n<g id=\"W1\"><path d=\"M4 -2h32v38h-32z\"/>"
+shapes_18 = codes "<path id=\"write0\" d=\"M4 -2h32v38h-32z\"/>\n<g id=\"write1\"><path d=\"M4 -2h32v38h-32z\"/>"
 
 shapes-18 : Goes (codes "sfed" ∷ []) (group ∷ codes "sfed" ∷ []) shapes_18 []
 unfolding read
 shapes-18 element elements classes = refl
 
 abbrev shapes_19 : List ℕ
-shapes_19 = codes "<path class=\"sl\" d=\"M20 0v22\"/></g>\n<g id=\"W2\"><path d=\"M4 -2h32v38h-32z\"/>"
+shapes_19 = codes "<path class=\"sl\" d=\"M20 0v22\"/></g>\n<g id=\"write2\"><path d=\"M4 -2h32v38h-32z\"/>"
 
 shapes-19 : Goes (group ∷ codes "sfed" ∷ []) (group ∷ codes "sfed" ∷ []) shapes_19 (codes "ls" ∷ [])
 unfolding read
 shapes-19 element elements classes = refl
 
 abbrev shapes_20 : List ℕ
-shapes_20 = codes "<path class=\"sl\" d=\"M12 0v22M20 0v22M28 0v22\"/></g>\n<g id=\"W3\"><path d=\"M4 -2h32v38h-32z\"/>"
+shapes_20 = codes "<path class=\"sl\" d=\"M12 0v22M20 0v22M28 0v22\"/></g>\n<g id=\"write3\"><path d=\"M4 -2h32v38h-32z\"/>"
 
 shapes-20 : Goes (group ∷ codes "sfed" ∷ []) (group ∷ codes "sfed" ∷ []) shapes_20 (codes "ls" ∷ [])
 unfolding read
 shapes-20 element elements classes = refl
 
 abbrev shapes_21 : List ℕ
-shapes_21 = codes "<path class=\"sl\" d=\"M8 0v22M12 0v22M16 0v22M20 0v22M24 0v22M28 0v22M32 0v22\"/></g>\n<g id=\"R0\">"
+shapes_21 = codes "<path class=\"sl\" d=\"M8 0v22M12 0v22M16 0v22M20 0v22M24 0v22M28 0v22M32 0v22\"/></g>\n<g id=\"read0\">"
 
 shapes-21 : Goes (group ∷ codes "sfed" ∷ []) (group ∷ codes "sfed" ∷ []) shapes_21 (codes "ls" ∷ [])
 unfolding read
 shapes-21 element elements classes = refl
 
 abbrev shapes_22 : List ℕ
-shapes_22 = codes "<path d=\"M4 4h32v37h-32z\"/><path class=\"se\" d=\"M4 41h32\"/></g>\n<g id=\"R1\">"
+shapes_22 = codes "<path d=\"M4 4h32v37h-32z\"/><path class=\"se\" d=\"M4 41h32\"/></g>\n<g id=\"read1\">"
 
 shapes-22 : Goes (group ∷ codes "sfed" ∷ []) (group ∷ codes "sfed" ∷ []) shapes_22 (codes "es" ∷ [])
 unfolding read
@@ -169,14 +169,14 @@ unfolding read
 shapes-23 element elements classes = refl
 
 abbrev shapes_24 : List ℕ
-shapes_24 = codes "<g id=\"R2\"><path d=\"M4 4h32v37h-32z\"/><path class=\"sl\" d=\"M12 18v22M20 18v22M28 18v22\"/>"
+shapes_24 = codes "<g id=\"read2\"><path d=\"M4 4h32v37h-32z\"/><path class=\"sl\" d=\"M12 18v22M20 18v22M28 18v22\"/>"
 
 shapes-24 : Goes (codes "sfed" ∷ []) (group ∷ codes "sfed" ∷ []) shapes_24 (codes "ls" ∷ [])
 unfolding read
 shapes-24 element elements classes = refl
 
 abbrev shapes_25 : List ℕ
-shapes_25 = codes "<path class=\"se\" d=\"M4 41h32\"/></g>\n<g id=\"R3\"><path d=\"M4 4h32v37h-32z\"/>"
+shapes_25 = codes "<path class=\"se\" d=\"M4 41h32\"/></g>\n<g id=\"read3\"><path d=\"M4 4h32v37h-32z\"/>"
 
 shapes-25 : Goes (group ∷ codes "sfed" ∷ []) (group ∷ codes "sfed" ∷ []) shapes_25 (codes "es" ∷ [])
 unfolding read

@@ -1,12 +1,15 @@
 -- Places on a sheet lie as those on the chip.
-use Rattle.std.proofs.Common.{◌≡◌, ℕ, zero, suc, ◌+◌, ◌<◌, ◌≤◌, refl, arith}
+use Rattle.std.proofs.Common.{◌≡◌, ℕ, zero, suc, ◌+◌, ◌<◌, ◌≤◌, ◌==◌, refl, arith, inl, inr}
+use Rattle.std.proofs.lemmas.Bool.{cases_Bool}
 use Rattle.std.specs.Prelude.{Option, None, Some, is_some}
 use denote.Ref.{Bor}
 use Rattle.pin_file.specs.declared.given.GivenNames.{GivenNames}
 use Rattle.plan_svg.specs.declared.sheet.Sheet.{Sheet}
-use Rattle.plan_svg.specs.Laws.{CellsLie, LiesAsOnChip, PinsLie}
+use Rattle.plan_svg.specs.declared.sheet.Side.{Side}
+use Rattle.plan_svg.specs.declared.sheet.Side.TheVariants as side
+use Rattle.plan_svg.specs.Laws.{CellsLie, IsAt, LiesAsOnChip, PinsLie}
 use Rattle.plan_svg.specs.Names.{names_in}
-use Rattle.plan_svg.specs.Sheet.{cell_offset}
+use Rattle.plan_svg.specs.Sheet.{cell_offset, pin_offset}
 
 pub lies : (sheet : Sheet) → LiesAsOnChip sheet
 lies sheet = record { columns = λ x. omega arith; rows = λ y low. omega arith }
@@ -27,8 +30,52 @@ inside i lt = (omega arith, omega arith)
 pub cells-lie : CellsLie
 cells-lie = record { beside = beside; upwards = upwards; inside = inside }
 
+pins-inside : (to : Side) (n : ℕ) → ((pin_offset to n).x < 40) × ((pin_offset to n).y < 40)
+pins-inside side.Left n =
+    elim (cases_Bool (n == 0)) [
+      | inl first ↦ rw first (omega arith, omega arith)
+      | inr second ↦ rw second (omega arith, omega arith)
+    ]
+pins-inside side.Top n =
+    elim (cases_Bool (n == 0)) [
+      | inl first ↦ rw first (omega arith, omega arith)
+      | inr second ↦ rw second (omega arith, omega arith)
+    ]
+pins-inside side.Right n =
+    elim (cases_Bool (n == 0)) [
+      | inl first ↦ rw first (omega arith, omega arith)
+      | inr second ↦ rw second (omega arith, omega arith)
+    ]
+pins-inside side.Bottom n =
+    elim (cases_Bool (n == 0)) [
+      | inl first ↦ rw first (omega arith, omega arith)
+      | inr second ↦ rw second (omega arith, omega arith)
+    ]
+
+pins-outward : (to : Side) (n : ℕ) → IsAt to (pin_offset to n)
+pins-outward side.Left n =
+    elim (cases_Bool (n == 0)) [
+      | inl first ↦ rw first (omega arith)
+      | inr second ↦ rw second (omega arith)
+    ]
+pins-outward side.Top n =
+    elim (cases_Bool (n == 0)) [
+      | inl first ↦ rw first (omega arith)
+      | inr second ↦ rw second (omega arith)
+    ]
+pins-outward side.Right n =
+    elim (cases_Bool (n == 0)) [
+      | inl first ↦ rw first (omega arith)
+      | inr second ↦ rw second (omega arith)
+    ]
+pins-outward side.Bottom n =
+    elim (cases_Bool (n == 0)) [
+      | inl first ↦ rw first (omega arith)
+      | inr second ↦ rw second (omega arith)
+    ]
+
 pub pins-lie : PinsLie
-pins-lie = record { at_left = omega arith; at_right = omega arith; at_top = omega arith; at_bottom = omega arith }
+pins-lie = record { inside = pins-inside; outward = pins-outward; at_left = omega arith; at_right = omega arith; at_top = omega arith; at_bottom = omega arith }
 
 -- there are names if a pin file was read
 pub named-some : (names : Option (Bor GivenNames)) → is_some names ≡ is_some (names_in names)

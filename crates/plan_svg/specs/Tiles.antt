@@ -25,10 +25,10 @@ cell_mark cell = concat (
 
 -- the lower and the upper tile of a used RAM, with how many bits are written and read
 unfoldable pub lower_mark : ℕ → List ℕ
-lower_mark mode = concat (codes "<use class=\"r\" xlink:href=\"#W" ∷ decimal mode ∷ codes "\"/><text class=\"m\" x=\"20\" y=\"33\">W" ∷ decimal (bits_of mode) ∷ codes "</text>" ∷ [])
+lower_mark mode = concat (codes "<use class=\"r\" xlink:href=\"#write" ∷ decimal mode ∷ codes "\"/><text class=\"m\" x=\"20\" y=\"33\">W" ∷ decimal (bits_of mode) ∷ codes "</text>" ∷ [])
 
 unfoldable pub upper_mark : ℕ → List ℕ
-upper_mark mode = concat (codes "<use class=\"u\" xlink:href=\"#R" ∷ decimal mode ∷ codes "\"/><text class=\"m\" x=\"20\" y=\"14\">R" ∷ decimal (bits_of mode) ∷ codes "</text>" ∷ [])
+upper_mark mode = concat (codes "<use class=\"u\" xlink:href=\"#read" ∷ decimal mode ∷ codes "\"/><text class=\"m\" x=\"20\" y=\"14\">R" ∷ decimal (bits_of mode) ∷ codes "</text>" ∷ [])
 
 -- a pin that is a port
 unfoldable pub pin_mark : Side → PinPart → List ℕ

@@ -1,7 +1,7 @@
 // What hovering over a tile shows.
 ghost use Rattle.std.specs.Prelude.{◌≡◌, ◌++◌, OnOk, flat_map, option_map};
 ghost use Rattle.std.specs.List.{list_any};
-ghost use Rattle.plan_svg.specs.Hover.{cell_line, hover, links_line, is_pin, mark_line, name_words, other_line, other_pin, other_pins, part_line, pin_words, ram_line, statement};
+ghost use Rattle.plan_svg.specs.Hover.{cell_line, hover, links_line, is_pin, mark_line, name_words, other_line, other_pin, other_pins, pin_words, ram_line, statement};
 ghost use Rattle.plan_svg.specs.Names.{names_in};
 ghost use Rattle.plan_marks.specs.Plans.{tile_in};
 

@@ -1,5 +1,5 @@
 // The legend.
-ghost use Rattle.std.specs.Prelude.{◌≡◌, ◌++◌, ◌∷◌, [], IfOk, OnOk, codes, decimal, length, map};
+ghost use Rattle.std.specs.Prelude.{◌≡◌, ◌++◌, ◌∷◌, [], IfOk, OnOk, codes, decimal, map};
 ghost use Rattle.std.specs.List.{concat};
 ghost use Rattle.plan_svg.specs.Legend.{cell_numbers, legend, pin_numbers, ram_numbers, with_numbers};
 ghost use Rattle.plan_marks.specs.Plans.{plan_in};

@@ -5,7 +5,8 @@ pub(crate) const BEGINNING: &str = "\
 <?xml version=\"1.0\" encoding=\"UTF-8\"?>
 <svg xmlns=\"http://www.w3.org/2000/svg\" xmlns:xlink=\"http://www.w3.org/1999/xlink\" version=\"1.1\" width=\"";
 
-/// The style sheet. `b c d f g i j l o p q r u y z` are classes of marks. In the legend they have `k` before them.
+/// The style sheet. `b c d f g i j l o p q r u y z` are classes of marks. In the legend cells, RAMs, networks and frames have `k` before their class, and
+/// pins have `kp`.
 pub(crate) const STYLE: &str = "\
 <style type=\"text/css\">
 text{font-family:sans-serif;fill:#222}
@@ -57,14 +58,14 @@ pub(crate) const SHAPES: &str = "\
 <g id=\"f\"><path d=\"M0 0h16v7h-16z\"/><path class=\"wh\" d=\"M0 1.5l3 2l-3 2z\"/></g>
 <path id=\"c\" d=\"M0 0h9v7h-9zM11.5 0h4.5v7h-4.5z\"/>
 <g id=\"d\"><path d=\"M0 0h9v7h-9z\"/><path class=\"wh\" d=\"M0 1.5l3 2l-3 2z\"/><path class=\"cb\" d=\"M11.5 0h4.5v7h-4.5z\"/></g>
-<path id=\"W0\" d=\"M4 -2h32v38h-32z\"/>
-<g id=\"W1\"><path d=\"M4 -2h32v38h-32z\"/><path class=\"sl\" d=\"M20 0v22\"/></g>
-<g id=\"W2\"><path d=\"M4 -2h32v38h-32z\"/><path class=\"sl\" d=\"M12 0v22M20 0v22M28 0v22\"/></g>
-<g id=\"W3\"><path d=\"M4 -2h32v38h-32z\"/><path class=\"sl\" d=\"M8 0v22M12 0v22M16 0v22M20 0v22M24 0v22M28 0v22M32 0v22\"/></g>
-<g id=\"R0\"><path d=\"M4 4h32v37h-32z\"/><path class=\"se\" d=\"M4 41h32\"/></g>
-<g id=\"R1\"><path d=\"M4 4h32v37h-32z\"/><path class=\"sl\" d=\"M20 18v22\"/><path class=\"se\" d=\"M4 41h32\"/></g>
-<g id=\"R2\"><path d=\"M4 4h32v37h-32z\"/><path class=\"sl\" d=\"M12 18v22M20 18v22M28 18v22\"/><path class=\"se\" d=\"M4 41h32\"/></g>
-<g id=\"R3\"><path d=\"M4 4h32v37h-32z\"/><path class=\"sl\" d=\"M8 18v22M12 18v22M16 18v22M20 18v22M24 18v22M28 18v22M32 18v22\"/><path class=\"se\" d=\"M4 41h32\"/></g>
+<path id=\"write0\" d=\"M4 -2h32v38h-32z\"/>
+<g id=\"write1\"><path d=\"M4 -2h32v38h-32z\"/><path class=\"sl\" d=\"M20 0v22\"/></g>
+<g id=\"write2\"><path d=\"M4 -2h32v38h-32z\"/><path class=\"sl\" d=\"M12 0v22M20 0v22M28 0v22\"/></g>
+<g id=\"write3\"><path d=\"M4 -2h32v38h-32z\"/><path class=\"sl\" d=\"M8 0v22M12 0v22M16 0v22M20 0v22M24 0v22M28 0v22M32 0v22\"/></g>
+<g id=\"read0\"><path d=\"M4 4h32v37h-32z\"/><path class=\"se\" d=\"M4 41h32\"/></g>
+<g id=\"read1\"><path d=\"M4 4h32v37h-32z\"/><path class=\"sl\" d=\"M20 18v22\"/><path class=\"se\" d=\"M4 41h32\"/></g>
+<g id=\"read2\"><path d=\"M4 4h32v37h-32z\"/><path class=\"sl\" d=\"M12 18v22M20 18v22M28 18v22\"/><path class=\"se\" d=\"M4 41h32\"/></g>
+<g id=\"read3\"><path d=\"M4 4h32v37h-32z\"/><path class=\"sl\" d=\"M8 18v22M12 18v22M16 18v22M20 18v22M24 18v22M28 18v22M32 18v22\"/><path class=\"se\" d=\"M4 41h32\"/></g>
 <path id=\"i\" class=\"ho\" d=\"M-8 -6h16l-8 12z\"/>
 <g id=\"j\"><path class=\"ho\" d=\"M-8 -7h16l-8 12z\"/><path class=\"re\" d=\"M-8 5h16v4h-16z\"/></g>
 <path id=\"o\" d=\"M-8 6h16l-8 -12z\"/>

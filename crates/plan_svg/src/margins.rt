@@ -1,6 +1,5 @@
 // What stands around the grid: the numbers of its columns and rows, and the names of pins.
-ghost use Rattle.std.specs.Prelude.{◌≡◌, ◌++◌, ◌+◌, ◌-◌, ◌*◌, OnOk, flat_map, option_map};
-ghost use Rattle.index_search.specs.Places.{gathered_below};
+ghost use Rattle.std.specs.Prelude.{◌≡◌, ◌++◌, ◌+◌, ◌-◌, ◌*◌, OnOk, option_map};
 ghost use Rattle.plan_svg.specs.Margins.{axis_number, beside, column_numbers, name_place, name_text, pin_names, row_numbers, tile_names, upwards};
 ghost use Rattle.plan_svg.specs.Names.{names_in};
 ghost use Rattle.plan_marks.specs.Plans.{plan_in};

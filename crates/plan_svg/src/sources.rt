@@ -1,6 +1,5 @@
 // PLLs that are on and global networks: their marks in the grid, and their rows in the legend.
 ghost use Rattle.std.specs.Prelude.{◌≡◌, ◌++◌, ◌+◌, ◌*◌, OnOk, flat_map};
-ghost use Rattle.plan_svg.specs.Pieces.{spelled};
 ghost use Rattle.plan_svg.specs.Sources.{badge, badge_text, global_badge, global_class, global_mark, global_row, global_shape, output_words, outputs_words, pll_frame, pll_mark, pll_row, pll_rows, read_words, source_words};
 
 use crate::pieces::{Piece, push};

@@ -141,7 +141,7 @@ fn push_lower(text: &mut Vec<u8>, mode: u8) -> Result<(), AllocError>
     push(
         text,
         &[
-            Piece::Text(b"<use class=\"r\" xlink:href=\"#W"),
+            Piece::Text(b"<use class=\"r\" xlink:href=\"#write"),
             Piece::Number(u64::from(mode)),
             Piece::Text(b"\"/><text class=\"m\" x=\"20\" y=\"33\">W"),
             Piece::Number(bits_of(mode)),
@@ -158,7 +158,7 @@ fn push_upper(text: &mut Vec<u8>, mode: u8) -> Result<(), AllocError>
     push(
         text,
         &[
-            Piece::Text(b"<use class=\"u\" xlink:href=\"#R"),
+            Piece::Text(b"<use class=\"u\" xlink:href=\"#read"),
             Piece::Number(u64::from(mode)),
             Piece::Text(b"\"/><text class=\"m\" x=\"20\" y=\"14\">R"),
             Piece::Number(bits_of(mode)),

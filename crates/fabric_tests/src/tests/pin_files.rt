@@ -1,6 +1,8 @@
 // The pins of a package, and the names that a pin file gives to ports.
 
-use pin_file::{PackagePins, PinName, PinPlace, PinReader, PortPin, pin_names};
+use pin_file::{
+    GivenNames, PackagePins, PinName, PinPlace, PinReader, PortPin, given_names, pin_names,
+};
 use std::alloc::{AllocError, Global};
 
 /// The pins of a package, from a database that is fed in pieces.
@@ -160,6 +162,43 @@ fn gives_a_name_once(rt: HostRuntime) {
             b"set_io bus A\nset_io bus B\nset_io led B",
             "bus",
             None
+        )
+    );
+}
+
+/// Whether these names are given to the pins at these places.
+fn are_names(names: &GivenNames, expected: &[(PinPlace, &str)]) -> bool {
+    for (place, name) in expected {
+        match names.name_at(*place) {
+            Some(given) => {
+                if given != name.as_bytes() {
+                    return false;
+                }
+            }
+            None => return false,
+        }
+    }
+    true
+}
+
+/// Whether the pin file gives these names to pins, as they stand in it.
+fn has_names(alloc: Global, text: &[u8], expected: &[(PinPlace, &str)]) -> bool {
+    let Ok(pins) = pins_of(alloc, "p", &[PINS]) else {
+        return false;
+    };
+    match given_names(alloc, text, &pins) {
+        Ok(names) => are_names(&names, expected),
+        Err(_) => false,
+    }
+}
+
+#[test]
+fn keeps_names_as_they_stand(rt: HostRuntime) {
+    assert!(rt;
+        has_names(
+            rt.alloc(),
+            TEXT,
+            &[(PLACE_A, "top.clk+"), (PLACE_B, "led[3]")]
         )
     );
 }

@@ -1,8 +1,7 @@
-use Rattle.std.proofs.Common.{◌≡◌, ◌+◌, ◌∷◌, ◌++◌, ℕ, List, [], get_or, take, subst, sym, arith}
+use Rattle.std.proofs.Common.{subst, sym}
 use Rattle.std.specs.Prelude.{IfSome, Option}
-use Rattle.std.proofs.lemmas.List.{take_more}
 use Rattle.chipdb_reader.specs.declared.items.LinkLine.{LinkLine}
-use Rattle.floor_plan.specs.ByTile.{IsLinkNear, Raises}
+use Rattle.floor_plan.specs.ByTile.{IsLinkNear}
 use Rattle.floor_plan.proofs.ByTiles.{near-at, raises-next, raises-none}
 use Rattle.floor_plan.proofs.links.count_links.Goals as goal
 

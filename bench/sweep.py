@@ -13,8 +13,8 @@ There are three parts, each a module and 64 lists:
 - `drawn`: the same module, and lists whose pins are drawn for each list.
 
 The inputs get short names, since a list of vlogsweep has at most 65,536 bytes. In each round vlogrun and vvp take some of the lists, one run
-for each list, by turns; then vlogsweep takes all 64 in one run, and so does the program that Verilator makes. So vlogrun and vvp have taken
-each list once at the end. LISTS is how many lists vvp takes, 64 if it is missing. The program of Verilator is built once; its lines are those
+for each list, by turns; then vlogsweep takes all 64 in one run, once more with --last, and so does the program that Verilator makes. So vlogrun
+and vvp have taken each list once at the end. LISTS is how many lists vvp takes, 64 if it is missing. The program of Verilator is built once; its lines are those
 of vlogsweep.
 
 Times are processor time, user and system: of vlogrun and vvp the median of their runs with the least in brackets, and the sum of all; of the
@@ -249,7 +249,7 @@ class Bench:
         self.names = ["list_%d" % number for number in range(LISTS)]
         for name, events in zip(self.names, self.lists):
             self.write_list(name, events)
-        self.runs = {tool: [] for tool in ("vlogrun", "vlogsweep", "vvp", "verilator")}
+        self.runs = {tool: [] for tool in ("vlogrun", "vlogsweep", "last", "vvp", "verilator")}
         self.lines = {tool: {} for tool in self.runs}
         self.has_sweep = has_sweep()
 
@@ -287,8 +287,8 @@ class Bench:
 
     def run_all(self, tool):
         """All lists in one run."""
-        if tool == "vlogsweep":
-            run = Run([str(program()), "vlogsweep", "chip.v"] + self.names, self.work)
+        if tool in ("vlogsweep", "last"):
+            run = Run([str(program()), "vlogsweep"] + ["--last"] * (tool == "last") + ["chip.v"] + self.names, self.work)
         else:
             run = Run(["verilated/chip"] + [word for name in self.names for word in (name, name + ".folder/events.hex")], self.work)
         self.lines[tool] = by_list(self.count(tool, run))
@@ -302,6 +302,7 @@ class Bench:
                     self.run_one(tool, place)
             if self.has_sweep:
                 self.run_all("vlogsweep")
+                self.run_all("last")
             if (self.work / "verilated/chip").exists():
                 self.run_all("verilator")
 
@@ -311,9 +312,10 @@ class Bench:
         for number, events in enumerate(self.lists):
             wanted = self.lines["vlogrun"][number].splitlines()
             faults = [] if len(wanted) == len(events) + 1 else ["vlogrun writes %d lines" % len(wanted)]
-            for tool in ("vlogsweep", "vvp", "verilator"):
+            for tool in ("vlogsweep", "last", "vvp", "verilator"):
                 if self.runs[tool] and (tool != "vvp" or number < self.taken):
-                    faults += first_difference(tool, wanted, self.lines[tool].get(number, b"").splitlines())
+                    lines = wanted[-1:] if tool == "last" else wanted
+                    faults += first_difference(tool, lines, self.lines[tool].get(number, b"").splitlines())
             if faults:
                 found.append(number)
                 print("%s, list %d: %s" % (self.name, number, "; ".join(faults)))
@@ -328,7 +330,7 @@ class Bench:
             if runs:
                 print("  %-40s %9.3f s (%.3f), and %.3f s in all of %d lists" % (
                     tool + ", one list", statistics.median(runs), min(runs), sum(runs), len(runs)))
-        for tool, what in ("vlogsweep", "vlogsweep, %d lists" % LISTS), ("verilator", "the program of Verilator, %d lists" % LISTS):
+        for tool, what in ("vlogsweep", "vlogsweep, %d lists" % LISTS), ("last", "vlogsweep --last, %d lists" % LISTS), ("verilator", "the program of Verilator, %d lists" % LISTS):
             runs = [run.seconds for run in self.runs[tool]]
             if runs:
                 print("  %-40s %9.3f s (%.3f), %d rounds" % (what, statistics.median(runs), min(runs), len(runs)))

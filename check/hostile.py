@@ -312,6 +312,14 @@ def event_lists(line, count):
     yield "one long line", line.strip() + " " * 10 * count + "\n"
 
 
+def long_lists(name, count):
+    """Long lists of events that are long in one thing each, with the name of an input."""
+    yield "one line many times", "%s ~ 1\n" % name * count
+    yield "repeats of nothing", "repeat 4294967295\nrepeat 4294967295\nend\nend\n" * count
+    yield "repeats of one event", (8 * "repeat 1\n" + name + " 0\n" + 8 * "end\n") * (count // 8)
+    yield "a repeat of many empty ones", "repeat 1000\n%s ~ 1\n%send\n" % (name, "repeat 1\nend\n" * count)
+
+
 def name_lists(wire, count):
     """Lists of names that are long in one thing each, with a wire of the module."""
     yield "empty lines", "\n" * count
@@ -352,6 +360,8 @@ def grown(files):
     with open(files["lamp.events"]) as events:
         line = events.readline()
     yield "list of events", functools.partial(event_lists, line), 20000, ["vlogrun", files["lamp.v"], "FILE"], None
+    yield ("long list of events", functools.partial(long_lists, line.split()[0]), 2000,
+           ["vlogrun", "--long", "--last", files["lamp.v"], "FILE"], None)
     with open(files["lamp.names"]) as names:
         wire = names.readline().split()[0]
     yield "list of names", functools.partial(name_lists, wire), 100000, ["vlogrun", "--vcd", "--names", "FILE", files["lamp.v"]], None

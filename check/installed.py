@@ -298,7 +298,7 @@ def try_completions(tries, prefix):
     tries.tell("bash completes iceverify", "" if found == options(prefix, "iceverify") and said else "to: " + " ".join(found))
     for words, wanted in ((["icestorm", "icebox_"], ["icebox_explain", "icebox_diff", "icebox_stat", "icebox_plan", "icebox_vlog"]), (["icepack", "--la"], ["--layout"]),
                           (["icestorm", "icebram", "--b"], ["--by-mode"]), (["icestorm", "--e"], ["--explain"]),
-                          (["icestorm", "--explain", "Lo"], ["LongPayload", "Loop"]), (["icepack", "a"], []), (["icestorm", "icepack", ""], [])):
+                          (["icestorm", "--explain", "Lo"], ["Long", "LongPayload", "Loop"]), (["icepack", "a"], []), (["icestorm", "icepack", ""], [])):
         found, _ = completed(prefix, words[0], words)
         tries.tell("bash completes: %s" % " ".join(words), "" if found == wanted else "to: " + " ".join(found))
 

@@ -103,6 +103,8 @@ def try_all(tries):
     (tries.folder / "small.v").write_text(module_of(10))
     tries.try_run("vlogrun over 1 MiB of events", ["vlogrun", path("small.v"), path("events")])
     tries.try_run("vlogrun --vcd over 1 MiB of events", ["vlogrun", "--vcd", path("small.v"), path("events")])
+    (tries.folder / "long").write_text("repeat 1000\n%s ~ 1000\nend\n" % (tries.folder / "events").read_text().split()[0])
+    tries.try_run("vlogrun over 1,000,000 events of a long list", ["vlogrun", "--long", path("small.v"), path("long")])
     tries.try_run("vlogsweep over 64 lists of 64 KiB", ["vlogsweep", path("small.v")] + [path("list")] * LISTS)
     tries.try_run("selfrun of an 8k", ["selfrun", "8k", "7", "1000"])
 

@@ -52,7 +52,11 @@ CALLS = (
     (["vlogrun", "-s", "module", "events"], None, 0),
     (["vlogrun", "--vcd", "module", "events"], None, 0),
     (["vlogrun", "module", "text"], None, 1),
+    (["vlogrun", "--long", "--changes", "--head", "-s", "module", "long"], None, 0),
+    (["vlogrun", "--long", "--vcd", "module", "long"], None, 0),
+    (["vlogrun", "--long", "module", "text"], None, 1),
     (["vlogsweep", "module", "events", "events"], None, 0),
+    (["vlogsweep", "--long", "--last", "module", "long", "events"], None, 0),
     (["vlogrun", "--vcd", "divided", "events"], None, 0),
     (["vlogsweep", "divided", "events", "events"], None, 0),
     (["icesplit"], None, 2),
@@ -73,6 +77,7 @@ def make_files(folder):
         "ring": text_of(RING),
         "pins": "set_io in_pin IN\n",
         "events": "io_0_1_0 1\nio_0_1_0 0\n",
+        "long": "repeat 3\nio_0_1_0 ~ 5000\nrepeat 2\nend\nend\n",
         "ram_text": (TOP / "examples/player_1k/player.asc").read_text(),
     }
     for name in ("from", "to"):

@@ -35,6 +35,7 @@ def made_files(folder):
         "text": (".comment\n" + ("a remark\n" * (LONG // 9)) + text_of(TILES)).encode(),
         "pins": b"set_io in_pin IN\nset_io out_pin OUT\n" + b"# a remark\n" * (LONG // 11),
         "events": b"io_0_1_0 1\nio_0_1_0 0\n" * (LONG // 22),
+        "long": b"io_0_1_0 ~ 2\n" * (LONG // 13),
         "others": b"io_0_1_0 1\nio_0_1_0 0\n" * 1000,
         "more": b"io_0_1_0 0\nio_0_1_0 1\n" * 2000,
         "ram_text": (TOP / "examples/player_1k/player.asc").read_bytes(),
@@ -71,6 +72,7 @@ CALLS = (
     (["icebox_vlog", "-p", "pins", "-d", "tq144", "--layout", "layout", "database"], ["layout", "pins", "database", "text"]),
     (["vlogrun", "-s", "module", "events"], ["module", "events"]),
     (["vlogrun", "--vcd", "module"], ["module", "events"]),
+    (["vlogrun", "--long", "--changes", "module"], ["module", "long"]),
     (["vlogsweep", "module", "others", "more"], ["module", "others", "more"]),
 )
 

@@ -74,8 +74,10 @@ unfoldable pub about_modules : List ℕ → Option (List ℕ)
 about_modules word =
     if bytes_eq word (codes "AssignedTwice") then Some texts.ASSIGNED_TWICE.now
     else if bytes_eq word (codes "Form") then Some texts.FORM.now
+    else if bytes_eq word (codes "Long") then Some texts.LONG.now
     else if bytes_eq word (codes "Order") then Some texts.ORDER.now
     else if bytes_eq word (codes "Pin") then Some texts.PIN.now
+    else if bytes_eq word (codes "Repeat") then Some texts.REPEAT.now
     else if bytes_eq word (codes "Syntax") then Some texts.SYNTAX.now
     else if bytes_eq word (codes "Undeclared") then Some texts.UNDECLARED.now
     else if bytes_eq word (codes "Wire") then Some texts.WIRE.now

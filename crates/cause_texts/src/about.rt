@@ -99,8 +99,10 @@ pub fn about_modules(word: &str) -> Option<&'static str>
     match word {
         "AssignedTwice" => Some(texts::ASSIGNED_TWICE),
         "Form" => Some(texts::FORM),
+        "Long" => Some(texts::LONG),
         "Order" => Some(texts::ORDER),
         "Pin" => Some(texts::PIN),
+        "Repeat" => Some(texts::REPEAT),
         "Syntax" => Some(texts::SYNTAX),
         "Undeclared" => Some(texts::UNDECLARED),
         "Wire" => Some(texts::WIRE),

@@ -325,13 +325,17 @@ ExtraPlace, in a text (.asc):
 
 pub const FORM: &str = "\
 Form, in a list of events of vlogrun or vlogsweep:
-  The line isn't a name, one space, and 0 or 1. Blanks at its end don't count. A
-  name is a letter or _, followed by letters, digits and _.
+  The line isn't a name, one space, and 0 or 1; with --long it isn't NAME ~ N,
+  repeat N or end either, or N isn't from 1 to 4294967295. Blanks at its end
+  don't count. A name is a letter or _, followed by letters, digits and _.
   Example, an equals sign in place of the space:
     $ printf 'a 1\\na=0\\n' | icestorm vlogrun m.v
     vlogrun: line 2: Form
   What to do:
-    Write NAME 0 or NAME 1. There are no comments, and no values such as x.
+    Write NAME 0 or NAME 1, or with --long also NAME ~ N, with one space on each
+    side of ~. Begin no line with a blank, also between repeat and end. There
+    are no comments, and no values such as x. Give an input that is named repeat
+    another name.
 
 Form, in a list of names for wires:
   The line isn't the name of a wire, blanks, and a name of printable ASCII
@@ -405,6 +409,19 @@ Kind, in a text (.asc):
   What to do:
     Write the statement of that kind, or correct X and Y. Or the text is for
     another device than it names.
+";
+
+pub const LONG: &str = "\
+Long, in a list of events of vlogrun or vlogsweep:
+  With --long: no line is faulty, but the list stands for 2^64 - 1 events or
+  more, or what vlogrun writes may have 2^64 bytes or more. No line is told.
+  Example, a list in which an input gets the other bit 4294967295 times
+  4294967295 times:
+    $ icestorm vlogrun --long m.v m.endless
+    vlogrun: Long
+  What to do:
+    Take lower counts. If it is only the lines of vlogrun that are too many,
+    --last is enough.
 ";
 
 pub const LONG_PAYLOAD: &str = "\
@@ -693,6 +710,17 @@ PowerOn, in a boot file that icesplit reads:
   What to do:
     Join the images anew with icemulti. Header 0 has the address of the image
     for power-on.
+";
+
+pub const REPEAT: &str = "\
+Repeat, in a list of events of vlogrun or vlogsweep:
+  With --long: the line is an end without a repeat, or a repeat inside eight
+  others. If no line is faulty, it is the outermost repeat without an end.
+  Example, an end too many:
+    $ printf 'repeat 2\\na ~ 1\\nend\\nend\\n' | icestorm vlogrun --long m.v
+    vlogrun: line 4: Repeat
+  What to do:
+    Give each repeat its end, and put at most eight inside one another.
 ";
 
 pub const REPEATED: &str = "\
@@ -1029,6 +1057,7 @@ Hex
 image
 Images
 Kind
+Long
 LongPayload
 Loop
 NameTwice
@@ -1046,6 +1075,7 @@ PinMode
 Place
 Pll
 PowerOn
+Repeat
 Repeated
 Row
 SameColumns

@@ -59,18 +59,26 @@ RunsFabric registers texts bytes =
     → IsRun (fabric_for is.design db image) (fabric_events (ports_with names (fabric_for is.design db image)) (get_or texts 1 [])) entries
     → bytes ≡ fabric_text registers entries
 
--- whether the arguments of `vlogrun` ask for registers
+-- whether the arguments of `vlogrun` have a flag
+abbrev pub asks : List ℕ → List (List ℕ) → Bool
+asks id args = has_flag id (matches_of vlogrun_command args)
+
+-- whether they ask for registers
 abbrev pub shows_registers : List (List ℕ) → Bool
-shows_registers args = has_flag (codes "registers") (matches_of vlogrun_command args)
+shows_registers args = asks (codes "registers") args
 
--- whether they ask for waves
-abbrev pub tells_waves : List (List ℕ) → Bool
-tells_waves args = has_flag (codes "vcd") (matches_of vlogrun_command args)
+-- they ask for all lines of the run over a plain list, without the names before them
+pub record TellsAll (args : List (List ℕ)) : Type 0 where
+  pub lines : asks (codes "vcd") args ≡ false
+  pub plain : asks (codes "long") args ≡ false
+  pub unfiltered : asks (codes "changes") args ≡ false
+  pub each : asks (codes "last") args ≡ false
+  pub nameless : asks (codes "head") args ≡ false
 
--- If a run of `vlogrun` with these arguments has status 0, and isn't asked for help or for waves, then there are texts of its files and of
--- standard input such that the bytes that it appended are the lines of the run of a design's fabric, if the first text spells that design's
+-- If a run of `vlogrun` with these arguments has status 0, isn't asked for help, and is asked for all lines over a plain list, then there are
+-- texts of its files and of standard input such that the bytes that it appended are the lines of the run of a design's fabric, if the first text spells that design's
 -- module. Each text is within its limit. Where files and input tell their contents, as those in memory do, the texts are these contents;
 -- real files tell nothing of them.
 abbrev pub PromisesRun : {F I O E : Type 0} → Outside F I O E → List (List ℕ) → ℕ → Scene F I O E → Scene F I O E → Type 0
 PromisesRun by args status old new =
-    status ≡ 0 → asks_for_help args ≡ false → tells_waves args ≡ false → AppendsFor by (RunsFabric (shows_registers args)) (vlogrun_outcome args) old new
+    status ≡ 0 → asks_for_help args ≡ false → TellsAll args → AppendsFor by (RunsFabric (shows_registers args)) (vlogrun_outcome args) old new

@@ -5,6 +5,8 @@ use Rattle.vlog_forms.specs.declared.fault.VlogCause.TheVariants.{Syntax, Order,
 use Rattle.vlog_forms.specs.Outcome.{Fault}
 use Rattle.vlog_run.specs.declared.event.EventFault.{EventFault}
 use Rattle.vlog_run.specs.declared.event.EventFault.TheVariants.{Form, Pin, Memory}
+use Rattle.long_events.specs.declared.fault.LongFault.{LongFault}
+use Rattle.long_events.specs.declared.fault.LongFault.TheVariants as fault
 use Rattle.wire_names.specs.declared.fault.WireNamesCause.{WireNamesCause}
 use Rattle.wire_names.specs.declared.fault.WireNamesCause.TheVariants as cause
 use Rattle.wire_names.specs.declared.fault.WireNamesFault.{WireNamesFault}
@@ -26,9 +28,15 @@ event_fault_text (Form line) = codes "line " ++ decimal line ++ codes ": Form"
 event_fault_text (Pin line) = codes "line " ++ decimal line ++ codes ": Pin"
 event_fault_text (Memory e) = codes "out of memory"
 
+-- the message for a list of either form
+abbrev pub list_fault_text : LongFault → List ℕ
+list_fault_text (fault.Event told) = event_fault_text told
+list_fault_text (fault.Repeat line) = codes "line " ++ decimal line ++ codes ": Repeat"
+list_fault_text fault.Long = codes "Long"
+
 -- the message with the name of the file before it, for a tool that takes several lists
-abbrev pub file_fault_text : List ℕ → EventFault → List ℕ
-file_fault_text name fault = name ++ codes " " ++ event_fault_text fault
+abbrev pub file_fault_text : List ℕ → LongFault → List ℕ
+file_fault_text name told = name ++ codes " " ++ list_fault_text told
 
 abbrev pub names_cause_text : WireNamesCause → List ℕ
 names_cause_text cause.Form = codes ": Form"

@@ -3,8 +3,9 @@ ghost use Rattle.std.specs.Prelude.{◌≡◌, ◌++◌, codes};
 ghost use Rattle.tool_run.specs.Lines.{refusal_text};
 ghost use Rattle.vlog_forms.specs.Outcome.{fault};
 ghost use Rattle.wire_names.specs.declared.fault.WireNamesFault.TheVariants.{At};
-ghost use Rattle.module_tools.specs.Faults.{event_fault_text, file_fault_text, names_cause_text, names_fault_text, vlog_cause_text, vlog_fault_text};
+ghost use Rattle.module_tools.specs.Faults.{event_fault_text, file_fault_text, list_fault_text, names_cause_text, names_fault_text, vlog_cause_text, vlog_fault_text};
 
+use long_events::LongFault;
 use tool_inputs::{refusal, whole};
 use tool_run::{Refusal, decimal, text};
 use vlog_parser::VlogCause;
@@ -31,7 +32,18 @@ pub(crate) fn vlog_refusal(offset: u64, cause: VlogCause) -> Refusal<'static>
 }
 
 /// The refusal of a list of events: the line and the cause.
-pub(crate) fn event_refusal(fault: EventFault) -> Refusal<'static>
+pub(crate) fn list_refusal(fault: LongFault) -> Refusal<'static>
+    ensures { refusal_text result ≡ list_fault_text fault }
+{
+    match fault {
+        LongFault::Event(fault) => event_refusal(fault),
+        LongFault::Repeat { line } => refusal(decimal("line ", line), text(": Repeat")),
+        LongFault::Long => whole("Long"),
+    }
+}
+
+// The refusal of a line that is no event.
+fn event_refusal(fault: EventFault) -> Refusal<'static>
     ensures { refusal_text result ≡ event_fault_text fault }
 {
     match fault {
@@ -42,13 +54,15 @@ pub(crate) fn event_refusal(fault: EventFault) -> Refusal<'static>
 }
 
 /// The refusal of a list of events with the name of its file before it.
-pub(crate) fn file_refusal(name: &str, fault: EventFault) -> Refusal<'_>
+pub(crate) fn file_refusal(name: &str, fault: LongFault) -> Refusal<'_>
     ensures { refusal_text result ≡ file_fault_text name.now fault }
 {
     let (told, cause) = match fault {
-        EventFault::Form { line } => (decimal("line ", line), ": Form"),
-        EventFault::Pin { line } => (decimal("line ", line), ": Pin"),
-        EventFault::Memory(_) => (text("out of memory"), ""),
+        LongFault::Event(EventFault::Form { line }) => (decimal("line ", line), ": Form"),
+        LongFault::Event(EventFault::Pin { line }) => (decimal("line ", line), ": Pin"),
+        LongFault::Event(EventFault::Memory(_)) => (text("out of memory"), ""),
+        LongFault::Repeat { line } => (decimal("line ", line), ": Repeat"),
+        LongFault::Long => (text("Long"), ""),
     };
     Refusal {
         file: None,

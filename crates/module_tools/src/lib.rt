@@ -4,7 +4,9 @@
 //! run does the task that the command line asks for.
 #![tactic(auto)]
 
+mod events;
 mod faults;
+mod listing;
 mod request;
 mod running;
 mod sweep_request;
@@ -16,4 +18,4 @@ pub use request::{VLOGRUN_HELP, VLOGRUN_USAGE};
 pub use running::run_vlogrun;
 pub use sweep_request::{VLOGSWEEP_HELP, VLOGSWEEP_USAGE};
 pub use sweeping::run_vlogsweep;
-pub use told::Told;
+pub use told::{EventsForm, SweepForm, Told};

@@ -3,22 +3,26 @@ ghost use Rattle.std.specs.Prelude.{◌≡◌, [], map, string_bytes, IfOk, IfEr
 ghost use Rattle.tool_run.specs.Runs.{Does};
 ghost use Rattle.tool_run.specs.Stops.{StopsWith};
 ghost use Rattle.tool_run.specs.Tasks.{Done};
-ghost use Rattle.vlog_run.specs.Events.{event_fault};
+ghost use Rattle.long_runs.specs.Whole.{lines_in};
 ghost use Rattle.vlog_forms.specs.Outcome.{outcome_of};
 ghost use Rattle.tool_run.specs.Needs.{text_of};
+ghost use Rattle.module_tools.specs.Events.{list_fault};
 ghost use Rattle.module_tools.specs.Vlogrun.{run_of, run_over, run_task, vlogrun_outcome, vlogrun_task_for, waves_task};
 ghost use Rattle.module_tools.specs.declared.told.Told.TheVariants.{Lines};
 
-use crate::faults::{event_refusal, vlog_refusal};
+use crate::events::read_list;
+use crate::faults::{list_refusal, vlog_refusal};
 use crate::request::{Request, VLOGRUN_HELP, VLOGRUN_USAGE, command, request_in};
-use crate::told::Told;
+use crate::told::{EventsForm, Told};
 use crate::tracing::{NamedTracing, Tracing};
 use clap::{ArgMatches, Command};
+use long_events::LongFault;
+use long_runs::{LineForm, LinesFault, RunLines};
 use std::alloc::{AllocError, Global};
 use tool_inputs::{CommandLine, Words, run_tool};
 use tool_run::{Host, Job, Load, Stop, Tool, loaded_at};
 use vlog_parser::{Module, VlogFault, parse};
-use vlog_run::{EventFault, read_events, run_text};
+use vlog_run::EventFault;
 
 /// The most bytes that the text of a module may have.
 pub(crate) const MODULE_LIMIT: usize = 67_108_864;
@@ -32,24 +36,21 @@ const NAMES_LIMIT: usize = 4_194_304;
 /// Loads a module and a list of events, runs the module over the events, and tells the lines of the run.
 #[derive(Clone, Copy, Debug, PartialEq, Eq)]
 pub(crate) struct Running {
-    pub(crate) registers: bool,
+    pub(crate) lines: LineForm,
+    pub(crate) form: EventsForm,
 }
 
 impl Tool for Running {
     ghost use Rattle.module_tools.specs.Vlogrun.{vlogrun_answer};
     ghost use Rattle.module_tools.specs.declared.told.Told.TheVariants.{Lines};
 
-    ghost answer_of = { λ tool texts. vlogrun_answer (Lines tool.registers) texts };
+    ghost answer_of = { λ tool texts. vlogrun_answer (Lines tool.lines) tool.form texts };
 
-    type Made = Vec<u8>;
+    type Made = RunLines;
 
-    fn answer(&self, alloc: Global, loaded: &Vec<Vec<u8>>) -> Result<Vec<u8>, Stop<'_>> {
-        run_texts(
-            alloc,
-            loaded_at(loaded, 0),
-            loaded_at(loaded, 1),
-            self.registers,
-        )
+    fn answer(&self, alloc: Global, loaded: &Vec<Vec<u8>>) -> Result<RunLines, Stop<'_>> {
+        let (text, events) = (loaded_at(loaded, 0), loaded_at(loaded, 1));
+        run_texts(alloc, text, events, self.lines, self.form)
     }
 }
 
@@ -59,13 +60,14 @@ fn run_texts(
     alloc: Global,
     text: &[u8],
     events: &[u8],
-    registers: bool,
-) -> Result<Vec<u8>, Stop<'static>>
-    ensures bytes { IfOk result (λ bytes. run_of (Lines registers) (outcome_of text.now) events.now ≡ Done bytes.items) }
-    ensures stops { IfErr result (StopsWith (run_of (Lines registers) (outcome_of text.now) events.now)) }
+    lines: LineForm,
+    form: EventsForm,
+) -> Result<RunLines, Stop<'static>>
+    ensures bytes { IfOk result (λ made. run_of (Lines lines) form (outcome_of text.now) events.now ≡ Done (lines_in made)) }
+    ensures stops { IfErr result (StopsWith (run_of (Lines lines) form (outcome_of text.now) events.now)) }
 {
     match parse(alloc, text) {
-        Ok(module) => run_module(alloc, &module, events, registers),
+        Ok(module) => run_module(alloc, module, events, lines, form),
         Err(VlogFault::At { offset, cause }) => Err(Stop::Refused(vlog_refusal(offset, cause))),
         Err(VlogFault::Memory(_)) => Err(Stop::Memory),
     }
@@ -74,20 +76,22 @@ fn run_texts(
 // The lines of the run of a module over events.
 fn run_module(
     alloc: Global,
-    module: &Module,
+    module: Module,
     events: &[u8],
-    registers: bool,
-) -> Result<Vec<u8>, Stop<'static>>
-    ensures bytes { IfOk result (λ bytes. run_over (Lines registers) [] «module».now events.now (event_fault «module».now.ports events.now) ≡ Done bytes.items) }
-    ensures stops { IfErr result (StopsWith (run_over (Lines registers) [] «module».now events.now (event_fault «module».now.ports events.now))) }
+    lines: LineForm,
+    form: EventsForm,
+) -> Result<RunLines, Stop<'static>>
+    ensures bytes { IfOk result (λ made. run_over (Lines lines) form [] «module» events.now (list_fault form «module».ports events.now) ≡ Done (lines_in made)) }
+    ensures stops { IfErr result (StopsWith (run_over (Lines lines) form [] «module» events.now (list_fault form «module».ports events.now))) }
 {
-    match read_events(alloc, module, events) {
-        Ok(events) => match run_text(alloc, module, &events, registers) {
-            Ok(text) => Ok(text),
-            Err(AllocError) => Err(Stop::Memory),
+    match read_list(alloc, &module, events, form) {
+        Ok(events) => match RunLines::new(alloc, module, events, lines) {
+            Ok(made) => Ok(made),
+            Err(LinesFault::Long) => Err(Stop::Refused(list_refusal(LongFault::Long))),
+            Err(LinesFault::Memory(_)) => Err(Stop::Memory),
         },
-        Err(EventFault::Memory(_)) => Err(Stop::Memory),
-        Err(fault) => Err(Stop::Refused(event_refusal(fault))),
+        Err(LongFault::Event(EventFault::Memory(_))) => Err(Stop::Memory),
+        Err(fault) => Err(Stop::Refused(list_refusal(fault))),
     }
 }
 
@@ -95,11 +99,12 @@ fn run_module(
 fn run_plain<H: Host>(
     alloc: Global,
     told: Told,
+    form: EventsForm,
     module: &str,
     events: Option<&str>,
     host: &mut H,
 ) -> u8
-    ensures { Does H.outside (run_task told «module».now (text_of events.entry)) result (H.scene host.old) (H.scene host.new) }
+    ensures { Does H.outside (run_task told form «module».now (text_of events.entry)) result (H.scene host.old) (H.scene host.new) }
 {
     let loads = [
         Load {
@@ -117,23 +122,27 @@ fn run_plain<H: Host>(
         target: None,
     };
     match told {
-        Told::Lines { registers } => {
-            let tool = Running { registers };
+        Told::Lines(lines) => {
+            let tool = Running { lines, form };
             host.perform(alloc, &tool, &job)
         }
-        Told::Waves => host.perform(alloc, &Tracing, &job),
+        Told::Waves => {
+            let tool = Tracing { form };
+            host.perform(alloc, &tool, &job)
+        }
     }
 }
 
 // Loads a module, a list of names and a list of events, and tells the waves of the module's run with these names.
 fn trace_named<H: Host>(
     alloc: Global,
+    form: EventsForm,
     names: &str,
     module: &str,
     events: Option<&str>,
     host: &mut H,
 ) -> u8
-    ensures { Does H.outside (waves_task names.now «module».now (text_of events.entry)) result (H.scene host.old) (H.scene host.new) }
+    ensures { Does H.outside (waves_task form names.now «module».now (text_of events.entry)) result (H.scene host.old) (H.scene host.new) }
 {
     let loads = [
         Load {
@@ -154,25 +163,27 @@ fn trace_named<H: Host>(
         loads: &loads,
         target: None,
     };
-    host.perform(alloc, &NamedTracing, &job)
+    let tool = NamedTracing { form };
+    host.perform(alloc, &tool, &job)
 }
 
 // Does a request: loads its files and runs the module.
 fn run_files<H: Host>(alloc: Global, request: Request<'_>, host: &mut H) -> u8
     ensures { Does H.outside (vlogrun_task_for (Some request.entry)) result (H.scene host.old) (H.scene host.new) }
 {
-    match request.told {
-        Told::Waves => match request.names {
-            Some(names) => trace_named(alloc, names, request.module, request.events, host),
-            None => run_plain(alloc, Told::Waves, request.module, request.events, host),
+    let Request {
+        told,
+        form,
+        names,
+        module,
+        events,
+    } = request;
+    match told {
+        Told::Waves => match names {
+            Some(names) => trace_named(alloc, form, names, module, events, host),
+            None => run_plain(alloc, Told::Waves, form, module, events, host),
         },
-        Told::Lines { registers } => run_plain(
-            alloc,
-            Told::Lines { registers },
-            request.module,
-            request.events,
-            host,
-        ),
+        Told::Lines(lines) => run_plain(alloc, Told::Lines(lines), form, module, events, host),
     }
 }
 

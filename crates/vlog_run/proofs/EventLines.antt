@@ -101,7 +101,7 @@ some-same : (x y : ℕ) → Some x ≡ Some y → x ≡ y
 some-same x y same = cc
 
 -- a numbered name has a number below the end
-numbered-below : (from : ℕ) (names : List (List ℕ)) (name : List ℕ) (place : ℕ) → value_in (numbered from names) name ≡ Some place → place < from + length names
+pub numbered-below : (from : ℕ) (names : List (List ℕ)) (name : List ℕ) (place : ℕ) → value_in (numbered from names) name ≡ Some place → place < from + length names
 numbered-below from [] name place found = absurd cc
 numbered-below from (first ∷ names) name place found =
     let by_test : (b : Bool) → cond b (Some from) (value_in (numbered (from + 1) names) name) ≡ Some place → place < from + length (first ∷ names) =

@@ -77,9 +77,13 @@ fn push_event(events: &mut Vec<Event>, event: Event) -> Result<(), EventFault>
     }
 }
 
-/// The event of a line that isn't empty.
+/// The event of a line that isn't empty and has no spaces and tabs at its end. `pins` are the inputs by their names, and `line` is the
+/// line's number.
+///
+/// # Errors
+/// [`EventFault::Form`] if the line isn't a name, one space, and `0` or `1`, else [`EventFault::Pin`] if its name isn't an input.
 #[tactic(auto, unfolding(crate::specs::Events::event_of))]
-fn event_of(pins: &Slots, line: u64, content: &[u8]) -> Result<Event, EventFault>
+pub fn event_of(pins: &Slots, line: u64, content: &[u8]) -> Result<Event, EventFault>
     ensures { result ≡ event_of (slot_of pins.now) line content.now }
 {
     let end = content.len().saturating_sub(2);

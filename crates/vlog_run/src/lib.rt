@@ -7,9 +7,9 @@ mod runner;
 mod text;
 
 pub use event::EventFault;
-pub use event_lines::read_events;
+pub use event_lines::{event_of, read_events};
 pub use runner::Runner;
-pub use text::run_text;
+pub use text::{bit_digit, push_byte, push_line, run_text};
 
 // The events of a run and of a list.
 pub use vlog_semantics::Event;

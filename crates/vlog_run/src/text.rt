@@ -1,5 +1,5 @@
 // The text of a run.
-ghost use Rattle.std.specs.Prelude.{◌≡◌, ◌++◌, ◌<◌, ◌∷◌, [], All, flat_map, length, map, IfOk, OnOk, if◌then◌else◌};
+ghost use Rattle.std.specs.Prelude.{◌≡◌, ◌+◌, ◌*◌, ◌++◌, ◌<◌, ◌≤◌, ◌∷◌, [], All, flat_map, length, map, vec_len, vec_capacity, IfOk, OnErr, OnOk, if◌then◌else◌};
 ghost use Rattle.vlog_module.specs.Parts.{Parts};
 ghost use Rattle.vlog_semantics.specs.Entries.{Entry};
 ghost use Rattle.vlog_semantics.specs.Run.{input_names, run_from};
@@ -36,9 +36,15 @@ pub fn run_text(
     Ok(text)
 }
 
-/// Adds the line of a runner's state.
-fn push_line(text: &mut Vec<u8>, runner: &Runner, registers: bool) -> Result<(), AllocError>
-    ensures { (m : Parts) (entry : Entry) → Shows runner.now m entry → OnOk result (text.new.items ≡ text.old.items ++ entry_line registers entry) }
+/// Adds the line of a runner's state. The clauses `room` and `full` of this call and of those below say that the text's capacity doesn't get
+/// less, and that adding fails only if the text has too little room.
+///
+/// # Errors
+/// `AllocError` if memory is out, and for no other cause.
+pub fn push_line(text: &mut Vec<u8>, runner: &Runner, registers: bool) -> Result<(), AllocError>
+    ensures text { (m : Parts) (entry : Entry) → Shows runner.now m entry → OnOk result (text.new.items ≡ text.old.items ++ entry_line registers entry) }
+    ensures room { vec_capacity text.old ≤ vec_capacity text.new }
+    ensures full { (m : Parts) (entry : Entry) → Shows runner.now m entry → OnErr result (vec_capacity text.old < vec_len text.old + length (entry_line registers entry)) }
 {
     push_bits(text, runner.outputs())?;
     push_registers(text, runner, registers)?;
@@ -47,8 +53,11 @@ fn push_line(text: &mut Vec<u8>, runner: &Runner, registers: bool) -> Result<(),
 
 /// Adds the registers, if they are asked for.
 fn push_registers(text: &mut Vec<u8>, runner: &Runner, registers: bool) -> Result<(), AllocError>
-    ensures { (m : Parts) (entry : Entry) → Shows runner.now m entry
+    ensures text { (m : Parts) (entry : Entry) → Shows runner.now m entry
         → OnOk result (text.new.items ≡ text.old.items ++ (if registers then registers_text entry else [])) }
+    ensures room { vec_capacity text.old ≤ vec_capacity text.new }
+    ensures full { (m : Parts) (entry : Entry) → Shows runner.now m entry
+        → OnErr result (vec_capacity text.old < vec_len text.old + length (if registers then registers_text entry else [])) }
 {
     if registers {
         push_byte(text, b' ')?;
@@ -60,8 +69,10 @@ fn push_registers(text: &mut Vec<u8>, runner: &Runner, registers: bool) -> Resul
 }
 
 /// Adds a byte.
-fn push_byte(text: &mut Vec<u8>, byte: u8) -> Result<(), AllocError>
-    ensures { OnOk result (text.new.items ≡ text.old.items ++ byte ∷ []) }
+pub fn push_byte(text: &mut Vec<u8>, byte: u8) -> Result<(), AllocError>
+    ensures text { OnOk result (text.new.items ≡ text.old.items ++ byte ∷ []) }
+    ensures room { vec_capacity text.old ≤ vec_capacity text.new }
+    ensures full { OnErr result (vec_capacity text.old < vec_len text.old + 1) }
 {
     text.push(byte)?;
     Ok(())
@@ -69,7 +80,9 @@ fn push_byte(text: &mut Vec<u8>, byte: u8) -> Result<(), AllocError>
 
 /// Adds a digit for each bit.
 fn push_bits(text: &mut Vec<u8>, bits: &[bool]) -> Result<(), AllocError>
-    ensures { OnOk result (text.new.items ≡ text.old.items ++ map bit_digit bits.now) }
+    ensures text { OnOk result (text.new.items ≡ text.old.items ++ map bit_digit bits.now) }
+    ensures room { vec_capacity text.old ≤ vec_capacity text.new }
+    ensures full { OnErr result (vec_capacity text.old < vec_len text.old + length bits.now) }
 {
     for bit in bits {
         push_byte(text, bit_digit(*bit))?;
@@ -78,7 +91,7 @@ fn push_bits(text: &mut Vec<u8>, bits: &[bool]) -> Result<(), AllocError>
 }
 
 /// `0` or `1`.
-fn bit_digit(bit: bool) -> u8
+pub fn bit_digit(bit: bool) -> u8
     ensures { result ≡ bit_digit bit }
 {
     if bit { b'1' } else { b'0' }
@@ -86,7 +99,9 @@ fn bit_digit(bit: bool) -> u8
 
 /// Adds a space and four digits for each word.
 fn push_words(text: &mut Vec<u8>, words: &[u16]) -> Result<(), AllocError>
-    ensures { OnOk result (text.new.items ≡ text.old.items ++ flat_map word_text words.now) }
+    ensures text { OnOk result (text.new.items ≡ text.old.items ++ flat_map word_text words.now) }
+    ensures room { vec_capacity text.old ≤ vec_capacity text.new }
+    ensures full { OnErr result (vec_capacity text.old < vec_len text.old + 5 * length words.now) }
 {
     for word in words {
         push_word(text, *word)?;
@@ -96,7 +111,9 @@ fn push_words(text: &mut Vec<u8>, words: &[u16]) -> Result<(), AllocError>
 
 /// Adds a space and the four digits of a word.
 fn push_word(text: &mut Vec<u8>, word: u16) -> Result<(), AllocError>
-    ensures { OnOk result (text.new.items ≡ text.old.items ++ word_text word) }
+    ensures text { OnOk result (text.new.items ≡ text.old.items ++ word_text word) }
+    ensures room { vec_capacity text.old ≤ vec_capacity text.new }
+    ensures full { OnErr result (vec_capacity text.old < vec_len text.old + 5) }
 {
     let digits = [
         b' ',

@@ -7,7 +7,7 @@ use Rattle.vlog_module.specs.Parts.{Parts}
 use Rattle.vlog_semantics.specs.Values.{bit_of}
 use Rattle.vlog_run.specs.Text.{bit_digit, entry_line}
 use Rattle.vlog_lanes.specs.Lanes.{lane_of}
-use Rattle.vlog_sweep.specs.Strands.{Stands, line_of, line_put, next_entry, stepped}
+use Rattle.vlog_sweep.specs.Strands.{Stands, line_of, line_put, next_entry, stepped, turned}
 use Rattle.vlog_sweep.specs.declared.strand.Strand.{Strand}
 use Rattle.vlog_sweep.proofs.Texts.{turned-stands}
 
@@ -17,21 +17,17 @@ line-size outputs lane =
     length-append (map bit_digit (lane_of lane outputs)) (10 ∷ [])
     ∙ ap (λ n. n + 1) (length-map (lane_of lane outputs) bit_digit ∙ length-map outputs (λ word. bit_of word lane))
 
--- a list after a call
-abbrev pub after : ℕ → ℕ → ℕ → Strand → Strand
-after width active lane strand = cond (bit_of active lane) (stepped width strand) strand
-
 -- one lane more has taken its turn
 pub done-more : (width active lane : ℕ) (old now : List Strand) (strand next : Strand) → lane < length now
-    → strand ≡ get_or now lane strand → next ≡ after width active lane strand
-    → ((k : ℕ) (d : Strand) → k < lane → k < length old → get_or now k d ≡ after width active k (get_or old k d))
+    → strand ≡ get_or now lane strand → next ≡ turned width active lane strand
+    → ((k : ℕ) (d : Strand) → k < lane → k < length old → get_or now k d ≡ turned width active k (get_or old k d))
     → ((k : ℕ) (d : Strand) → lane ≤ k → get_or now k d ≡ get_or old k d)
-    → (k : ℕ) (d : Strand) → k < lane + 1 → k < length old → get_or (set now lane next) k d ≡ after width active k (get_or old k d)
+    → (k : ℕ) (d : Strand) → k < lane + 1 → k < length old → get_or (set now lane next) k d ≡ turned width active k (get_or old k d)
 done-more width active lane old now strand next within is next_is done ahead k d below inside =
     elim (cases_eq k lane) [
       | inl same ↦
           let strand_is : strand ≡ get_or old k d = is ∙ get_or_default now lane strand d within ∙ ahead lane d (omega arith) ∙ ap (λ i. get_or old i d) (sym same) in
-          ap (λ i. get_or (set now lane next) i d) same ∙ get_or-set_same now lane next d within ∙ next_is ∙ ap₂ (after width active) (sym same) strand_is
+          ap (λ i. get_or (set now lane next) i d) same ∙ get_or-set_same now lane next d within ∙ next_is ∙ ap₂ (turned width active) (sym same) strand_is
       | inr apart ↦ get_or-set_other now lane k next d apart ∙ done k d (omega (arith, apart, below)) inside
     ]
 

@@ -8,6 +8,8 @@ pub mod Texts
 pub mod Left
 -- what lanes show
 pub mod Shown
+-- lists before the first event
+pub mod Begun
 -- lanes that take their turns
 pub mod ByTurns
 -- the lists on their way

@@ -1,7 +1,7 @@
 -- What lanes show before and after a call.
 use Rattle.std.proofs.Common.{◌≡◌, ℕ, ◌<◌, cond, false, true, List, [], ◌∷◌, ◌++◌, ap, append-nil, arith, get_or, length, subst, sym, ◌∙◌}
 use Rattle.std.specs.Prelude.{All, map}
-use Rattle.std.proofs.lemmas.List.{get_or-map, length-map}
+use Rattle.std.proofs.lemmas.List.{length-map}
 use Rattle.vlog_module.specs.Parts.{Parts}
 use Rattle.vlog_semantics.specs.declared.event.Event.{Event}
 use Rattle.vlog_semantics.specs.Entries.{Entry}
@@ -14,7 +14,6 @@ use Rattle.vlog_lanes.specs.declared.lanes.Lanes.{Lanes}
 use Rattle.vlog_lanes.specs.Lanes.{lane_event, lane_of}
 use Rattle.vlog_lanes.specs.Showing.{Shows, input_count}
 use Rattle.vlog_sweep.specs.Strands.{entry_of, had, has_bit, is_on, line_of, next_of, stepped}
-use Rattle.vlog_sweep.specs.declared.list.EventList.{EventList}
 use Rattle.vlog_sweep.specs.declared.strand.Strand.{Strand}
 use Rattle.vlog_sweep.proofs.Runs.{on-event, output_count, outputs-same, turned-entry}
 use Rattle.vlog_sweep.proofs.Bits.{lane-bit}
@@ -34,17 +33,13 @@ line-shown outputs lane entry is =
     ap (λ bits. map bit_digit bits ++ 10 ∷ []) is ∙ ap (λ digits. digits ++ 10 ∷ []) (sym (append-nil (map bit_digit (values_of entry.outputs))))
 
 -- the input of a next event is one of the module's
-pub pin-within : (strands : List Strand) (lists : List EventList) (n k pin : ℕ) (d : Strand) → map (λ strand. strand.list.now) strands ≡ lists
-    → All (λ list. All (λ event. event.pin < n) list.events.items) lists → k < length strands → is_on pin (next_of (get_or strands k d)) ≡ true → pin < n
-pin-within strands lists n k pin d lists_are within inside on =
+pub pin-within : (strands : List Strand) (n k pin : ℕ) (d : Strand) → All (λ strand. All (λ event. event.pin < n) strand.list.now.events.items) strands
+    → k < length strands → is_on pin (next_of (get_or strands k d)) ≡ true → pin < n
+pin-within strands n k pin d within inside on =
     let none : Event = record { pin = 0; bit = false } in
-    let list_in : Strand → EventList = λ strand. strand.list.now in
     let strand : Strand = get_or strands k d in
     let next = on-event pin strand.taken strand.list.now.events.items none on in
-    let list_is : get_or lists k (list_in d) ≡ list_in strand = ap (λ all. get_or all k (list_in d)) (sym lists_are) ∙ get_or-map list_in strands k d (list_in d) inside in
-    let counted : k < length lists = omega (arith, inside, length-map strands list_in, ap length lists_are) in
-    let here : All (λ event. event.pin < n) strand.list.now.events.items = subst (λ list. All (λ event. event.pin < n) list.events.items) list_is (within k (list_in d) counted) in
-    subst (λ event. event.pin < n) next.1 (here strand.taken none next.0)
+    subst (λ event. event.pin < n) next.1 (within k d inside strand.taken none next.0)
 
 -- an item of a list that has some
 pub some-item : {A : Type 0} (xs : List A) (k : ℕ) → k < length xs → A

@@ -1,11 +1,14 @@
 -- Lists of events that are being run, each in its lane (strands), and the text with room for each of their lines.
-use Rattle.std.specs.Prelude.{◌≡◌, ℕ, ◌+◌, ◌-◌, ◌<◌, ◌≤◌, Bool, false, ◌==◌, List, [], ◌∷◌, ◌++◌, Option, None, Some, drop, flat_map, fold, get_or, length, map, slice_get, take}
+use Rattle.std.specs.Prelude.{◌≡◌, ℕ, ◌+◌, ◌-◌, ◌<◌, ◌≤◌, Bool, false, true, ◌==◌, List, [], ◌∷◌, ◌++◌, Option, None, Some, drop, flat_map, fold, get_or, if◌then◌else◌, length, map, slice_get, take}
 use Rattle.vlog_module.specs.Parts.{Parts}
 use Rattle.vlog_semantics.specs.declared.event.Event.{Event}
 use Rattle.vlog_semantics.specs.Entries.{Entry}
 use Rattle.vlog_semantics.specs.Run.{followed, run_from, start}
+use Rattle.vlog_semantics.specs.Values.{bit_of}
 use Rattle.vlog_run.specs.Text.{bit_digit, entry_line}
+use Rattle.vlog_lanes.specs.declared.lanes.Lanes.{Lanes}
 use Rattle.vlog_lanes.specs.Lanes.{lane_of}
+use Rattle.vlog_lanes.specs.Showing.{Shows}
 use Rattle.vlog_sweep.specs.declared.list.EventList.{EventList}
 use Rattle.vlog_sweep.specs.declared.strand.Strand.{Strand}
 
@@ -38,12 +41,26 @@ has_bit None = false
 abbrev pub stepped : ℕ → Strand → Strand
 stepped width strand = record { list = strand.list; taken = strand.taken + 1; at = strand.at + width }
 
+-- a list after a call on the lanes of a word
+abbrev pub turned : ℕ → ℕ → ℕ → Strand → Strand
+turned width active lane strand = if bit_of active lane then stepped width strand else strand
+
 -- the entry of a lane after the events that it has had
 abbrev pub entry_of : Parts → Strand → Entry
 entry_of m strand = fold (followed m) (start m) (had strand)
 
 abbrev pub next_entry : Parts → Strand → Entry
 next_entry m strand = fold (followed m) (start m) (take (strand.taken + 1) strand.list.now.events.items)
+
+-- each lane shows the entry of its list
+abbrev pub ShowsAll : Parts → Lanes → List Strand → Type 0
+ShowsAll m lanes strands = (k : ℕ) (d : Strand) → k < length strands → Shows lanes k m (entry_of m (get_or strands k d))
+
+-- a call that gave some lanes, at least one, the next events of their lists
+pub record Called (before after : Lanes) (strands : List Strand) (active : ℕ) : Type 0 where
+  pub some : (k : ℕ) × (k < length strands) × (bit_of active k ≡ true)
+  pub left : (k : ℕ) (d : Strand) → k < length strands → bit_of active k ≡ true → (get_or strands k d).taken < length (get_or strands k d).list.now.events.items
+  pub shown : (m : Parts) (width : ℕ) → ShowsAll m before strands → (k : ℕ) (d : Strand) → k < length strands → Shows after k m (entry_of m (turned width active k (get_or strands k d)))
 
 -- ---- lines
 

@@ -1,4 +1,5 @@
-// The text before the first event. Each list has its heading, and the line of the start in place of each of its lines.
+// The lists in their lanes, and their text, before the first event. In the text each list has its heading, and the line of the start in place
+// of each of its lines.
 ghost use Rattle.std.specs.Prelude.{◌≡◌, ◌+◌, ◌++◌, [], All, IfOk, OnOk, false, flat_map, length, map};
 ghost use Rattle.vlog_run.specs.Text.{entry_line};
 ghost use Rattle.vlog_module.specs.Parts.{Parts};
@@ -6,7 +7,7 @@ ghost use Rattle.vlog_semantics.specs.Run.{start};
 ghost use Rattle.vlog_sweep.specs.Strands.{Stands, begun_text};
 
 use crate::list::EventList;
-use crate::strand::Strand;
+use crate::strand::{Strand, first_strand};
 use std::alloc::{AllocError, Global};
 use vlog_semantics::Event;
 
@@ -60,7 +61,7 @@ fn add_list<'a>(
     text.extend_from_slice(line)?;
     let at = text.len();
     add_lines(text, &list.events, line)?;
-    Ok(Strand { list, taken: 0, at })
+    Ok(first_strand(list, at))
 }
 
 /// The lists in their lanes before the first event, and their text, in which each line is the line of the start.
@@ -80,4 +81,19 @@ pub(crate) fn begin<'a>(
         strands.push(strand)?;
     }
     Ok((strands, text))
+}
+
+/// The lists in their lanes before the first event, if their events have no lines.
+pub(crate) fn at_start<'a>(
+    alloc: Global,
+    lists: &'a [EventList],
+) -> Result<Vec<Strand<'a>>, AllocError>
+    ensures lists { IfOk result (λ strands. map (λ strand. strand.list.now) strands.items ≡ lists.entry.now) }
+    ensures taken { IfOk result (λ strands. All (λ strand. strand.taken ≡ 0) strands.items) }
+{
+    let mut strands = Vec::with_capacity(alloc, lists.len())?;
+    for list in lists {
+        strands.push(first_strand(list, 0))?;
+    }
+    Ok(strands)
 }

@@ -3,14 +3,16 @@
 
 mod beginning;
 mod calls;
+mod ending;
 mod lines;
 mod list;
 mod strand;
 mod sweeping;
+mod taking;
 mod turns;
 
 pub use list::EventList;
-pub use sweeping::sweep;
+pub use sweeping::{sweep, sweep_last};
 
 // The events of a list.
 pub use vlog_semantics::Event;

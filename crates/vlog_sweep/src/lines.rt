@@ -44,15 +44,16 @@ pub(crate) fn write_line(text: &mut [u8], at: usize, outputs: &[u64], lane: u32)
     fill_line(&mut text[at..end], outputs, lane);
 }
 
-/// The line of the outputs of lane 0.
-pub(crate) fn first_line(alloc: Global, outputs: &[u64]) -> Result<Vec<u8>, AllocError>
-    ensures { IfOk result (λ line. line.items ≡ line_of outputs.now 0) }
+/// The line of the outputs of a lane.
+pub(crate) fn lane_line(alloc: Global, outputs: &[u64], lane: u32) -> Result<Vec<u8>, AllocError>
+    requires { lane < 64 }
+    ensures { IfOk result (λ line. line.items ≡ line_of outputs.now lane) }
 {
     let count = match outputs.len().checked_add(1) {
         Some(count) => count,
         None => return Err(AllocError),
     };
     let mut line = vec![in alloc; 0; count]?;
-    fill_line(&mut line, outputs, 0);
+    fill_line(&mut line, outputs, lane);
     Ok(line)
 }

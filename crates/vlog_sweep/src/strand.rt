@@ -12,8 +12,17 @@ pub(crate) struct Strand<'a> {
     pub(crate) list: &'a EventList,
     /// How many events the lane has had.
     pub(crate) taken: usize,
-    /// The offset of its next line in the text.
+    /// The offset of its next line in the text; 0 where the events have no lines.
     pub(crate) at: usize,
+}
+
+/// A list in its lane before its first event, with the offset of its next line.
+pub(crate) fn first_strand<'a>(list: &'a EventList, at: usize) -> Strand<'a>
+    ensures list { result.list.now ≡ list.entry.now }
+    ensures taken { result.taken ≡ 0 }
+    ensures at { result.at ≡ at }
+{
+    Strand { list, taken: 0, at }
 }
 
 /// The next event of a list, if any is left.

@@ -1,5 +1,5 @@
 //! Tests of the Verilog subset, from `vlog_tokens` and `vlog_module` to `vlog_parser`, `vlog_run`, `vlog_lanes`, `vlog_sweep`,
-//! `wire_names` and `vlog_waves`: each public call once, with values worked out by hand. There is no other code.
+//! `long_events`, `wire_names`, `vlog_waves` and `long_runs`: each public call once, with values worked out by hand. There is no other code.
 //!
 //! They are in a crate of their own, since a crate is proved a second time together with its tests. What texts, events, waves and sweeps do
 //! in whole runs is in `check/transcripts`.

@@ -1,6 +1,7 @@
 // A module with a memory, over which a runner and lanes run, and the tests by subject.
 
 mod lanes;
+mod long;
 mod names;
 mod runs;
 mod sweeps;

@@ -12,8 +12,6 @@ pub mod Declared
 pub mod Alike
 -- runs whose changes are dumped
 pub mod Tracing
--- what was written of the waves of a run
-pub mod Sent
 -- the lines before the first event
 pub mod Beginning
 -- worked values of the definitions

@@ -1,14 +1,20 @@
 -- How many bytes lines have at most.
-use Rattle.std.proofs.Common.{◌≡◌, ◌∙◌, ℕ, suc, ◌+◌, ◌*◌, ◌^◌, ◌<◌, ◌≤◌, Bool, true, false, List, [], ◌∷◌, ◌++◌, length, map, refl, ap, arith, length-append}
-use Rattle.std.specs.Prelude.{decimal, if◌then◌else◌}
+use Rattle.std.proofs.Common.{◌≡◌, ◌∙◌, ℕ, suc, ◌+◌, ◌*◌, ◌^◌, ◌<◌, ◌≤◌, Bool, true, false, List, [], ◌∷◌, ◌++◌, length, map, refl, ap, ap₂, arith, length-append}
+use Rattle.std.specs.Prelude.{decimal, nat_lt, if◌then◌else◌}
 use Rattle.std.proofs.lemmas.Fmt.{length-decimal-le}
 use Rattle.std.proofs.lemmas.List.{length-map}
 use Rattle.text_lines.specs.Written.{text_of}
-use Rattle.vlog_waves.specs.Variables.{Value}
+use Rattle.vlog_module.specs.Parts.{Parts}
+use Rattle.vlog_semantics.specs.Entries.{Entry}
+use Rattle.vlog_semantics.specs.Run.{start}
+use Rattle.vlog_waves.specs.Sizes.{waves_fit}
+use Rattle.vlog_waves.specs.Variables.{Value, values_in}
 use Rattle.vlog_waves.specs.Variables.Value.{one_bit, sixteen_bits}
-use Rattle.vlog_waves.specs.Waves.{changed_lines, identifier, is_same, time_line, value_line, word_digits}
+use Rattle.vlog_waves.specs.Waves.{changed_lines, head_lines, identifier, is_same, start_lines, time_line, value_line, word_digits}
+use Rattle.vlog_waves.specs.declared.tracer.Tracer.{Tracer}
 use Rattle.vlog_waves.specs.declared.values.Values.{Values}
-use Rattle.vlog_waves.specs.inside.Values.{values_held}
+use Rattle.vlog_waves.specs.inside.Tracing.{Traces}
+use Rattle.vlog_waves.specs.inside.Values.{event_room, values_held}
 use Rattle.vlog_waves.proofs.Identifiers.{identifier-short}
 use Rattle.vlog_waves.proofs.Cuts.{length-digits}
 use Rattle.vlog_waves.proofs.Texts.{length-one, text_of-append, text_of-none}
@@ -71,3 +77,20 @@ count-held values =
       length-map values.wires.items one_bit,
     ) in
     whole
+
+-- ---- a whole VCD
+
+-- the room of the lines of an event, by the values that were dumped last
+pub room-traced : (tracer : Tracer) (m : Parts) (entry : Entry) → Traces tracer m entry → event_room tracer.values ≡ 32 * length (values_in m entry) + 32
+room-traced tracer m entry traces =
+    let values = tracer.values in
+    omega (arith, count-held values, ap (λ (list : List Value). length list) traces.held, values.ports.ok.0, values.registers.ok.0, values.words.ok.0, values.wires.ok.0)
+
+-- whether the most bytes fit, by the room of the lines of an event
+pub fit-counted : (names : List (List ℕ × List ℕ)) (m : Parts) (tracer : Tracer) (beginning : List ℕ) (events size left room : ℕ)
+    → Traces tracer m (start m) → beginning ≡ text_of (head_lines names m ++ start_lines (values_in m (start m)))
+    → size ≡ length beginning → left ≡ events → room ≡ event_room tracer.values → nat_lt (size + left * room) (2 ^ 64) ≡ waves_fit names m events
+unfolding waves_fit
+fit-counted names m tracer beginning events size left room traces begun long counted fits =
+    ap₂ (λ (first more : ℕ). nat_lt (first + more) (2 ^ 64)) (long ∙ ap (λ (text : List ℕ). length text) begun)
+    (ap₂ (λ (n bytes : ℕ). n * bytes) counted (fits ∙ room-traced tracer m (start m) traces))

@@ -2,4 +2,3 @@
 pub mod Declared
 pub mod Tracing
 pub mod Values
-pub mod Shapes

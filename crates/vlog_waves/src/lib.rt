@@ -4,6 +4,7 @@
 
 mod changes;
 mod declarations;
+mod fault;
 mod items;
 mod labels;
 mod lines;
@@ -13,8 +14,9 @@ mod tracer;
 mod values;
 mod waves;
 
+pub use fault::WavesFault;
 pub use waves::Waves;
 
 // The events of a run, and the names of its wires.
-pub use vlog_semantics::Event;
+pub use long_events::EventStream;
 pub use wire_names::WireNames;

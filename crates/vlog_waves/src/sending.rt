@@ -9,47 +9,35 @@ ghost use Rattle.vlog_run.specs.Showing.{input_count};
 ghost use Rattle.vlog_waves.specs.Variables.{values_in};
 ghost use Rattle.vlog_waves.specs.Waves.{head_lines, start_lines, waves_text};
 ghost use Rattle.ice_io.specs.Put.{Sends};
+ghost use Rattle.long_events.specs.Streams.{events_left};
 ghost use Rattle.vlog_waves.specs.inside.Tracing.{Traces, lines_after};
 ghost use Rattle.vlog_waves.specs.inside.Values.{event_room};
 
 use crate::tracer::Tracer;
-use ice_io::{PutFault, Sink, write_whole};
+use ice_io::{PutFault, Sink};
+use long_events::EventStream;
+use run_pieces::write_piece;
 use vlog_module::{Module, Port};
-use vlog_semantics::Event;
-
-/// Writes a piece of a text after its first `sent` bytes, and returns how many bytes of it are written then.
-fn write_piece<K: Sink>(sink: &mut K, piece: &[u8], sent: usize) -> Result<usize, PutFault>
-    requires { sent + length piece.now < 2 ^ 64 }
-    ensures sends { Sends (K.held sink.old) (K.held sink.new) sent piece.now result }
-    ensures never_falls { K.faults sink.old ≤ K.faults sink.new }
-    ensures failed { OnErr result (Rose (K.faults sink.old) (K.faults sink.new)) }
-{
-    match write_whole(sink, piece) {
-        Ok(()) => Ok(sent + piece.len()),
-        Err(PutFault::Failed { written }) => Err(PutFault::Failed {
-            written: sent + written,
-        }),
-    }
-}
 
 /// Writes the lines of events after the first `before` bytes of a text, and returns how many bytes of it are written then.
 fn write_events<K: Sink>(
     sink: &mut K,
     ports: &[Port],
-    events: &[Event],
+    events: &mut EventStream,
     tracer: &mut Tracer,
     before: usize,
 ) -> Result<usize, PutFault>
-    requires inputs { All (λ event. event.pin < input_count tracer.old.runner) events.now }
-    requires few { before + length events.now * event_room tracer.old.values < 2 ^ 64 }
+    requires inputs { All (λ event. event.pin < input_count tracer.old.runner) (events_left events.old) }
+    requires few { before + length (events_left events.old) * event_room tracer.old.values < 2 ^ 64 }
     ensures sends { (m : Parts) (entry : Entry) → Traces tracer.old m entry → ports.now ≡ m.ports
-        → Sends (K.held sink.old) (K.held sink.new) before (text_of (lines_after m 1 entry events.now)) result }
+        → Sends (K.held sink.old) (K.held sink.new) before (text_of (lines_after m 1 entry (events_left events.old))) result }
     ensures never_falls { K.faults sink.old ≤ K.faults sink.new }
     ensures failed { OnErr result (Rose (K.faults sink.old) (K.faults sink.new)) }
 {
+    let count = events.left();
     let mut sent = before;
-    for place in 0..events.len() {
-        tracer.event(ports, events[place], place as u64 + 1);
+    while let Some(event) = events.next_event() {
+        tracer.event(ports, event, count - events.left());
         sent = write_piece(sink, &tracer.text, sent)?;
     }
     Ok(sent)
@@ -59,15 +47,15 @@ fn write_events<K: Sink>(
 pub(crate) fn write_run<K: Sink>(
     sink: &mut K,
     module: &Module,
-    events: &[Event],
+    events: &mut EventStream,
     beginning: &[u8],
     tracer: &mut Tracer,
 ) -> Result<usize, PutFault>
-    requires inputs { All (λ event. event.pin < input_count tracer.old.runner) events.now }
-    requires few { length beginning.now + length events.now * event_room tracer.old.values < 2 ^ 64 }
+    requires inputs { All (λ event. event.pin < input_count tracer.old.runner) (events_left events.old) }
+    requires few { length beginning.now + length (events_left events.old) * event_room tracer.old.values < 2 ^ 64 }
     requires traces { Traces tracer.old «module».now (start «module».now) }
     ensures sends { (names : List (List ℕ × List ℕ)) → beginning.now ≡ text_of (head_lines names «module».now ++ start_lines (values_in «module».now (start «module».now)))
-        → Sends (K.held sink.old) (K.held sink.new) 0 (waves_text names «module».now events.now) result }
+        → Sends (K.held sink.old) (K.held sink.new) 0 (waves_text names «module».now (events_left events.old)) result }
     ensures never_falls { K.faults sink.old ≤ K.faults sink.new }
     ensures failed { OnErr result (Rose (K.faults sink.old) (K.faults sink.new)) }
 {

@@ -24,6 +24,9 @@ const BLANK: &[u8] = b".device 1k\n";
 
 const EVENTS: &[u8] = b"io_0_1_0 1\nio_0_1_0 0\n";
 
+/// A list of events of the long form.
+const LONG: &[u8] = b"repeat 2\nio_0_1_0 ~ 3\nend\n";
+
 /// A name of a net, and a list of names.
 const SYMBOL: &[u8] = b".sym 2 lamp[0]\n";
 
@@ -93,7 +96,7 @@ impl Made {
     }
 
     /// The files by their names.
-    fn named(&self) -> [Named<'_>; 15] {
+    fn named(&self) -> [Named<'_>; 16] {
         [
             ("out", BEFORE),
             ("image", &self.image),
@@ -108,6 +111,7 @@ impl Made {
             ("layout", LAYOUT),
             ("module", MODULE.as_bytes()),
             ("events", EVENTS),
+            ("long", LONG),
             ("symbols", &self.symbols),
             ("names", NAMES),
         ]
@@ -140,7 +144,7 @@ type Job = (
     Part,
 );
 
-static JOBS: [Job; 30] = [
+static JOBS: [Job; 32] = [
     (
         &["icepack", "image", "out"],
         Way::InParts,
@@ -330,6 +334,13 @@ static JOBS: [Job; 30] = [
         Part::Small,
     ),
     (
+        &["vlogrun", "--long", "--changes", "--head", "module"],
+        Way::Whole,
+        &["module"],
+        "long",
+        Part::Small,
+    ),
+    (
         &["vlogrun", "--vcd", "module"],
         Way::Whole,
         &["module"],
@@ -347,6 +358,13 @@ static JOBS: [Job; 30] = [
         &["vlogsweep", "module", "events", "events"],
         Way::Whole,
         &["module", "events", "events"],
+        "",
+        Part::Small,
+    ),
+    (
+        &["vlogsweep", "--long", "--last", "module", "long", "events"],
+        Way::Whole,
+        &["module", "long", "events"],
         "",
         Part::Small,
     ),
@@ -495,7 +513,7 @@ fn reads_fail_in_turn(
 
 /// Whether the answer of a job is made while it is written. Its writes end where its pieces do.
 fn is_made_while_written(job: &Job) -> bool {
-    job.0.contains(&"iceunpack") || job.0.contains(&"-u") || job.0.contains(&"--vcd")
+    job.0.contains(&"iceunpack") || job.0.contains(&"-u") || job.0.contains(&"vlogrun")
 }
 
 /// Whether `writes` writes may have taken `bytes` bytes.

@@ -6,7 +6,7 @@ use std::alloc::Global;
 use vlog_module::Module;
 use vlog_parser::parse;
 use vlog_run::read_events;
-use vlog_sweep::{EventList, sweep};
+use vlog_sweep::{EventList, sweep, sweep_last};
 
 /// The heading and the text of a list of events.
 #[derive(Clone, Copy)]
@@ -57,6 +57,16 @@ fn swept(alloc: Global, text: &[u8], texts: &[List]) -> Option<Vec<u8>> {
     sweep(alloc, &module, &lists).ok()
 }
 
+/// The headings of lists of events, and the last lines of a module's runs over them.
+fn last_swept(alloc: Global, text: &[u8], texts: &[List]) -> Option<Vec<u8>> {
+    let module = parse(alloc, text).ok()?;
+    let lists = lists_of(alloc, &module, texts)?;
+    if lists.len() > 64 {
+        return None;
+    }
+    sweep_last(alloc, &module, &lists).ok()
+}
+
 /// A register takes `b` at rising edges of `a`.
 const TAKING: &[u8] = b"module m (a, b, x, y);
   input a;
@@ -95,4 +105,35 @@ fn is_swept(alloc: Global) -> bool {
 #[test]
 fn sweeps_each_list_by_its_own_events(rt: HostRuntime) {
     assert!(rt; is_swept(rt.alloc()));
+}
+
+/// Lists that end in different states: one has no events.
+const ENDS: [List; 3] = [
+    List {
+        heading: b"events A\n",
+        events: b"b 1\na 1\n",
+    },
+    List {
+        heading: b"events B\n",
+        events: b"",
+    },
+    List {
+        heading: b"events C\n",
+        events: b"b 1\na 1\nb 0\n",
+    },
+];
+
+const LAST_LINES: &[u8] = b"events A\n11\nevents B\n00\nevents C\n10\n";
+
+/// Whether the runs of this module have these last lines.
+fn is_last_swept(alloc: Global) -> bool {
+    match last_swept(alloc, TAKING, &ENDS) {
+        Some(text) => text.as_slice() == LAST_LINES,
+        None => false,
+    }
+}
+
+#[test]
+fn sweeps_to_the_last_line_of_each_list(rt: HostRuntime) {
+    assert!(rt; is_last_swept(rt.alloc()));
 }

@@ -2,12 +2,13 @@
 
 ghost use Rattle.std.specs.Prelude.{◌<◌, All, length};
 ghost use Rattle.vlog_semantics.specs.Run.{input_names};
+ghost use Rattle.long_events.specs.Streams.{events_left};
 
 use ice_io::{Content, MemSink, PutFault};
+use long_events::{EventStream, read_long_events};
 use std::alloc::{AllocError, Global};
 use vlog_parser::{Module, parse};
-use vlog_run::{Event, read_events};
-use vlog_waves::Waves;
+use vlog_waves::{Waves, WavesFault};
 use wire_names::{WireNames, read_names};
 
 const MODULE: &[u8] = b"module m (c, q, d);
@@ -79,13 +80,15 @@ fn are_waves_over(
     alloc: Global,
     module: Module,
     names: WireNames,
-    events: Vec<Event>,
+    events: EventStream,
     case: &Case<'_>,
 ) -> Result<bool, AllocError>
-    requires { All (λ event. event.pin < length (input_names «module».ports)) events.items }
+    requires { All (λ event. event.pin < length (input_names «module».ports)) (events_left events) }
 {
-    let waves = Waves::new(alloc, module, names, events)?;
-    are_written(alloc, waves, case)
+    match Waves::new(alloc, module, names, events) {
+        Ok(waves) => are_written(alloc, waves, case),
+        Err(_) => Ok(false),
+    }
 }
 
 /// Whether the case holds for the run of a module over the events of its text, with these names of wires.
@@ -95,7 +98,7 @@ fn are_named_waves(
     names: WireNames,
     case: &Case<'_>,
 ) -> Result<bool, AllocError> {
-    match read_events(alloc, &module, case.events.as_bytes()) {
+    match read_long_events(alloc, &module, case.events.as_bytes()) {
         Ok(events) => are_waves_over(alloc, module, names, events, case),
         Err(_) => Ok(false),
     }
@@ -118,7 +121,7 @@ fn are_waves(alloc: Global, case: &Case<'_>) -> Result<bool, AllocError> {
 }
 
 /// Event 3 changes nothing.
-const EVENTS: &str = "d 1\nc 1\nc 1\nc 0\n";
+const EVENTS: &str = "d ~ 1\nrepeat 2\nc 1\nend\nc 0\n";
 
 const LINES: &str = "#1
 1#
@@ -164,4 +167,30 @@ fn counts_what_a_full_sink_took_of_the_events(rt: HostRuntime) {
         done: Err(PutFault::Failed { written: 330 }),
     };
     assert!(rt; are_waves(rt.alloc(), &case) == Ok(true));
+}
+
+/// Whether the waves of a run over events, each on an input of the module, are refused, since they may be too long.
+fn are_too_long(alloc: Global, module: Module, events: EventStream) -> bool
+    requires { All (λ event. event.pin < length (input_names «module».ports)) (events_left events) }
+{
+    match Waves::new(alloc, module, WireNames::none(alloc), events) {
+        Ok(_) => false,
+        Err(fault) => fault == WavesFault::Long,
+    }
+}
+
+/// Whether the waves of a run over a text are refused, since they may be too long.
+fn is_too_long(alloc: Global, text: &[u8]) -> bool {
+    match parse(alloc, MODULE) {
+        Ok(module) => match read_long_events(alloc, &module, text) {
+            Ok(events) => are_too_long(alloc, module, events),
+            Err(_) => false,
+        },
+        Err(_) => false,
+    }
+}
+
+#[test]
+fn refuses_waves_that_may_be_too_long(rt: HostRuntime) {
+    assert!(rt; is_too_long(rt.alloc(), b"repeat 4294967295\nc ~ 4294967295\nend\n"));
 }

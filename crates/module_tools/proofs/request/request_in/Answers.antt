@@ -8,4 +8,5 @@ pub returns : goal.returns
 returns c =
     let has : c.is_some.result ≡ is_some (first_of (codes "names") (rows_of (found_of c.args.matches.now))) =
     c.is_some.ensures ∙ sym (text-is_some c.value-names.result) ∙ ap is_some c.value-names.ensures in
-    c.wanted.ensures ∙ rw (c.told_by-told.ensures, c.has_flag.ensures, c.has_flag-2.ensures, has, c.value-names.ensures, c.value-module.ensures, c.value-events.ensures) refl
+    c.wanted.ensures
+    ∙ rw (c.told_by-told.ensures, c.has_flag.ensures, has, c.line_flags.ensures, c.events_form-form.ensures, c.has_flag-2.ensures, c.value-names.ensures, c.value-module.ensures, c.value-events.ensures) refl

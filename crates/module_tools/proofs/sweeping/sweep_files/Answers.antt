@@ -9,7 +9,7 @@ pub returns-in-Ok : goal.returns-in-Ok
 returns-in-Ok g c =
     let names = ap (λ names. sweep_needs c.args.request.«module».now (names_of names)) c.deref.ensures.value in
     let needs = ap (map need_of) c.deref-in-Ok.ensures.value ∙ c.in-Ok.ensures.needs ∙ names in
-    Does-same _ _ _ _ _ _ (ap (λ needs. task_over needs (names_of c.args.request.names.items)) needs) c.sweep_loads.ensures
+    Does-same _ _ _ _ _ _ (ap (λ needs. task_over needs c.args.request.form (names_of c.args.request.names.items)) needs) c.sweep_loads.ensures
 
 pub returns-in-Err : goal.returns-in-Err
 returns-in-Err g c = c.give_up.ensures (vlogsweep_task_for (Some c.args.request)) refl

@@ -13,7 +13,7 @@ loop-event-init c =
     let m = c.args.module.now in
     record {
       shows = c.in_ok-runner.ensures;
-      text = c.in_ok-push_line.ensures m (start m) c.in_ok-runner.ensures
+      text = c.in_ok-push_line.ensures.text m (start m) c.in_ok-runner.ensures
           ∙ ap (λ text. text ++ entry_line c.args.registers (start m)) c.new-text.ensures.items
           ∙ sym (append-nil (entry_line c.args.registers (start m)));
     }
@@ -30,7 +30,7 @@ loop-event-preserved c =
     let shows : Shows c.event.new.self m next = c.event.ensures.shows m before c.loop-event.invariant.shows in
     record {
       shows = subst (λ entry. Shows c.event.new.self m entry) (sym (last-more m (start m) events i none within)) shows;
-      text = c.in_ok-push_line-2.ensures m next shows
+      text = c.in_ok-push_line-2.ensures.text m next shows
           ∙ ap (λ text. text ++ entry_line c.args.registers next) c.loop-event.invariant.text
           ∙ sym (text-more m (start m) events i none c.args.registers within);
     }

@@ -1,5 +1,6 @@
 use Rattle.std.proofs.Common.{◌≡◌, ◌∙◌, ◌++◌, Err, ap, subst, sym}
 use Rattle.text_lines.specs.Written.{text_of}
+use Rattle.long_events.specs.Streams.{events_left}
 use Rattle.vlog_semantics.specs.Run.{start}
 use Rattle.vlog_waves.specs.Waves.{waves_text}
 use Rattle.ice_io.specs.Put.{Sends}
@@ -11,7 +12,7 @@ use Rattle.vlog_waves.proofs.sending.write_run.Goals as goal
 pub returns-in_err-sent-clause-sends : goal.returns-in_err-sent-clause-sends
 returns-in_err-sent-clause-sends g c names begun =
     let m = c.args.module.now in
-    let events = c.args.events.now in
+    let events = events_left c.args.events.now in
     let held = g.K.Sink.held c.args.sink.now in
     let next = g.K.Sink.held c.write_piece.new.sink in
     let fault = c.in_err-sent.field-0.0 in
@@ -23,7 +24,7 @@ returns-in_err-sent-clause-sends g c names begun =
 pub returns-clause-sends : goal.returns-clause-sends
 returns-clause-sends g c names begun =
     let m = c.args.module.now in
-    let events = c.args.events.now in
+    let events = events_left c.args.events.now in
     let held = g.K.Sink.held c.args.sink.now in
     let between = g.K.Sink.held c.write_piece.new.sink in
     let next = g.K.Sink.held c.write_events.new.sink in

@@ -1,4 +1,4 @@
--- What was written of the waves of a run.
+-- What was written of a text.
 use Rattle.std.proofs.Common.{◌≡◌, ℕ, ◌-◌, ◌<◌, List, length, take, Option, Ok, Err, subst, arith}
 use Rattle.std.specs.Io.KnownBytes.{Appends}
 use Rattle.ice_io.specs.declared.sink.PutFault.{PutFault}

@@ -1,0 +1,5 @@
+pub mod Moves
+pub mod Steps
+pub mod Lists
+pub mod Streams
+pub mod inside

@@ -1,0 +1,2 @@
+-- what was written of a text
+pub mod Sent

@@ -20,3 +20,7 @@ pub mod Said
 pub mod Unfolded
 -- a line up to its first space, and after it
 pub mod Pieces
+-- a line of a plain list says the same
+pub mod PlainLines
+-- plain lists are lists of the long form
+pub mod PlainLists

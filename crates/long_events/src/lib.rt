@@ -5,6 +5,7 @@
 mod counting;
 mod cursor;
 mod fault;
+mod law;
 mod lines;
 mod moves;
 mod reading;
@@ -12,6 +13,7 @@ mod step;
 mod stream;
 
 pub use fault::LongFault;
+pub use law::long_form_extends_plain;
 pub use moves::Move;
 pub use reading::read_long_events;
 pub use step::Step;

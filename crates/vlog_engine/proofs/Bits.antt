@@ -1,9 +1,9 @@
 -- Bits of words with a bit for each of sixty-four lanes.
-use Rattle.std.proofs.Common.{◌≡◌, ℕ, zero, suc, ◌+◌, ◌-◌, ◌/◌, ◌%◌, ◌<◌, ◌≤◌, Bool, true, false, cond, eqb, [], ◌∷◌, bit_and, bit_xor, min, ap, ap₂, arith, inl, inr, pow_mono, refl, sym, w64, ◌^◌, ◌∙◌}
+use Rattle.std.proofs.Common.{◌≡◌, ℕ, zero, suc, ◌+◌, ◌*◌, ◌-◌, ◌/◌, ◌%◌, ◌<◌, ◌≤◌, Bool, true, false, cond, eqb, List, [], ◌∷◌, bit_and, bit_xor, get_or, min, ap, ap₂, arith, inl, inr, pow_mono, refl, sym, w64, ◌^◌, ◌∙◌}
 use Rattle.std.specs.Int.{bit_at, trailing_zeros}
 use Rattle.std.proofs.Math.Nat.{div-eq_of_lt}
 use Rattle.std.proofs.lemmas.Nat.{shr-shr}
-use Rattle.std.proofs.lemmas.Nat.Bits.{bit_at-lt, bit_at-pow_other, bit_at-pow_same, bit_at-trailing_zeros, bit_at-zero, bit_at_and, bit_at_ones, bit_at_xor}
+use Rattle.std.proofs.lemmas.Nat.Bits.{bit_at-lt, bit_at-pow_other, bit_at-pow_same, bit_at-trailing_zeros, bit_at-suc, bit_at-zero, bit_at_and, bit_at_lowest, bit_at_ones, bit_at_xor}
 use Rattle.std.proofs.lemmas.Bool.{cases_eq, cases_lt, eq-eqb, ne_eqb}
 use Rattle.vlog_semantics.specs.Values.{bit_of, number_of}
 
@@ -84,11 +84,30 @@ bit-select choice one other lane =
     ∙ ap (λ n. (bit_at other lane + n) % 2) (bit_at_and choice (bit_xor one other) lane ∙ ap (min (bit_at choice lane)) (bit_at_xor one other lane)))
     ∙ chosen (bit_at choice lane) (bit_at one lane) (bit_at other lane) (bit_at-lt choice lane) (bit_at-lt one lane) (bit_at-lt other lane)
 
--- ---- a table, in halves
+-- ---- two bits of a table
 
-pub half-two : (table k : ℕ) (a : Bool) → cond a (bit_of table (k + 1)) (bit_of table k) ≡ bit_of table (k + number_of (a ∷ []))
-half-two table k true = refl
-half-two table k false = ap (bit_of table) (omega arith)
+-- two bits that are moved down, without the higher ones
+pub two-of : (table k : ℕ) (a : Bool) → bit_of (table / 2 ^ k % 4) (number_of (a ∷ [])) ≡ bit_of table (k + number_of (a ∷ []))
+two-of table k a = low (table / 2 ^ k) a ∙ ap (λ n. eqb (n % 2) 1) (shr-shr table k (number_of (a ∷ [])))
+  where
+    low : (rest : ℕ) (a : Bool) → bit_of (rest % 4) (number_of (a ∷ [])) ≡ bit_of rest (number_of (a ∷ []))
+    low rest true = ap (λ n. eqb n 1) (omega arith)
+    low rest false = ap (λ n. eqb n 1) (omega arith)
+
+-- what two bits that a bit chooses from make of it
+pub choice-each : (a none turned all lane index : ℕ) → bit_of none lane ≡ false → bit_of turned lane ≡ cond (bit_of a lane) (bit_of 0 lane) (bit_of 18446744073709551615 lane) → bit_of all lane ≡ true → lane < 64 → index < 4
+    → bit_of (get_or (none ∷ turned ∷ a ∷ all ∷ []) index 0) lane ≡ bit_of index (number_of (bit_of a lane ∷ []))
+choice-each a none turned all lane zero none_is turned_is all_is within few = none_is ∙ sym (bit-zero (number_of (bit_of a lane ∷ [])))
+choice-each a none turned all lane (suc zero) none_is turned_is all_is within few =
+    turned_is ∙ ap₂ (λ x y. cond (bit_of a lane) x y) (bit-zero lane) (bit-ones lane within)
+    ∙ (elim (bit_of a lane) as (λ b. cond b false true ≡ bit_of 1 (number_of (b ∷ []))) [ true ↦ refl | false ↦ refl ])
+choice-each a none turned all lane (suc (suc zero)) none_is turned_is all_is within few =
+    elim (bit_of a lane) as (λ b. b ≡ bit_of 2 (number_of (b ∷ []))) [ true ↦ refl | false ↦ refl ]
+choice-each a none turned all lane (suc (suc (suc zero))) none_is turned_is all_is within few =
+    all_is ∙ (elim (bit_of a lane) as (λ b. true ≡ bit_of 3 (number_of (b ∷ []))) [ true ↦ refl | false ↦ refl ])
+choice-each a none turned all lane (suc (suc (suc (suc index)))) none_is turned_is all_is within few = absurd (omega (arith, few))
+
+-- ---- a table, in halves
 
 pub half-four : (table k : ℕ) (a b : Bool) → cond b (bit_of table (k + 2 + number_of (a ∷ []))) (bit_of table (k + number_of (a ∷ []))) ≡ bit_of table (k + number_of (a ∷ b ∷ []))
 half-four table k true true = ap (bit_of table) (omega arith)
@@ -109,3 +128,24 @@ half-eight table k false false false = refl
 pub half-sixteen : (table : ℕ) (a b c d : Bool) → cond d (bit_of table (8 + number_of (a ∷ b ∷ c ∷ []))) (bit_of table (0 + number_of (a ∷ b ∷ c ∷ []))) ≡ bit_of table (number_of (a ∷ b ∷ c ∷ d ∷ []))
 half-sixteen table a b c true = ap (bit_of table) (omega arith)
 half-sixteen table a b c false = ap (bit_of table) (omega arith)
+
+-- ---- a number, as it is read
+
+low-bit : (b : Bool) (n : ℕ) → eqb ((cond b 1 0 + 2 * n) % 2) 1 ≡ b
+low-bit true n =
+    let odd : (1 + 2 * n) % 2 ≡ 1 = omega arith in
+    ap (λ k. eqb k 1) odd
+low-bit false n =
+    let even : (0 + 2 * n) % 2 ≡ 0 = omega arith in
+    ap (λ k. eqb k 1) even
+
+halved : (b : Bool) (n : ℕ) → (cond b 1 0 + 2 * n) / 2 ≡ n
+halved true n = omega arith
+halved false n = omega arith
+
+pub bit-number : (bits : List Bool) (k : ℕ) → bit_of (number_of bits) k ≡ get_or bits k false
+bit-number [] k = ap (λ n. eqb n 1) (bit_at-zero k)
+bit-number (bit ∷ bits) zero = ap (λ n. eqb n 1) (bit_at_lowest (number_of (bit ∷ bits))) ∙ low-bit bit (number_of bits)
+bit-number (bit ∷ bits) (suc k) =
+    ap (λ n. eqb n 1) (bit_at-suc (number_of (bit ∷ bits)) k ∙ ap (λ n. bit_at n k) (halved bit (number_of bits)))
+    ∙ bit-number bits k

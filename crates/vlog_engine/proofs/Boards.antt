@@ -22,7 +22,7 @@ use Rattle.vlog_engine.specs.declared.board.Board.{Board}
 use Rattle.vlog_engine.specs.declared.circuit.Circuit.{Circuit}
 use Rattle.vlog_engine.specs.declared.value.Value.{Ghosts}
 use Rattle.vlog_engine.specs.Boards.{IsChangedIn, IsIdleIn, Shows, StaysLaidOut, cells_in, memories_in, outputs_in, words_in}
-use Rattle.vlog_engine.specs.Circuits.{IsCircuit, shown_by}
+use Rattle.vlog_engine.specs.Circuits.{IsCircuit, shown_by, watched}
 use Rattle.vlog_engine.specs.Groups.{IsGroup}
 use Rattle.vlog_engine.specs.StepKinds.{IsPinnedBelow, Step, pinned, slots_of}
 use Rattle.vlog_engine.specs.StepKinds.Step.{at_event, at_wave}
@@ -138,7 +138,7 @@ module _ {V : Type 0} {g : Ghosts V} (m : Parts) (entry : Entry) (r : Board V g)
       let circuit = r.circuit in
       let grouped = subst (λ n. IsGroup step r.layout.first_wire n (word_count m) circuit.roots.items r.layout.plan by.group) shows.bit_count
       (subst (λ n. IsGroup step r.layout.first_wire circuit.bits n circuit.roots.items r.layout.plan by.group) room-is by.grouped) in
-      let clocked = subst (λ n. IsClocked true n step by.group (words_in r lane) (words_in after lane) (memories_in r lane) (memories_in after lane) cells by.between) shows.bit_count by.clocked in
+      let clocked = subst (λ n. IsClocked true n step by.group (words_in r lane) (words_in after lane) (memories_in r lane) (memories_in after lane) cells by.between) shows.bit_count (by.clocked shows.tracked) in
       let words_size : length (words_in after lane) ≡ length (words_in r lane) = after.lanes.each lane shows.within ∙ same.words_room ∙ room-is ∙ sym words-are in
       let between_room : bit_count m ≤ length by.between = omega (arith, cells-room, by.size) in
       let settled = by.settled r.layout.first_wire (bit_count m) (gates-rise m r.layout circuit laid made) cells-room shows.tracked in
@@ -152,7 +152,7 @@ module _ {V : Type 0} {g : Ghosts V} (m : Parts) (entry : Entry) (r : Board V g)
         bit_count = ap (λ (c : Circuit). c.bits) same.circuit ∙ shows.bit_count;
         cells = ap (λ (c : Circuit). shown_by c.roots.items (cells_in after lane)) same.circuit ∙ shown.cells_are;
         shown = shown.shown;
-        tracked = subst (λ (c : Circuit). IsTracked c.gates.items (cells_in after lane) after.marks.items) (sym same.circuit) settled.tracked;
+        tracked = subst (λ (c : Circuit). IsTracked (watched c) (cells_in after lane) after.marks.items) (sym same.circuit) settled.tracked;
       }
 
   -- the first step of an event that gives its input the other bit

@@ -6,7 +6,8 @@ use Rattle.vlog_semantics.specs.Steps.{operand_value}
 use Rattle.vlog_engine.specs.declared.board.Board.{Board}
 use Rattle.vlog_engine.specs.declared.circuit.Circuit.{Circuit}
 use Rattle.vlog_engine.specs.declared.value.Value.{Ghosts}
-use Rattle.vlog_engine.specs.Boards.{IsChangedIn, IsClockedIn, IsIdleIn, IsSettledIn, IsShownIn, StaysLaidOut, cells_in, memories_in, outputs_in, words_in}
+use Rattle.vlog_engine.specs.Boards.{IsChangedIn, IsClockedIn, IsIdleIn, IsSettledIn, IsShownIn, IsTrackedIn, StaysLaidOut, cells_in, memories_in, outputs_in, words_in}
+use Rattle.vlog_engine.specs.Circuits.{watched}
 use Rattle.vlog_engine.specs.Groups.{IsGroup}
 use Rattle.vlog_engine.specs.Marks.{AreRising, IsTracked}
 use Rattle.vlog_engine.specs.Passing.{IsClocked, IsSettled}
@@ -37,7 +38,7 @@ settled-idle active lane a b same known off = record {
   memories = known.memories;
   outputs = known.outputs;
   tracked = λ first count rising room tracked.
-      subst (λ (k : Circuit). IsTracked k.gates.items (cells_in b lane) b.marks.items) (sym same.circuit) (known.settled first count rising room tracked).tracked;
+      subst (λ (k : Circuit). IsTracked (watched k) (cells_in b lane) b.marks.items) (sym same.circuit) (known.settled first count rising room tracked).tracked;
 }
 
 pub shown-idle : {V : Type 0} {g : Ghosts V} (active : Bool) (lane : ℕ) (a b : Board V g) → StaysLaidOut a b → IsShownIn active lane a b → active ≡ false → IsIdleIn lane a b
@@ -47,9 +48,9 @@ shown-idle active lane a b same known off = record {
   memories = known.memories;
   outputs = known.outputs ∙ ap (λ k. cond k (map (operand_value (cells_in a lane) []) a.circuit.outputs.items) (outputs_in a lane)) off;
   tracked = λ first count rising room tracked.
-      subst (λ (k : Circuit). IsTracked k.gates.items (cells_in b lane) b.marks.items) (sym same.circuit)
-      (subst (λ k. IsTracked a.circuit.gates.items k b.marks.items) (sym known.cells)
-      (subst (IsTracked a.circuit.gates.items (cells_in a lane)) (sym known.marks) tracked));
+      subst (λ (k : Circuit). IsTracked (watched k) (cells_in b lane) b.marks.items) (sym same.circuit)
+      (subst (λ k. IsTracked (watched a.circuit) k b.marks.items) (sym known.cells)
+      (subst (IsTracked (watched a.circuit) (cells_in a lane)) (sym known.marks) tracked));
 }
 
 -- ---- lanes whose input changes
@@ -59,23 +60,25 @@ pub clocked-then-idle : {V : Type 0} {g : Ghosts V} (step : Step) (lane : ℕ) (
 clocked-then-idle step lane a b c same one two size = record {
   group = one.group;
   grouped = one.grouped;
-  clocked = clocked-like a.circuit.bits step one.group (words_in a lane) (words_in a lane) (words_in b lane) (words_in c lane) (memories_in a lane) (memories_in a lane) (memories_in b lane) (memories_in c lane)
-      (cells_in a lane) (cells_in a lane) (cells_in b lane) (cells_in c lane) one.clocked refl (sym two.words) refl (sym two.memories) refl (sym two.cells);
+  clocked = λ tracked.
+      clocked-like a.circuit.bits step one.group (words_in a lane) (words_in a lane) (words_in b lane) (words_in c lane) (memories_in a lane) (memories_in a lane) (memories_in b lane) (memories_in c lane)
+      (cells_in a lane) (cells_in a lane) (cells_in b lane) (cells_in c lane) (one.clocked tracked) refl (sym two.words) refl (sym two.memories) refl (sym two.cells);
   tracked = λ first count rising room tracked.
       two.tracked first count (subst (λ (k : Circuit). AreRising first count k.gates.items) (sym same.circuit) rising) (omega (arith, room, size)) (one.tracked first count rising room tracked);
 }
 
-pub idle-then-clocked : {V : Type 0} {g : Ghosts V} (step : Step) (lane : ℕ) (a b c : Board V g) → StaysLaidOut a b → IsIdleIn lane a b → IsClockedIn step lane b c → IsClockedIn step lane a c
-idle-then-clocked step lane a b c same one two = record {
+pub idle-then-clocked : {V : Type 0} {g : Ghosts V} (step : Step) (lane : ℕ) (a b c : Board V g) → StaysLaidOut a b → IsIdleIn lane a b → (IsTrackedIn a lane → IsTrackedIn b lane) → IsClockedIn step lane b c
+    → IsClockedIn step lane a c
+idle-then-clocked step lane a b c same one stays two = record {
   group = two.group;
   grouped =
       subst (λ n. IsGroup step a.layout.first_wire a.circuit.bits n a.circuit.roots.items a.layout.plan two.group) same.words_room
       (subst (λ (k : SlotLayout). IsGroup step k.first_wire a.circuit.bits b.next_words.len a.circuit.roots.items k.plan two.group) same.layout
       (subst (λ (k : Circuit). IsGroup step b.layout.first_wire k.bits b.next_words.len k.roots.items b.layout.plan two.group) same.circuit two.grouped));
-  clocked =
+  clocked = λ tracked.
       clocked-like a.circuit.bits step two.group (words_in a lane) (words_in b lane) (words_in c lane) (words_in c lane) (memories_in a lane) (memories_in b lane) (memories_in c lane) (memories_in c lane)
       (cells_in a lane) (cells_in b lane) (cells_in c lane) (cells_in c lane)
-      (subst (λ (k : Circuit). IsClocked true k.bits step two.group (words_in b lane) (words_in c lane) (memories_in b lane) (memories_in c lane) (cells_in b lane) (cells_in c lane)) same.circuit two.clocked)
+      (subst (λ (k : Circuit). IsClocked true k.bits step two.group (words_in b lane) (words_in c lane) (memories_in b lane) (memories_in c lane) (cells_in b lane) (cells_in c lane)) same.circuit (two.clocked (stays tracked)))
       one.words refl one.memories refl one.cells refl;
   tracked = λ first count rising room tracked.
       two.tracked first count (subst (λ (k : Circuit). AreRising first count k.gates.items) (sym same.circuit) rising) (omega (arith, room, ap (λ (list : List Bool). length list) one.cells))
@@ -107,14 +110,15 @@ changed-in step lane settling showing a b c d same same_two clocked settled on s
       grouped = clocked.grouped;
       between = cells_in b lane;
       size = size;
-      clocked = clocked-like a.circuit.bits step clocked.group (words_in a lane) (words_in a lane) (words_in b lane) (words_in d lane) (memories_in a lane) (memories_in a lane) (memories_in b lane) (memories_in d lane)
-          (cells_in a lane) (cells_in a lane) (cells_in b lane) (cells_in b lane) clocked.clocked refl (sym (shown.words ∙ settled.words)) refl (sym (shown.memories ∙ settled.memories)) refl refl;
+      clocked = λ tracked.
+          clocked-like a.circuit.bits step clocked.group (words_in a lane) (words_in a lane) (words_in b lane) (words_in d lane) (memories_in a lane) (memories_in a lane) (memories_in b lane) (memories_in d lane)
+          (cells_in a lane) (cells_in a lane) (cells_in b lane) (cells_in b lane) (clocked.clocked tracked) refl (sym (shown.words ∙ settled.words)) refl (sym (shown.memories ∙ settled.memories)) refl refl;
       settled = λ first count rising room tracked.
           let rising_now = subst (λ (k : Circuit). AreRising first count k.gates.items) (sym same.circuit) rising in
-          subst (λ (k : Circuit). IsSettled true first count k.gates.items k.settles.items (cells_in b lane) (cells_in d lane) d.marks.items) same.circuit
-          (subst (λ k. IsSettled true first count b.circuit.gates.items b.circuit.settles.items (cells_in b lane) k d.marks.items) (sym shown.cells)
-          (subst (IsSettled true first count b.circuit.gates.items b.circuit.settles.items (cells_in b lane) (cells_in c lane)) (sym shown.marks)
-          (subst (λ k. IsSettled k first count b.circuit.gates.items b.circuit.settles.items (cells_in b lane) (cells_in c lane) c.marks.items) on
+          subst (λ (k : Circuit). IsSettled true first count k.gates.items (watched k) k.settles.items (cells_in b lane) (cells_in d lane) d.marks.items) same.circuit
+          (subst (λ k. IsSettled true first count b.circuit.gates.items (watched b.circuit) b.circuit.settles.items (cells_in b lane) k d.marks.items) (sym shown.cells)
+          (subst (IsSettled true first count b.circuit.gates.items (watched b.circuit) b.circuit.settles.items (cells_in b lane) (cells_in c lane)) (sym shown.marks)
+          (subst (λ k. IsSettled k first count b.circuit.gates.items (watched b.circuit) b.circuit.settles.items (cells_in b lane) (cells_in c lane) c.marks.items) on
           (settled.settled first count rising_now (omega (arith, room, size)) (clocked.tracked first count rising room tracked)))));
       outputs = shown.outputs
           ∙ ap (λ k. cond k (map (operand_value (cells_in c lane) []) c.circuit.outputs.items) (outputs_in c lane)) on_two

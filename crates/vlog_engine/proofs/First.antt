@@ -8,7 +8,7 @@ use Rattle.vlog_semantics.specs.Named.{values_of}
 use Rattle.vlog_semantics.specs.Run.{readable, start}
 use Rattle.vlog_semantics.proofs.Showing.{start-bits, start-words}
 use Rattle.vlog_engine.specs.declared.start.Started.{Started}
-use Rattle.vlog_engine.specs.Circuits.{IsCircuit, shown_by}
+use Rattle.vlog_engine.specs.Circuits.{IsCircuit, shown_by, watched}
 use Rattle.vlog_engine.specs.Lanes.{lane_bits, list_of}
 use Rattle.vlog_engine.specs.Marks.{IsTracked}
 use Rattle.vlog_engine.specs.Starting.{AreStarted}
@@ -20,7 +20,7 @@ pub record IsFirst {V : Type 0} (at : V → ℕ → Bool) (m : Parts) (made : St
   pub bit_count : made.wires.circuit.bits ≡ bit_count m
   pub cells : shown_by made.wires.circuit.roots.items (lane_bits at lane made.wires.cells.items) ≡ cells_of (values_of (readable (start m)).bits) (list_of lane made.words.items)
   pub shown : ShowsEntry m (start m) (values_of (readable (start m)).bits) (list_of lane made.words.items) (list_of lane made.memories.items) (lane_bits at lane made.outputs.items)
-  pub tracked : IsTracked made.wires.circuit.gates.items (lane_bits at lane made.wires.cells.items) made.wires.marks.items
+  pub tracked : IsTracked (watched made.wires.circuit) (lane_bits at lane made.wires.cells.items) made.wires.marks.items
 
 pub first-lane : {V : Type 0} (lanes : ℕ) (at : V → ℕ → Bool) (m : Parts) (first : Start) (begins : Begins m first) (bits : List Bool) (words : List ℕ) (memories : List (List ℕ)) (made : Started V)
     → AreStarted lanes at first.layout bits words memories made → bits ≡ first.bits.items → words ≡ first.words.items → memories ≡ first.memories.items → (lane : ℕ) → lane < lanes → IsFirst at m made lane

@@ -17,7 +17,7 @@ use Rattle.vlog_semantics.proofs.Cells.{AreWords}
 use Rattle.vlog_semantics.proofs.Showing.{ShowsStep, bits-count, shown-start, start-bits, start-words, words-count}
 use Rattle.vlog_engine.specs.declared.circuit.Circuit.{Circuit}
 use Rattle.vlog_engine.specs.declared.groups.Group.{Group}
-use Rattle.vlog_engine.specs.Circuits.{AreSources, IsCircuit, shown_by}
+use Rattle.vlog_engine.specs.Circuits.{AreSources, IsCircuit, shown_by, watched}
 use Rattle.vlog_engine.specs.Groups.{IsGroup}
 use Rattle.vlog_engine.specs.StepKinds.{IsPinnedBelow, Step, pinned, slots_of}
 use Rattle.vlog_engine.specs.Passing.{IsClocked, IsSettled}
@@ -48,7 +48,7 @@ module _ (m : Parts) (layout : SlotLayout) (circuit : Circuit) (laid : IsLaidOut
       → AreWords words → AreWords words_now → length words_now ≡ length words → bit_count m ≤ length before → bit_count m ≤ length between
       → IsGroup step layout.first_wire (bit_count m) (word_count m) circuit.roots.items layout.plan group
       → IsClocked true (bit_count m) step group words words_now memories memories_now before between
-      → IsSettled true layout.first_wire (bit_count m) circuit.gates.items circuit.settles.items between after marks
+      → IsSettled true layout.first_wire (bit_count m) circuit.gates.items (watched circuit) circuit.settles.items between after marks
       → outputs_now ≡ map (operand_value after []) circuit.outputs.items
       → ShowsStep m layout.plan next (pinned step (flips_after layout.plan (slots_of step) (values_of (readable entry).bits) words))
       (words_after layout.plan (slots_of step) (values_of (readable entry).bits) words memories) (memories_after layout.plan (slots_of step) (values_of (readable entry).bits) words memories)
@@ -93,7 +93,7 @@ module _ (m : Parts) (layout : SlotLayout) (circuit : Circuit) (laid : IsLaidOut
 pub started-shown : (m : Parts) (first : Start) (circuit : Circuit) (begins : Begins m first) (made : IsCircuit first.layout.first_wire (bit_count m) (word_count m) first.layout.plan circuit)
     (outputs before after : List Bool) (marks : List ℕ)
     → AreWords first.words.items → before ≡ cells_of first.bits.items first.words.items → bit_count m ≤ length before
-    → IsSettled true first.layout.first_wire (bit_count m) circuit.gates.items circuit.settles.items before after marks
+    → IsSettled true first.layout.first_wire (bit_count m) circuit.gates.items (watched circuit) circuit.settles.items before after marks
     → outputs ≡ map (operand_value after []) circuit.outputs.items
     → ShowsCells m circuit (start m) after first.words.items first.memories.items outputs
 started-shown m first circuit begins made outputs before after marks small before_is room settled outputs_is =

@@ -6,6 +6,8 @@ pub mod Bits
 pub mod Marked
 -- the bits of a lane
 pub mod Lanes
+-- what flip-flops over cells do in a lane
+pub mod Flipped
 -- lists of which one is changed, and lanes one after the other
 pub mod Lists
 -- what a lane has once clocked items have acted
@@ -40,6 +42,8 @@ pub mod Boards
 pub mod Merged
 -- an event changes no more than the plan has items
 pub mod Rooms
+-- the cells of the flip-flops of a step
+pub mod Over
 -- what writes of values, and sweeps over wires, do in a lane
 pub mod Steps
 -- what a call leaves in a lane, half by half
@@ -50,3 +54,9 @@ pub mod Apart
 pub mod Waves
 -- what a board has at the start
 pub mod First
+-- flip-flops that come to be watched
+pub mod Placed
+-- flip-flops that are watched: when one leaves its register as it is
+pub mod FlipGates
+-- what is watched
+pub mod Watched

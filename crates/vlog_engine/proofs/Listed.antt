@@ -25,7 +25,7 @@ push-here (first ∷ numbers) last =
 pub length-reader : (place : ℕ) (lists : List (List ℕ)) (cell : ℕ) → length (with_reader place lists cell) ≡ length lists
 length-reader place lists cell = length-set lists cell (get_or lists cell [] ++ place ∷ [])
 
-reader-kept : (place : ℕ) (lists : List (List ℕ)) (other cell number : ℕ) → has (get_or lists cell []) number ≡ true → has (get_or (with_reader place lists other) cell []) number ≡ true
+pub reader-kept : (place : ℕ) (lists : List (List ℕ)) (other cell number : ℕ) → has (get_or lists cell []) number ≡ true → has (get_or (with_reader place lists other) cell []) number ≡ true
 reader-kept place lists other cell number is =
     let more : List ℕ = get_or lists other [] ++ place ∷ [] in
     elim (cases_eq cell other) [
@@ -40,7 +40,7 @@ reader-kept place lists other cell number is =
       | inr apart ↦ ap (λ list. has list number) (get_or-set_other lists other cell more [] apart) ∙ is
     ]
 
-reader-here : (place : ℕ) (lists : List (List ℕ)) (cell : ℕ) → cell < length lists → has (get_or (with_reader place lists cell) cell []) place ≡ true
+pub reader-here : (place : ℕ) (lists : List (List ℕ)) (cell : ℕ) → cell < length lists → has (get_or (with_reader place lists cell) cell []) place ≡ true
 reader-here place lists cell inside =
     ap (λ list. has list place) (get_or-set_same lists cell (get_or lists cell [] ++ place ∷ []) [] inside) ∙ push-here (get_or lists cell []) place
 

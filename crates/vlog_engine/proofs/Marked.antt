@@ -6,7 +6,7 @@ use Rattle.std.proofs.lemmas.List.{get_or-replicate, get_or-set_same}
 use Rattle.vlog_semantics.specs.declared.gates.Gate.{Gate}
 use Rattle.vlog_semantics.specs.Cells.{gate_value}
 use Rattle.vlog_semantics.specs.Values.{bit_of}
-use Rattle.vlog_engine.specs.Marks.{AreRising, IsEven, IsRead, IsSwept, IsTracked, gate_at, has, is_marked, lists_of, touches}
+use Rattle.vlog_engine.specs.Marks.{AreFirst, AreRising, IsEven, IsRead, IsSwept, IsTracked, gate_at, has, is_marked, lists_of, touches}
 use Rattle.vlog_engine.proofs.Bits.{no-both}
 use Rattle.vlog_engine.proofs.Order.{later-apart, reads-none, same-value, slot-within, stays-even}
 
@@ -78,28 +78,21 @@ write-tracked gates readers cell bit cells marks marks_now places places_are siz
 -- ---- a sweep
 
 -- wires that aren't marked
-pub gates-passed : (active : Bool) (gates : List Gate) (from end : ℕ) (cells : List Bool) (marks : List ℕ) → ((place : ℕ) → from ≤ place → place < end → is_marked marks place ≡ false)
-    → IsSwept active gates from cells marks → IsSwept active gates end cells marks
-gates-passed active gates from end cells marks off swept = record {
+pub gates-passed : (active : Bool) (gates watched : List Gate) (from end : ℕ) (cells : List Bool) (marks : List ℕ) → AreFirst gates watched
+    → ((place : ℕ) → from ≤ place → place < end → is_marked marks place ≡ false)
+    → IsSwept active gates watched from cells marks → IsSwept active gates watched end cells marks
+gates-passed active gates watched from end cells marks among off swept = record {
   tracked = swept.tracked;
   done = λ on p below within.
       elim (cases_lt p from) [
         | inl before ↦ swept.done on p before within
-        | inr after ↦ swept.tracked.even p within (off p after below)
+        | inr after ↦ subst (IsEven cells) (among.same p within) (swept.tracked.even p (omega (arith, within, among.fit)) (off p after below))
       ];
 }
 
--- an index after the last wire loses its mark
-pub past-swept : (active : Bool) (gates : List Gate) (place : ℕ) (cells : List Bool) (marks marks_now : List ℕ) → length gates ≤ place → length marks_now ≡ length marks
-    → ((other : ℕ) → other ≢ place → is_marked marks_now other ≡ is_marked marks other)
-    → IsSwept active gates place cells marks → IsSwept active gates (place + 1) cells marks_now
-past-swept active gates place cells marks marks_now past size others swept = record {
-  tracked = record {
-    room = omega (arith, swept.tracked.room, size);
-    even = λ p within off. swept.tracked.even p within (sym (others p (λ same. omega (arith, same, within, past))) ∙ off);
-  };
-  done = λ on p below within. swept.done on p (omega (arith, within, past)) within;
-}
+-- before the first wire
+pub swept-none : (active : Bool) (gates watched : List Gate) (cells : List Bool) (marks : List ℕ) → IsTracked watched cells marks → IsSwept active gates watched 0 cells marks
+swept-none active gates watched cells marks tracked = record { tracked = tracked; done = λ on place below inside. absurd (omega (arith, below)) }
 
 -- a wire that has got its value
 own-even : (first count : ℕ) (gates : List Gate) (place : ℕ) (cells : List Bool) → AreRising first count gates → count ≤ length cells → place < length gates
@@ -128,34 +121,27 @@ done-more first count gates place bit cells rising room within is done p below i
     ]
 
 -- it stays marked if it may be out of date
-pub gate-swept : (active left bit : Bool) (first count : ℕ) (gates : List Gate) (place : ℕ) (cells : List Bool) (marks marks_now marks_last : List ℕ) → AreRising first count gates → count ≤ length cells → place < length gates
+pub gate-swept : (active left bit : Bool) (first count : ℕ) (gates watched : List Gate) (place : ℕ) (cells : List Bool) (marks marks_now marks_last : List ℕ) → AreRising first count gates → AreFirst gates watched
+    → count ≤ length cells → place < length gates
     → (active ≡ true → bit ≡ gate_value cells (gate_at gates place)) → (left ≡ false → bit ≡ gate_value cells (gate_at gates place))
     → length marks_last ≡ length marks_now → (place < 64 * length marks_now → is_marked marks_last place ≡ left) → ((other : ℕ) → other ≢ place → is_marked marks_last other ≡ is_marked marks_now other)
-    → IsSwept active gates place cells marks
-    → IsTracked gates (set cells (gate_at gates place).slot bit) marks_now
-    → IsSwept active gates (place + 1) (set cells (gate_at gates place).slot bit) marks_last
-gate-swept active left bit first count gates place cells marks marks_now marks_last rising room within on off size own_mark other_marks swept tracked = record {
+    → IsSwept active gates watched place cells marks
+    → IsTracked watched (set cells (gate_at gates place).slot bit) marks_now
+    → IsSwept active gates watched (place + 1) (set cells (gate_at gates place).slot bit) marks_last
+gate-swept active left bit first count gates watched place cells marks marks_now marks_last rising among room within on off size own_mark other_marks swept tracked = record {
   tracked = record {
     room = omega (arith, tracked.room, size);
     even = λ p inside dark.
         elim (cases_eq p place) [
           | inl same ↦
-              let cleared : left ≡ false = sym (own_mark (omega (arith, within, tracked.room))) ∙ sym (ap (is_marked marks_last) same) ∙ dark in
-              subst (λ q. IsEven (set cells (gate_at gates place).slot bit) (gate_at gates q)) (sym same) (own-now first count gates place bit cells rising room within (off cleared))
+              let cleared : left ≡ false = sym (own_mark (omega (arith, within, tracked.room, among.fit))) ∙ sym (ap (is_marked marks_last) same) ∙ dark in
+              subst (IsEven (set cells (gate_at gates place).slot bit)) (sym (ap (gate_at watched) same ∙ among.same place within))
+              (own-now first count gates place bit cells rising room within (off cleared))
           | inr apart ↦ tracked.even p inside (sym (other_marks p apart) ∙ dark)
         ];
   };
   done = λ act. done-more first count gates place bit cells rising room within (on act) (swept.done act);
 }
-
--- bits of a block from one on that aren't set
-pub block-off : (marks : List ℕ) (block from end : ℕ) → end ≤ 64 → ((k : ℕ) → from ≤ k → k < end → bit_of (get_or marks block 0) k ≡ false)
-    → (place : ℕ) → 64 * block + from ≤ place → place < 64 * block + end → is_marked marks place ≡ false
-block-off marks block from end few off place low high =
-    let quotient : place / 64 ≡ block = omega (arith, low, high, few) in
-    let at_least : from ≤ place % 64 = omega (arith, low, high, few) in
-    let below : place % 64 < end = omega (arith, low, high, few) in
-    ap (λ b. bit_of (get_or marks b 0) (place % 64)) quotient ∙ off (place % 64) at_least below
 
 -- if each wire is marked
 pub tracked-first : (gates : List Gate) (cells : List Bool) (marks : List ℕ) → length gates ≤ 64 * length marks → ((place : ℕ) → place < 64 * length marks → is_marked marks place ≡ true) → IsTracked gates cells marks

@@ -15,7 +15,8 @@ use Rattle.vlog_semantics.specs.Steps.{flip_slot, settle_slot, settled_slots, wi
 use Rattle.vlog_semantics.proofs.Cells.{AreWords, length-parts}
 use Rattle.vlog_engine.specs.declared.circuit.Circuit.{Circuit}
 use Rattle.vlog_engine.specs.declared.groups.Group.{Group}
-use Rattle.vlog_engine.specs.Circuits.{AreSources, IsCircuit, kept_gate, shown_by}
+use Rattle.vlog_engine.specs.Circuits.{AreSources, IsCircuit, kept_gate, shown_by, watched}
+use Rattle.vlog_engine.specs.Flips.{flip_flops}
 use Rattle.vlog_engine.specs.Groups.{IsGroup, flip_at}
 use Rattle.vlog_engine.specs.StepKinds.{IsPinnedBelow, Step, pinned, slots_of}
 use Rattle.vlog_engine.specs.Marks.{AreRising, IsEven, gate_at}
@@ -106,7 +107,7 @@ module _ (m : Parts) (layout : SlotLayout) (circuit : Circuit) (laid : IsLaidOut
   -- ---- wires
 
   module _ (bits : List Bool) (words : List ℕ) (before after : List Bool) (marks : List ℕ) (bits_are : length bits ≡ count) (words_are : length words ≡ word_count m) (small : AreWords words)
-      (room : count ≤ length before) (sources : AreSources first bits words before) (settled : IsSettled true first count circuit.gates.items circuit.settles.items before after marks) where
+      (room : count ≤ length before) (sources : AreSources first bits words before) (settled : IsSettled true first count circuit.gates.items (watched circuit) circuit.settles.items before after marks) where
     abbrev wired : List Bool
     wired = settled.wired
 
@@ -248,7 +249,7 @@ module _ (m : Parts) (layout : SlotLayout) (circuit : Circuit) (laid : IsLaidOut
       let flipped : List Bool = fold (flip_slot (slots_of step) bits words) bits flips in
       let at_root : (cell : ℕ) → (cell < count → cell < first) → cell < total → cell_at before cell ≡ cell_at (cells_of bits words) cell =
       λ cell source inside. sym (ap (cell_at before) (own cell source inside)) ∙ shown-at count (word_count m) roots bits words before cell show inside in
-      let runs : fold (flip_slot (slots_of step) before []) stored group.flips.items ≡ fold (flip_slot (slots_of step) before []) stored (flat_map (flip_at step first count (word_count m) roots) flips) =
+      let runs : fold (flip_slot (slots_of step) before []) stored (flip_flops group.flips.items) ≡ fold (flip_slot (slots_of step) before []) stored (flat_map (flip_at step first count (word_count m) roots) flips) =
       ap (fold (flip_slot (slots_of step) before []) stored) grouped.flips in
       let begun : Agree first stored bits = record {
         some_room = omega (arith, first-within, room, clocked.known.size);

@@ -1,9 +1,11 @@
 -- A step changes no more than the plan has items.
 use Rattle.std.proofs.Common.{ℕ, ◌≤◌, Bool, true, false, cond, List, [], ◌∷◌, ap, arith, flat_map, length, length-append, ltb}
 use Rattle.std.specs.Prelude.{◌&&◌}
+use Rattle.std.proofs.lemmas.List.{length-map}
 use Rattle.vlog_semantics.specs.declared.plan.Plan.{Plan}
 use Rattle.vlog_engine.specs.StepKinds.{Step, picks}
 use Rattle.vlog_engine.specs.declared.groups.Group.{Group}
+use Rattle.vlog_engine.specs.Flips.{flip_flop}
 use Rattle.vlog_engine.specs.Groups.{IsGroup, flip_at, write_at}
 use Rattle.vlog_engine.specs.Resolved.{resolved_flip, resolved_write}
 
@@ -21,6 +23,7 @@ module _ (step : Step) (first bits words : ℕ) (roots : List ℕ) (plan : Plan)
   flips-few =
       omega (
         arith,
+        length-map group.flips.items flip_flop,
         ap length grouped.flips,
         few (flip_at step first bits words roots) plan.flips.items (λ flip. one (picks step flip.edge && ltb flip.target first) (resolved_flip bits words roots flip)),
       )

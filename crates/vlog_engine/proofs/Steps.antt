@@ -5,7 +5,7 @@ use Rattle.std.proofs.lemmas.List.{get_or-set_other, set-get_or}
 use Rattle.vlog_semantics.specs.declared.gates.Gate.{Gate}
 use Rattle.vlog_semantics.specs.Cells.{cell_at, gate_value}
 use Rattle.vlog_engine.specs.Lanes.{lane_bits}
-use Rattle.vlog_engine.specs.Marks.{AreRising, IsRead, IsSwept, IsTracked, StaySources, gate_at, has, is_marked, lists_of}
+use Rattle.vlog_engine.specs.Marks.{AreFirst, AreRising, IsRead, IsSwept, IsTracked, StaySources, gate_at, has, is_marked, lists_of}
 use Rattle.vlog_engine.proofs.Lanes.{lane-change, lane-set}
 use Rattle.vlog_engine.proofs.Marked.{gate-swept, write-tracked}
 use Rattle.vlog_engine.proofs.Order.{slot-within}
@@ -27,25 +27,25 @@ lane-tracked at lane gates readers cell value cells cells_now marks marks_now pl
 
 -- ---- a wire
 
-pub gate-step : {V : Type 0} (at : V → ℕ → Bool) (lane : ℕ) (active left : Bool) (value kept old : V) (first count : ℕ) (gates : List Gate) (place : ℕ) (cells cells_now : List V) (marks marks_now marks_last : List ℕ)
-    → AreRising first count gates → count ≤ length (lane_bits at lane cells) → place < length gates
+pub gate-step : {V : Type 0} (at : V → ℕ → Bool) (lane : ℕ) (active left : Bool) (value kept old : V) (first count : ℕ) (gates watched : List Gate) (place : ℕ) (cells cells_now : List V) (marks marks_now marks_last : List ℕ)
+    → AreRising first count gates → AreFirst gates watched → count ≤ length (lane_bits at lane cells) → place < length gates
     → at value lane ≡ gate_value (lane_bits at lane cells) (gate_at gates place)
     → at kept lane ≡ cond active (at value lane) (at old lane)
     → (left ≡ false → kept ≡ value)
     → cells_now ≡ set cells (gate_at gates place).slot kept
     → length marks_last ≡ length marks_now → (place < 64 * length marks_now → is_marked marks_last place ≡ left) → ((other : ℕ) → other ≢ place → is_marked marks_last other ≡ is_marked marks_now other)
-    → IsSwept active gates place (lane_bits at lane cells) marks
-    → IsTracked gates (lane_bits at lane cells_now) marks_now
-    → IsSwept active gates (place + 1) (lane_bits at lane cells_now) marks_last
-gate-step at lane active left value kept old first count gates place cells cells_now marks marks_now marks_last rising room within value_is kept_is stays cells_are size own others swept tracked =
+    → IsSwept active gates watched place (lane_bits at lane cells) marks
+    → IsTracked watched (lane_bits at lane cells_now) marks_now
+    → IsSwept active gates watched (place + 1) (lane_bits at lane cells_now) marks_last
+gate-step at lane active left value kept old first count gates watched place cells cells_now marks marks_now marks_last rising among room within value_is kept_is stays cells_are size own others swept tracked =
     let slot : ℕ = (gate_at gates place).slot in
     let now : lane_bits at lane cells_now ≡ set (lane_bits at lane cells) slot (at kept lane) = ap (lane_bits at lane) cells_are ∙ lane-set at lane cells slot kept in
-    subst (λ c. IsSwept active gates (place + 1) c marks_last) (sym now)
-    (gate-swept active left (at kept lane) first count gates place (lane_bits at lane cells) marks marks_now marks_last rising room within
+    subst (λ c. IsSwept active gates watched (place + 1) c marks_last) (sym now)
+    (gate-swept active left (at kept lane) first count gates watched place (lane_bits at lane cells) marks marks_now marks_last rising among room within
     (λ on. kept_is ∙ ap (λ a. cond a (at value lane) (at old lane)) on ∙ value_is)
     (λ off. ap (λ v. at v lane) (stays off) ∙ value_is)
     size own others
-    swept (subst (λ c. IsTracked gates c marks_now) now tracked))
+    swept (subst (λ c. IsTracked watched c marks_now) now tracked))
 
 pub gate-idle : {V : Type 0} (at : V → ℕ → Bool) (lane : ℕ) (active : Bool) (value kept old : V) (slot : ℕ) (cells cells_now : List V)
     → at kept lane ≡ cond active (at value lane) (at old lane) → at old lane ≡ cell_at (lane_bits at lane cells) slot → cells_now ≡ set cells slot kept → active ≡ false

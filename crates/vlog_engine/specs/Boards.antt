@@ -11,7 +11,7 @@ use Rattle.vlog_semantics.specs.Steps.{operand_value}
 use Rattle.vlog_engine.specs.declared.board.Board.{Board}
 use Rattle.vlog_engine.specs.declared.groups.Group.{Group}
 use Rattle.vlog_engine.specs.declared.value.Value.{Ghosts}
-use Rattle.vlog_engine.specs.Circuits.{shown_by}
+use Rattle.vlog_engine.specs.Circuits.{shown_by, watched}
 use Rattle.vlog_engine.specs.Groups.{IsGroup}
 use Rattle.vlog_engine.specs.StepKinds.{Step}
 use Rattle.vlog_engine.specs.Lanes.{lane_bits, list_of}
@@ -32,9 +32,9 @@ memories_in board lane = list_of lane board.memories.items
 abbrev pub outputs_in : {V : Type 0} {g : Ghosts V} → Board V g → ℕ → List Bool
 outputs_in {g = g} board lane = lane_bits g.at lane board.outputs.items
 
--- each wire of a lane that isn't marked has its value
+-- each wire of a lane that isn't marked has its value, and each flip-flop that isn't marked leaves its register as it is
 abbrev pub IsTrackedIn : {V : Type 0} {g : Ghosts V} → Board V g → ℕ → Type 0
-IsTrackedIn board lane = IsTracked board.circuit.gates.items (cells_in board lane) board.marks.items
+IsTrackedIn board lane = IsTracked (watched board.circuit) (cells_in board lane) board.marks.items
 
 -- the board has the slots of the module, and the cells of a lane have the values of the entry
 pub record Shows {V : Type 0} {g : Ghosts V} (board : Board V g) (lane : ℕ) (m : Parts) (entry : Entry) : Type 0 where
@@ -70,7 +70,7 @@ pub record IsIdleIn {V : Type 0} {g : Ghosts V} (lane : ℕ) (before after : Boa
 pub record IsClockedIn {V : Type 0} {g : Ghosts V} (step : Step) (lane : ℕ) (before after : Board V g) : Type 0 where
   pub group : Group
   pub grouped : IsGroup step before.layout.first_wire before.circuit.bits (vec_len before.next_words) before.circuit.roots.items before.layout.plan group
-  pub clocked : IsClocked true before.circuit.bits step group (words_in before lane) (words_in after lane) (memories_in before lane) (memories_in after lane) (cells_in before lane) (cells_in after lane)
+  pub clocked : IsTrackedIn before lane → IsClocked true before.circuit.bits step group (words_in before lane) (words_in after lane) (memories_in before lane) (memories_in after lane) (cells_in before lane) (cells_in after lane)
   pub tracked : (first count : ℕ) → AreRising first count before.circuit.gates.items → count ≤ length (cells_in before lane) → IsTrackedIn before lane → IsTrackedIn after lane
 
 -- the second half: the wires, and then the asynchronous sets and resets of registers
@@ -80,7 +80,7 @@ pub record IsSettledIn {V : Type 0} {g : Ghosts V} (active : Bool) (lane : ℕ) 
   pub outputs : outputs_in after lane ≡ outputs_in before lane
   pub idle : active ≡ false → cells_in after lane ≡ cells_in before lane
   pub settled : (first count : ℕ) → AreRising first count before.circuit.gates.items → count ≤ length (cells_in before lane) → IsTrackedIn before lane
-      → IsSettled active first count before.circuit.gates.items before.circuit.settles.items (cells_in before lane) (cells_in after lane) after.marks.items
+      → IsSettled active first count before.circuit.gates.items (watched before.circuit) before.circuit.settles.items (cells_in before lane) (cells_in after lane) after.marks.items
 
 -- the outputs
 pub record IsShownIn {V : Type 0} {g : Ghosts V} (active : Bool) (lane : ℕ) (before after : Board V g) : Type 0 where
@@ -97,7 +97,7 @@ pub record IsChangedIn {V : Type 0} {g : Ghosts V} (step : Step) (lane : ℕ) (b
   -- the cells between the halves
   pub between : List Bool
   pub size : length between ≡ length (cells_in before lane)
-  pub clocked : IsClocked true before.circuit.bits step group (words_in before lane) (words_in after lane) (memories_in before lane) (memories_in after lane) (cells_in before lane) between
+  pub clocked : IsTrackedIn before lane → IsClocked true before.circuit.bits step group (words_in before lane) (words_in after lane) (memories_in before lane) (memories_in after lane) (cells_in before lane) between
   pub settled : (first count : ℕ) → AreRising first count before.circuit.gates.items → count ≤ length (cells_in before lane) → IsTrackedIn before lane
-      → IsSettled true first count before.circuit.gates.items before.circuit.settles.items between (cells_in after lane) after.marks.items
+      → IsSettled true first count before.circuit.gates.items (watched before.circuit) before.circuit.settles.items between (cells_in after lane) after.marks.items
   pub outputs : outputs_in after lane ≡ map (operand_value (cells_in after lane) []) before.circuit.outputs.items

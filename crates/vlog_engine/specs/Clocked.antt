@@ -8,13 +8,14 @@ use Rattle.vlog_semantics.specs.declared.plan.Read.{Read}
 use Rattle.vlog_semantics.specs.declared.plan.Write.{Write}
 use Rattle.vlog_semantics.specs.Run.{is_edge}
 use Rattle.vlog_engine.specs.declared.groups.Group.{Group}
+use Rattle.vlog_engine.specs.Flips.{flip_flops}
 use Rattle.vlog_engine.specs.Groups.{Gets, flip_at, read_at, write_at}
 use Rattle.vlog_engine.specs.StepKinds.Step.{at_event}
 use Rattle.vlog_engine.specs.Resolved.{resolved_flip, resolved_read, resolved_write}
 
 pub Gets-none : (group : Group) → Gets group [] [] [] group
 Gets-none group = record {
-  flips = sym (append-nil group.flips.items);
+  flips = sym (append-nil (flip_flops group.flips.items));
   reads = sym (append-nil group.reads.items);
   writes = sym (append-nil group.writes.items);
 }
@@ -25,7 +26,7 @@ more-is old middle new some others first next = next ∙ ap (λ list. list ++ ot
 pub Gets-more : (old middle new : Group) (flips other_flips : List FlipFlop) (reads other_reads : List Read) (writes other_writes : List Write) → Gets old flips reads writes middle
     → Gets middle other_flips other_reads other_writes new → Gets old (flips ++ other_flips) (reads ++ other_reads) (writes ++ other_writes) new
 Gets-more old middle new flips other_flips reads other_reads writes other_writes first next = record {
-  flips = more-is old.flips.items middle.flips.items new.flips.items flips other_flips first.flips next.flips;
+  flips = more-is (flip_flops old.flips.items) (flip_flops middle.flips.items) (flip_flops new.flips.items) flips other_flips first.flips next.flips;
   reads = more-is old.reads.items middle.reads.items new.reads.items reads other_reads first.reads next.reads;
   writes = more-is old.writes.items middle.writes.items new.writes.items writes other_writes first.writes next.writes;
 }

@@ -5,6 +5,7 @@ use Rattle.vlog_semantics.specs.declared.plan.FlipFlop.{FlipFlop}
 use Rattle.vlog_semantics.specs.declared.plan.Read.{Read}
 use Rattle.vlog_semantics.specs.declared.plan.Write.{Write}
 use Rattle.vlog_semantics.specs.declared.plan.Plan.{Plan}
+use Rattle.vlog_engine.specs.Flips.{flip_flops}
 use Rattle.vlog_engine.specs.StepKinds.{Step, picks}
 use Rattle.vlog_engine.specs.declared.groups.Group.{Group}
 use Rattle.vlog_engine.specs.Resolved.{resolved_flip, resolved_read, resolved_write}
@@ -21,7 +22,7 @@ abbrev pub write_at : Step → ℕ → ℕ → List ℕ → Write → List Write
 write_at step bits words roots write = if picks step write.port.edge then resolved_write bits words roots write ∷ [] else []
 
 pub record IsGroup (step : Step) (first bits words : ℕ) (roots : List ℕ) (plan : Plan) (group : Group) : Type 0 where
-  pub flips : group.flips.items ≡ flat_map (flip_at step first bits words roots) plan.flips.items
+  pub flips : flip_flops group.flips.items ≡ flat_map (flip_at step first bits words roots) plan.flips.items
   pub reads : group.reads.items ≡ flat_map (read_at step bits words roots) plan.reads.items
   pub writes : group.writes.items ≡ flat_map (write_at step bits words roots) plan.writes.items
 
@@ -38,7 +39,7 @@ pub record IsEmpty (group : Group) : Type 0 where
 
 -- a group gets items more
 pub record Gets (old : Group) (more_flips : List FlipFlop) (more_reads : List Read) (more_writes : List Write) (new : Group) : Type 0 where
-  pub flips : new.flips.items ≡ old.flips.items ++ more_flips
+  pub flips : flip_flops new.flips.items ≡ flip_flops old.flips.items ++ more_flips
   pub reads : new.reads.items ≡ old.reads.items ++ more_reads
   pub writes : new.writes.items ≡ old.writes.items ++ more_writes
 

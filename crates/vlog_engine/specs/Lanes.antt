@@ -1,6 +1,7 @@
 -- The part that each lane has in lists of values, and the lists of lanes.
-use Rattle.std.specs.Prelude.{◌≡◌, ◌<◌, ℕ, Bool, List, [], Vec, get_or, length, map}
+use Rattle.std.specs.Prelude.{◌≡◌, ◌<◌, ℕ, Bool, List, [], ◌∷◌, Vec, get_or, length, map}
 use Rattle.std.specs.Global.{Global}
+use Rattle.vlog_semantics.specs.Values.{bit_of, number_of}
 
 -- the bits of a lane in a list of values, which have a bit for each lane
 abbrev pub lane_bits : {V : Type 0} → (V → ℕ → Bool) → ℕ → List V → List Bool
@@ -15,3 +16,7 @@ pub record AreLanes (lanes count : ℕ) (lists : List (Vec ℕ Global)) : Type 0
   pub size : length lists ≡ lanes
   pub each : (lane : ℕ) → lane < lanes → length (list_of lane lists) ≡ count
   pub fit : (lane word : ℕ) → get_or (list_of lane lists) word 0 < 65536
+
+-- the words from which two bits of a truth table choose by the bit of `a`: in each lane, the word at an index has the bit of that index
+pub record AreChoices (a : ℕ) (choices : List ℕ) : Type 0 where
+  pub each : (lane index : ℕ) → lane < 64 → index < 4 → bit_of (get_or choices index 0) lane ≡ bit_of index (number_of (bit_of a lane ∷ []))

@@ -2,6 +2,7 @@ pub mod Boards
 pub mod Changes
 pub mod Circuits
 pub mod Clocked
+pub mod Flips
 pub mod Groups
 pub mod StepKinds
 pub mod Lanes
@@ -12,4 +13,5 @@ pub mod Resolved
 pub mod Roots
 pub mod Starting
 pub mod Triggers
+pub mod Watching
 pub mod Waves

@@ -57,9 +57,14 @@ pub record IsTracked (gates : List Gate) (cells : List Bool) (marks : List ℕ) 
   pub room : length gates ≤ 64 * length marks
   pub even : (place : ℕ) → place < length gates → is_marked marks place ≡ false → IsEven cells (gate_at gates place)
 
--- also, in an active lane each of the first wires is up to date, marked or not
-pub record IsSwept (active : Bool) (gates : List Gate) (end : ℕ) (cells : List Bool) (marks : List ℕ) : Type 0 where
-  pub tracked : IsTracked gates cells marks
+-- the wires are the first ones of all that are watched
+pub record AreFirst (gates watched : List Gate) : Type 0 where
+  pub fit : length gates ≤ length watched
+  pub same : (place : ℕ) → place < length gates → gate_at watched place ≡ gate_at gates place
+
+-- what is watched is up to date or marked; also, in an active lane each of the first wires is up to date, marked or not
+pub record IsSwept (active : Bool) (gates watched : List Gate) (end : ℕ) (cells : List Bool) (marks : List ℕ) : Type 0 where
+  pub tracked : IsTracked watched cells marks
   pub done : active ≡ true → (place : ℕ) → place < end → place < length gates → IsEven cells (gate_at gates place)
 
 -- ---- the order of wires, which is a topological order; there are `count` names, and the cells after theirs are no wires' cells

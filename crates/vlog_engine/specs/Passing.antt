@@ -7,6 +7,7 @@ use Rattle.vlog_semantics.specs.declared.plan.Settle.{Settle}
 use Rattle.vlog_engine.specs.StepKinds.{Step, pinned, slots_of}
 use Rattle.vlog_engine.specs.declared.groups.Group.{Group}
 use Rattle.vlog_engine.specs.Circuits.{ArePartsAt}
+use Rattle.vlog_engine.specs.Flips.{flip_flops}
 use Rattle.vlog_engine.specs.Marks.{IsEven, IsTracked, StaySources, gate_at}
 
 -- in an active lane, the registers of 16 bits and the memories have what reads and writes assign, and cells have the bits of the registers
@@ -23,10 +24,10 @@ pub record IsClocked (active : Bool) (bits : ℕ) (step : Step) (group : Group) 
   -- the cells after those of registers of 16 bits are written
   pub stored : List Bool
   pub known : IsStored active bits step group words next_words memories next_memories before stored
-  pub are : after ≡ (if active then pinned step (fold (flip_slot (slots_of step) before []) stored group.flips.items) else stored)
+  pub are : after ≡ (if active then pinned step (fold (flip_slot (slots_of step) before []) stored (flip_flops group.flips.items)) else stored)
 
 -- in an active lane, the wires are up to date; then the asynchronous sets and resets of registers are done
-pub record IsSettled (active : Bool) (first count : ℕ) (gates : List Gate) (settles : List Settle) (before after : List Bool) (marks : List ℕ) : Type 0 where
+pub record IsSettled (active : Bool) (first count : ℕ) (gates watched : List Gate) (settles : List Settle) (before after : List Bool) (marks : List ℕ) : Type 0 where
   -- the cells after those of wires are computed
   pub wired : List Bool
   pub size : length wired ≡ length before
@@ -34,4 +35,4 @@ pub record IsSettled (active : Bool) (first count : ℕ) (gates : List Gate) (se
   pub even : active ≡ true → (place : ℕ) → place < length gates → IsEven wired (gate_at gates place)
   pub idle : active ≡ false → wired ≡ before
   pub are : after ≡ (if active then fold (settle_slot wired) wired settles else wired)
-  pub tracked : IsTracked gates after marks
+  pub tracked : IsTracked watched after marks

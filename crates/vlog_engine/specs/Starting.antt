@@ -1,6 +1,6 @@
 -- A circuit at the start.
-use Rattle.std.specs.Prelude.{◌≡◌, ◌<◌, ◌+◌, ◌*◌, ◌/◌, ◌≤◌, ℕ, Bool, List, [], get_or, length, map, true}
-use Rattle.vlog_engine.specs.Circuits.{AreWaves, IsCircuit}
+use Rattle.std.specs.Prelude.{◌≡◌, ◌<◌, ◌+◌, ◌*◌, ◌≤◌, ℕ, Bool, List, [], get_or, length, map, true}
+use Rattle.vlog_engine.specs.Circuits.{AreWaves, IsCircuit, watched}
 use Rattle.vlog_engine.specs.Lanes.{AreLanes, lane_bits, list_of}
 use Rattle.vlog_engine.specs.Marks.{AreRising}
 use Rattle.vlog_engine.specs.Passing.{IsSettled}
@@ -18,11 +18,10 @@ pub record IsStarted {V : Type 0} (lanes : ℕ) (at : V → ℕ → Bool) (layou
   pub rising : length wires.circuit.rising.items ≡ layout.input_count
   pub falling : length wires.circuit.falling.items ≡ layout.input_count
   pub cells_room : length wires.cells.items ≡ length bits + 16 * length words + 2
-  pub marks_room : length wires.marks.items ≡ length wires.circuit.gates.items / 64 + 1
   pub flips_room : length layout.plan.flips.items ≤ length wires.changes.items
   pub settles_room : length layout.plan.settles.items ≤ length wires.changes.items
   pub settled : (lane count : ℕ) → lane < lanes → AreRising layout.first_wire count wires.circuit.gates.items → count ≤ length bits
-      → IsSettled true layout.first_wire count wires.circuit.gates.items wires.circuit.settles.items (cells_of bits words) (lane_bits at lane wires.cells.items) wires.marks.items
+      → IsSettled true layout.first_wire count wires.circuit.gates.items (watched wires.circuit) wires.circuit.settles.items (cells_of bits words) (lane_bits at lane wires.cells.items) wires.marks.items
 
 -- also, each lane has its outputs, these words and these memories, and there is enough room for writes
 pub record AreStarted {V : Type 0} (lanes : ℕ) (at : V → ℕ → Bool) (layout : SlotLayout) (bits : List Bool) (words : List ℕ) (memories : List (List ℕ)) (made : Started V) : Type 0 where

@@ -1,5 +1,5 @@
 // A module that runs in lanes.
-ghost use Rattle.std.specs.Prelude.{◌≡◌, ◌<◌, ◌≤◌, ◌+◌, ◌*◌, ◌/◌, ℕ, IfOk, false, get_or, is_some, length, map, not, take, true, vec_len, if◌then◌else◌};
+ghost use Rattle.std.specs.Prelude.{◌≡◌, ◌<◌, ◌≤◌, ◌+◌, ◌*◌, ℕ, IfOk, false, get_or, is_some, length, map, not, take, true, vec_len, if◌then◌else◌};
 ghost use Rattle.std.specs.Option.{option_map};
 ghost use Rattle.vlog_engine.specs.Circuits.{AreWaves, IsCircuit};
 ghost use Rattle.vlog_engine.specs.Lanes.{AreLanes};
@@ -31,7 +31,7 @@ pub struct Board<V: Value> {
     circuit: Circuit,
     /// The bits of names, then those of words, then 0 and 1. A wire that only copies has no cell of its own.
     cells: Vec<V>,
-    /// Marks on wires that may be out of date, 64 in a word.
+    /// Marks on wires that may be out of date and on flip-flops that may change their registers, 64 in a word.
     marks: Vec<u64>,
     /// The registers of 16 bits, for each lane.
     words: Vec<Vec<u16>>,
@@ -50,7 +50,6 @@ pub struct Board<V: Value> {
     ghost rising_room: { vec_len circuit.rising ≡ layout.input_count },
     ghost falling_room: { vec_len circuit.falling ≡ layout.input_count },
     ghost cells_room: { vec_len cells ≡ circuit.bits + 16 * vec_len next_words + 2 },
-    ghost marks_room: { vec_len marks ≡ vec_len circuit.gates / 64 + 1 },
     ghost sources_room: { layout.first_wire ≤ circuit.bits },
     ghost earlier_room: { vec_len moments.earlier ≡ moments_size layout },
     ghost next_room: { vec_len moments.next ≡ moments_size layout },
@@ -74,7 +73,7 @@ fn moments_size(layout: &SlotLayout) -> usize
 }
 
 impl<V: Value> Board<V> {
-    ghost use Rattle.vlog_engine.specs.Boards.{IsChangedIn, IsClockedIn, IsIdleIn, IsSettledIn, IsShownIn, Shows, StaysLaidOut, cells_in, input_count};
+    ghost use Rattle.vlog_engine.specs.Boards.{IsChangedIn, IsClockedIn, IsIdleIn, IsSettledIn, IsShownIn, IsTrackedIn, Shows, StaysLaidOut, cells_in, input_count};
     ghost use Rattle.vlog_engine.specs.Waves.{AwaitsWaves, earlier_in, next_in};
     ghost use Rattle.vlog_engine.specs.Triggers.{HasPin, IsCauseOf, step_by};
     ghost use Rattle.std.specs.List.{list_any};
@@ -260,12 +259,15 @@ impl<V: Value> Board<V> {
         ensures same { StaysLaidOut self.old self.new }
         ensures moments { self.new.moments ≡ self.old.moments }
         ensures clocked { (lane : ℕ) → lane < V.LANES → V.at active lane ≡ true → IsClockedIn (step_by cause (earlier_in self.old lane) (cells_in self.old lane)) lane self.old self.new }
+        ensures tracked { (lane : ℕ) → lane < V.LANES → IsTrackedIn self.old lane → IsTrackedIn self.new lane }
         ensures idle { (lane : ℕ) → lane < V.LANES → V.at active lane ≡ false → IsIdleIn lane self.old self.new }
     {
         if is_none(active) {
             return;
         }
         let circuit = &self.circuit;
+        // Read so that the proof knows that this count, which bounds the places of all flip-flops, is a `usize`.
+        let _watched_count = circuit.watched_count;
         let trigger = Trigger {
             cause,
             active,

@@ -1,21 +1,16 @@
 // Changes of cells, all of which are computed before any of them takes effect.
-ghost use Rattle.std.specs.Prelude.{◌≡◌, ◌<◌, ◌≤◌, ◌+◌, ℕ, Bool, List, [], false, fold, length, not, take, true, if◌then◌else◌};
+ghost use Rattle.std.specs.Prelude.{◌≡◌, ◌<◌, ◌≤◌, ◌+◌, ℕ, Bool, List, false, fold, length, not, take, true, if◌then◌else◌};
 ghost use Rattle.vlog_engine.specs.Changes.{change_slot, changed_by, step_in};
 ghost use Rattle.vlog_engine.specs.Lanes.{lane_bits};
 ghost use Rattle.vlog_engine.specs.Marks.{IsRead, IsTracked};
-ghost use Rattle.vlog_engine.specs.StepKinds.{slots_of};
-ghost use Rattle.vlog_engine.specs.Triggers.{step_by};
 ghost use Rattle.vlog_semantics.specs.Run.{is_same_bit};
-ghost use Rattle.vlog_semantics.specs.Steps.{flip_slot, operand_value, operands_value, settle_slot, table_value};
-ghost use Rattle.vlog_semantics.specs.Values.{bit_of};
+ghost use Rattle.vlog_semantics.specs.Steps.{settle_slot};
 ghost use Rattle.vlog_semantics.specs.declared.gates.Gate.{Gate as gate_of};
 
-use crate::edges::{Cause, edge_lanes};
 use crate::marks::write;
-use crate::reading::{cell_at, operand_at};
-use crate::trigger::Trigger;
+use crate::reading::cell_at;
 use crate::value::Value;
-use vlog_semantics::{FlipFlop, Operand, Settle, Table};
+use vlog_semantics::Settle;
 
 /// A value for a cell, in some lanes.
 #[derive(Clone, Copy)]
@@ -47,33 +42,12 @@ pub(crate) fn changed_lanes<V: Value>(active: V, bits: V, old: V) -> V
     both(active, V::select(bits, other, old))
 }
 
-/// In each lane, the bit of a truth table at the index that four operands spell, the lowest bit first.
-fn operands_bit<V: Value>(cells: &[V], ins: &[Operand; 4], table: u16) -> V
-    ensures { (lane : ℕ) → lane < V.LANES → V.at result lane ≡ bit_of table (operands_value (lane_bits V.at lane cells.now) [] ins.now) }
-{
-    let (a, b) = (operand_at(cells, ins[0]), operand_at(cells, ins[1]));
-    let (c, d) = (operand_at(cells, ins[2]), operand_at(cells, ins[3]));
-    V::of_table(table, a, b, c, d)
-}
-
-/// The value of a LUT.
-fn table_at<V: Value>(cells: &[V], table: &Table) -> V
-    ensures { (lane : ℕ) → lane < V.LANES → V.at result lane ≡ table_value (lane_bits V.at lane cells.now) [] table.now }
-{
-    operands_bit(cells, &table.ins, table.word)
-}
-
-/// The next value of a flip-flop's register, if the flip-flop is enabled.
-fn next_value<V: Value>(cells: &[V], flip: &FlipFlop) -> V
-    ensures { (lane : ℕ) → lane < V.LANES → V.at result lane ≡ (if operand_value (lane_bits V.at lane cells.now) [] flip.now.reset then flip.now.set
-        else table_value (lane_bits V.at lane cells.now) [] flip.now.table) }
-{
-    let reset = operand_at(cells, flip.reset);
-    V::select(reset, V::every(flip.set), table_at(cells, &flip.table))
-}
-
 /// Notes a change, if there is one, after the first `count` changes, and returns how many are noted then.
-fn note<V: Value>(changes: &mut [Change<V>], count: usize, change: Option<Change<V>>) -> usize
+pub(crate) fn note<V: Value>(
+    changes: &mut [Change<V>],
+    count: usize,
+    change: Option<Change<V>>,
+) -> usize
     requires { count < length changes.old }
     ensures count { result ≤ count + 1 }
     ensures noted { (lane : ℕ) (next : List Bool) → fold (change_slot V.at lane) next (take result changes.new)
@@ -86,52 +60,6 @@ fn note<V: Value>(changes: &mut [Change<V>], count: usize, change: Option<Change
         }
         None => count,
     }
-}
-
-/// The change that a flip-flop makes in active lanes, if it makes one, in a step of that cause after an earlier moment.
-fn flip_change<V: Value>(
-    flip: &FlipFlop,
-    cause: Cause,
-    active: V,
-    earlier: &[V],
-    cells: &[V],
-) -> Option<Change<V>>
-    ensures { (lane : ℕ) (next : List Bool) → lane < V.LANES
-        → changed_by V.at lane next result ≡ step_in (V.at active lane) (flip_slot (slots_of (step_by cause (lane_bits V.at lane earlier.now) (lane_bits V.at lane cells.now))) (lane_bits V.at lane cells.now) []) next flip.now }
-{
-    let edges = edge_lanes(cause, active, earlier, cells, flip.edge);
-    let lanes = both(edges, operand_at(cells, flip.enable));
-    if is_none(lanes) {
-        return None;
-    }
-    Some(Change {
-        cell: flip.target,
-        lanes,
-        value: next_value(cells, flip),
-    })
-}
-
-/// Notes what the flip-flops of a step change, from the first entry on, and returns how many changes these are.
-pub(crate) fn note_flips<V: Value>(
-    flips: &[FlipFlop],
-    trigger: &Trigger<V>,
-    cells: &[V],
-    changes: &mut [Change<V>],
-) -> usize
-    requires { length flips.now ≤ length changes.old }
-    ensures count { result ≤ length flips.now }
-    ensures noted { (lane : ℕ) (next : List Bool) → lane < V.LANES
-        → fold (change_slot V.at lane) next (take result changes.new)
-        ≡ fold (step_in (V.at trigger.now.active lane) (flip_slot (slots_of (step_by trigger.now.cause (lane_bits V.at lane trigger.now.earlier.now) (lane_bits V.at lane cells.now))) (lane_bits V.at lane cells.now) [])) next flips.now }
-{
-    // Copied out of the trigger, so that the loop asks for the cause once and not at each flip-flop.
-    let (cause, active, earlier) = (trigger.cause, trigger.active, trigger.earlier);
-    let mut count = 0;
-    for flip in flips {
-        let made = flip_change(flip, cause, active, earlier, cells);
-        count = note(changes, count, made);
-    }
-    count
 }
 
 /// The change that an asynchronous set or reset makes in active lanes, if it makes one.

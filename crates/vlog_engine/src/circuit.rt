@@ -1,11 +1,12 @@
 // A module over cells.
-ghost use Rattle.std.specs.Prelude.{◌≡◌, ◌<◌, ◌+◌, ◌*◌, ◌^◌, ℕ, IfOk, length, vec_len};
+ghost use Rattle.std.specs.Prelude.{◌≡◌, ◌<◌, ◌≤◌, ◌+◌, ◌*◌, ◌^◌, ℕ, IfOk, length, vec_len};
 
 use crate::building::{gates_of, outputs_of, settles_of};
 use crate::edges::Cause;
 use crate::groups::{Group, groups_of, waves_of};
 use crate::readers::readers_of;
 use crate::roots::roots_of;
+use crate::watching::{watch_group, watch_groups};
 use std::alloc::{AllocError, Global};
 use vlog_semantics::{Event, Gate, Operand, Settle, SlotLayout};
 
@@ -18,8 +19,10 @@ pub(crate) struct Circuit {
     pub(crate) roots: Vec<usize>,
     /// The wires that aren't aliases, in the order of the text, which is a topological order.
     pub(crate) gates: Vec<Gate>,
-    /// The fan-out of each cell, as indexes of wires; the wire whose cell it is counts too.
+    /// The fan-out of each cell, as indexes of what is watched; the wire whose cell it is counts too.
     pub(crate) readers: Vec<Vec<usize>>,
+    /// How many are watched: the wires, and then the flip-flops of each group.
+    pub(crate) watched_count: usize,
     pub(crate) settles: Vec<Settle>,
     pub(crate) outputs: Vec<Operand>,
     /// What the rising edge of each input runs.
@@ -33,7 +36,7 @@ pub(crate) struct Circuit {
 ghost use Rattle.vlog_engine.specs.Circuits.{AreWaves, IsCircuit};
 
 impl Circuit {
-    ghost use Rattle.vlog_engine.specs.Circuits.{AreWaves, IsCircuit};
+    ghost use Rattle.vlog_engine.specs.Circuits.{AreWaves, IsCircuit, IsWatched, watched};
     ghost use Rattle.vlog_engine.specs.Groups.{IsGroup};
     ghost use Rattle.vlog_engine.specs.StepKinds.Step.{at_event};
     ghost use Rattle.vlog_engine.specs.Triggers.{IsCauseOf, HasPin, step_by};
@@ -44,7 +47,8 @@ impl Circuit {
     pub(crate) fn group(&self, event: Event) -> &Group
         requires rising { event.pin < vec_len self.now.rising }
         requires falling { event.pin < vec_len self.now.falling }
-        ensures { (first bits words : ℕ) (plan : plan_of) → IsCircuit first bits words plan self.now → IsGroup (at_event event) first bits words self.now.roots.items plan result.now }
+        ensures group { (first bits words : ℕ) (plan : plan_of) → IsCircuit first bits words plan self.now → IsGroup (at_event event) first bits words self.now.roots.items plan result.now }
+        ensures watched { (first bits words : ℕ) (plan : plan_of) → IsCircuit first bits words plan self.now → IsWatched (watched self.now) result.now }
     {
         if event.bit {
             &self.rising[event.pin]
@@ -57,8 +61,9 @@ impl Circuit {
     pub(crate) fn group_by(&self, cause: Cause) -> &Group
         requires rising { HasPin (vec_len self.now.rising) cause }
         requires falling { HasPin (vec_len self.now.falling) cause }
-        ensures { (from first bits words : ℕ) (plan : plan_of) (earlier now : List Bool) → IsCircuit first bits words plan self.now → AreWaves from first bits words self.now.roots.items plan self.now.waves
+        ensures group { (from first bits words : ℕ) (plan : plan_of) (earlier now : List Bool) → IsCircuit first bits words plan self.now → AreWaves from first bits words self.now.roots.items plan self.now.waves
             → IsCauseOf from first cause → IsGroup (step_by cause earlier now) first bits words self.now.roots.items plan result.now }
+        ensures watched { (first bits words : ℕ) (plan : plan_of) → IsCircuit first bits words plan self.now → IsWatched (watched self.now) result.now }
     {
         match cause {
             Cause::Event(event) => self.group(event),
@@ -74,7 +79,8 @@ pub(crate) fn circuit_of(
     bits: usize,
     words: usize,
 ) -> Result<Circuit, AllocError>
-    requires { bits + 16 * words + 2 < 2 ^ 64 }
+    requires room { bits + 16 * words + 2 < 2 ^ 64 }
+    requires first { layout.now.first_wire ≤ bits }
     ensures circuit { IfOk result (IsCircuit layout.now.first_wire bits words layout.now.plan) }
     ensures waves { IfOk result (λ circuit. AreWaves layout.now.input_count layout.now.first_wire bits words circuit.roots.items layout.now.plan circuit.waves) }
     ensures rising { IfOk result (λ circuit. length circuit.rising.items ≡ layout.now.input_count) }
@@ -85,17 +91,21 @@ pub(crate) fn circuit_of(
     let (first, pins) = (layout.first_wire, layout.input_count);
     let roots = roots_of(alloc, zero + 2, zero, &plan.gates, &plan.settles)?;
     let gates = gates_of(alloc, &roots, &plan.gates)?;
-    let readers = readers_of(alloc, zero + 2, &gates)?;
+    let mut readers = readers_of(alloc, zero + 2, &gates)?;
     let settles = settles_of(alloc, bits, words, &roots, &plan.settles)?;
     let outputs = outputs_of(alloc, bits, words, &roots, &plan.outputs)?;
-    let rising = groups_of(alloc, pins, true, first, bits, words, &roots, plan)?;
-    let falling = groups_of(alloc, pins, false, first, bits, words, &roots, plan)?;
-    let waves = waves_of(alloc, pins, first, bits, words, &roots, plan)?;
+    let mut rising = groups_of(alloc, pins, true, first, bits, words, &roots, plan)?;
+    let mut falling = groups_of(alloc, pins, false, first, bits, words, &roots, plan)?;
+    let mut waves = waves_of(alloc, pins, first, bits, words, &roots, plan)?;
+    let next = watch_groups(&mut readers, gates.len(), &mut rising)?;
+    let next = watch_groups(&mut readers, next, &mut falling)?;
+    let watched_count = watch_group(&mut readers, next, &mut waves)?;
     Ok(Circuit {
         bits,
         roots,
         gates,
         readers,
+        watched_count,
         settles,
         outputs,
         rising,

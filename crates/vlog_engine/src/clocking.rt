@@ -1,5 +1,7 @@
 // The first half of a step, before wires are computed.
-ghost use Rattle.std.specs.Prelude.{◌≡◌, ◌<◌, ◌≤◌, ◌+◌, ◌*◌, ℕ, Bool, List, length, if◌then◌else◌};
+ghost use Rattle.std.specs.Prelude.{◌≡◌, ◌<◌, ◌≤◌, ◌+◌, ◌*◌, ◌^◌, ℕ, All, Bool, List, length, true, if◌then◌else◌};
+ghost use Rattle.vlog_engine.specs.Circuits.{IsWatched};
+ghost use Rattle.vlog_engine.specs.Flips.{AreApart, IsOver};
 ghost use Rattle.vlog_engine.specs.Lanes.{AreLanes, lane_bits, list_of};
 ghost use Rattle.vlog_engine.specs.Marks.{IsRead, IsTracked};
 ghost use Rattle.vlog_engine.specs.Passing.{IsClocked};
@@ -7,8 +9,9 @@ ghost use Rattle.vlog_engine.specs.StepKinds.{pinned};
 ghost use Rattle.vlog_engine.specs.Triggers.{step_by};
 ghost use Rattle.vlog_semantics.specs.declared.gates.Gate.{Gate as gate_of};
 
-use crate::changes::{Change, commit, note_flips, write_lanes};
+use crate::changes::{Change, commit, write_lanes};
 use crate::edges::Cause;
+use crate::flips::note_flips;
 use crate::storing::store_all;
 use crate::trigger::Trigger;
 use crate::value::Value;
@@ -48,13 +51,18 @@ pub(crate) fn clock<V: Value>(
     requires memories { length memories.old ≡ V.LANES }
     requires written { length trigger.now.group.now.writes.items ≤ length written.old }
     requires changes { length trigger.now.group.now.flips.items ≤ length changes.old }
-    ensures clocked { (lane : ℕ) → lane < V.LANES → IsClocked (V.at trigger.now.active lane) trigger.now.bits (step_by trigger.now.cause (lane_bits V.at lane trigger.now.earlier.now) (lane_bits V.at lane cells.old)) trigger.now.group.now (list_of lane words.old) (list_of lane words.new)
+    requires over { All (IsOver (length cells.old)) trigger.now.group.now.flips.items }
+    requires targets { All (λ flip. flip.target < trigger.now.bits) trigger.now.group.now.flips.items }
+    requires places { trigger.now.group.now.first_place + length trigger.now.group.now.flips.items < 2 ^ 64 }
+    requires apart { trigger.now.group.now.are_apart ≡ true → AreApart trigger.now.group.now.flips.items }
+    ensures clocked { (lane : ℕ) (watched : List gate_of) → lane < V.LANES → IsWatched watched trigger.now.group.now → (V.at trigger.now.active lane ≡ true → IsTracked watched (lane_bits V.at lane cells.old) marks.old)
+        → IsClocked (V.at trigger.now.active lane) trigger.now.bits (step_by trigger.now.cause (lane_bits V.at lane trigger.now.earlier.now) (lane_bits V.at lane cells.old)) trigger.now.group.now (list_of lane words.old) (list_of lane words.new)
         (list_of lane memories.old) (list_of lane memories.new) (lane_bits V.at lane cells.old) (lane_bits V.at lane cells.new) }
     ensures lanes { AreLanes V.LANES (length next_words.old) words.new }
-    ensures tracked { (lane : ℕ) (gates : List gate_of) → IsRead gates trigger.now.readers.now → IsTracked gates (lane_bits V.at lane cells.old) marks.old
-        → IsTracked gates (lane_bits V.at lane cells.new) marks.new }
+    ensures tracked { (lane : ℕ) (watched : List gate_of) → lane < V.LANES → IsWatched watched trigger.now.group.now → IsRead watched trigger.now.readers.now
+        → IsTracked watched (lane_bits V.at lane cells.old) marks.old → IsTracked watched (lane_bits V.at lane cells.new) marks.new }
 {
-    let count = note_flips(&trigger.group.flips, trigger, cells, changes);
+    let count = note_flips(trigger, cells, marks, changes);
     store_all(trigger, cells, marks, words, next_words, memories, written);
     commit(trigger.readers, &changes[..count], cells, marks);
     pin(trigger, cells, marks);

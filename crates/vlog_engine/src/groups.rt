@@ -7,6 +7,7 @@ ghost use Rattle.vlog_engine.specs.StepKinds.Step.{at_event, at_wave};
 ghost use Rattle.vlog_engine.specs.declared.groups.Group.{Group as group_of};
 ghost use Rattle.vlog_semantics.specs.declared.event.Event.{Event as any_event};
 
+use crate::flips::{Flip, push_flip};
 use crate::resolved::{resolved_flip, resolved_read, resolved_write};
 use std::alloc::{AllocError, Global};
 use vlog_semantics::{Event, FlipFlop, Plan, Read, Write, is_edge_of};
@@ -14,7 +15,11 @@ use vlog_semantics::{Event, FlipFlop, Plan, Read, Write, is_edge_of};
 /// The clocked items that are sensitive to an event, over cells.
 #[derive(Drop)]
 pub(crate) struct Group {
-    pub(crate) flips: Vec<FlipFlop>,
+    /// Where the flip-flops are watched: the index of the first one.
+    pub(crate) first_place: usize,
+    /// Whether the registers of the flip-flops rise, so that no two are the same.
+    pub(crate) are_apart: bool,
+    pub(crate) flips: Vec<Flip>,
     pub(crate) reads: Vec<Read>,
     pub(crate) writes: Vec<Write>,
 }
@@ -110,7 +115,7 @@ impl Clocked for FlipFlop {
         roots: &[usize],
     ) -> Result<(), AllocError> {
         if is_edge_of(event, self.edge) && self.target < first {
-            group.flips.push(resolved_flip(bits, words, roots, self))?;
+            push_flip(&mut group.flips, resolved_flip(bits, words, roots, self))?;
         }
         Ok(())
     }
@@ -127,7 +132,7 @@ impl Clocked for FlipFlop {
         roots: &[usize],
     ) -> Result<(), AllocError> {
         if is_between(from, end, self.edge.clock) && self.target < end {
-            group.flips.push(resolved_flip(bits, words, roots, self))?;
+            push_flip(&mut group.flips, resolved_flip(bits, words, roots, self))?;
         }
         Ok(())
     }
@@ -271,11 +276,13 @@ fn add_waves<T: Clocked>(
     Ok(())
 }
 
-/// An empty group. It takes no memory for items yet.
+/// An empty group, which isn't watched yet. It takes no memory for items yet.
 fn empty_group(alloc: Global) -> Group
     ensures { IsEmpty result }
 {
     Group {
+        first_place: 0,
+        are_apart: false,
         flips: Vec::new(alloc),
         reads: Vec::new(alloc),
         writes: Vec::new(alloc),

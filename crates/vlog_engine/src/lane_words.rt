@@ -1,5 +1,6 @@
 // Words that are bit-parallel lanes: one bit for each of sixty-four lanes.
 ghost use Rattle.std.specs.Prelude.{◌≡◌, ◌<◌, ◌≤◌, ◌+◌, ◌==◌, ℕ, [], ◌∷◌, if◌then◌else◌};
+ghost use Rattle.vlog_engine.specs.Lanes.{AreChoices};
 ghost use Rattle.vlog_semantics.specs.Values.{bit_of, number_of};
 
 /// The bit of a lane; lanes count from 0.
@@ -40,41 +41,50 @@ pub(crate) fn with_bit(word: u64, lane: u32, bit: bool) -> u64
     one_of(only(lane), every(bit), word)
 }
 
-/// Bit `k` of a truth table.
-fn bit_of(table: u16, k: u32) -> bool
-    requires { k < 16 }
-    ensures { result ≡ bit_of table k }
+/// In each lane, what the two bits of a truth table that a bit chooses from may make of it: 0, the other bit, the bit itself, 1. The index
+/// has the bit for 0 as its lower bit, and the bit for 1 as its higher one.
+fn choices_of(a: u64) -> [u64; 4]
+    ensures { AreChoices a result }
 {
-    (table >> k) & 1 == 1
+    [every(false), one_of(a, 0, u64::MAX), a, every(true)]
 }
 
 /// In each lane, one of two bits of a truth table, from `k` on.
-fn of_two(table: u16, k: u32, a: u64) -> u64
+fn of_two(choices: &[u64; 4], table: u16, k: u32) -> u64
     requires { k + 2 ≤ 16 }
-    ensures { (lane : ℕ) → lane < 64 → bit_of result lane ≡ bit_of table (k + number_of (bit_of a lane ∷ [])) }
+    ensures { (a lane : ℕ) → AreChoices a choices.now → lane < 64 → bit_of result lane ≡ bit_of table (k + number_of (bit_of a lane ∷ [])) }
 {
-    one_of(a, every(bit_of(table, k + 1)), every(bit_of(table, k)))
+    choices[usize::from((table >> k) % 4)]
 }
 
 /// In each lane, one of four bits of a truth table, from `k` on.
-fn of_four(table: u16, k: u32, a: u64, b: u64) -> u64
+fn of_four(choices: &[u64; 4], table: u16, k: u32, b: u64) -> u64
     requires { k + 4 ≤ 16 }
-    ensures { (lane : ℕ) → lane < 64 → bit_of result lane ≡ bit_of table (k + number_of (bit_of a lane ∷ bit_of b lane ∷ [])) }
+    ensures { (a lane : ℕ) → AreChoices a choices.now → lane < 64 → bit_of result lane ≡ bit_of table (k + number_of (bit_of a lane ∷ bit_of b lane ∷ [])) }
 {
-    one_of(b, of_two(table, k + 2, a), of_two(table, k, a))
+    one_of(b, of_two(choices, table, k + 2), of_two(choices, table, k))
 }
 
 /// In each lane, one of eight bits of a truth table, from `k` on.
-fn of_eight(table: u16, k: u32, a: u64, b: u64, c: u64) -> u64
+fn of_eight(choices: &[u64; 4], table: u16, k: u32, b: u64, c: u64) -> u64
     requires { k + 8 ≤ 16 }
-    ensures { (lane : ℕ) → lane < 64 → bit_of result lane ≡ bit_of table (k + number_of (bit_of a lane ∷ bit_of b lane ∷ bit_of c lane ∷ [])) }
+    ensures { (a lane : ℕ) → AreChoices a choices.now → lane < 64 → bit_of result lane ≡ bit_of table (k + number_of (bit_of a lane ∷ bit_of b lane ∷ bit_of c lane ∷ [])) }
 {
-    one_of(c, of_four(table, k + 4, a, b), of_four(table, k, a, b))
+    one_of(
+        c,
+        of_four(choices, table, k + 4, b),
+        of_four(choices, table, k, b),
+    )
 }
 
 /// In each lane, the bit of a truth table at the index that four bits spell, the lowest bit first.
 pub(crate) fn of_table(table: u16, a: u64, b: u64, c: u64, d: u64) -> u64
     ensures { (lane : ℕ) → lane < 64 → bit_of result lane ≡ bit_of table (number_of (bit_of a lane ∷ bit_of b lane ∷ bit_of c lane ∷ bit_of d lane ∷ [])) }
 {
-    one_of(d, of_eight(table, 8, a, b, c), of_eight(table, 0, a, b, c))
+    let choices = choices_of(a);
+    one_of(
+        d,
+        of_eight(&choices, table, 8, b, c),
+        of_eight(&choices, table, 0, b, c),
+    )
 }

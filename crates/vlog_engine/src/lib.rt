@@ -10,6 +10,7 @@ mod changes;
 mod circuit;
 mod clocking;
 mod edges;
+mod flips;
 mod groups;
 mod lane_words;
 mod marks;
@@ -27,6 +28,7 @@ mod storing;
 mod sweep;
 mod trigger;
 mod value;
+mod watching;
 
 pub use board::Board;
 pub use value::Value;

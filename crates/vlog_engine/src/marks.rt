@@ -21,8 +21,28 @@ pub(crate) fn set_mark(marks: &mut [u64], place: usize, mark: bool)
     }
 }
 
+/// Sets or clears the mark of a wire, if there is such a wire. Most marks are cleared, which takes less time.
+pub(crate) fn leave_mark(marks: &mut [u64], place: usize, mark: bool)
+    ensures own { place < 64 * length marks.old → is_marked marks.new place ≡ mark }
+    ensures others { (other : ℕ) → other ≢ place → is_marked marks.new other ≡ is_marked marks.old other }
+{
+    if mark {
+        set_mark(marks, place, true);
+    } else {
+        set_mark(marks, place, false);
+    }
+}
+
+/// Clears the mark of a wire, if there is such a wire.
+pub(crate) fn clear_mark(marks: &mut [u64], place: usize)
+    ensures own { place < 64 * length marks.old → is_marked marks.new place ≡ false }
+    ensures others { (other : ℕ) → other ≢ place → is_marked marks.new other ≡ is_marked marks.old other }
+{
+    set_mark(marks, place, false);
+}
+
 /// The index of the first 1 in a word from this bit on, and 64 if there is none; bit 0 is the lowest.
-pub(crate) fn next_one(word: u64, from: u32) -> u32
+fn next_one(word: u64, from: u32) -> u32
     requires { from ≤ 64 }
     ensures past { from ≤ result }
     ensures last { result ≤ 64 }
@@ -35,6 +55,48 @@ pub(crate) fn next_one(word: u64, from: u32) -> u32
     } else {
         from + left.trailing_zeros()
     }
+}
+
+/// A word of marks, and 0 past the last word.
+fn word_at(marks: &[u64], block: usize) -> u64
+    ensures { result ≡ get_or marks.now block 0 }
+{
+    if block < marks.len() { marks[block] } else { 0 }
+}
+
+/// The first word with a mark from one on and before `end`, and `end` if there is none.
+fn next_block(marks: &[u64], from: usize, end: usize) -> usize
+    requires { from ≤ end }
+    ensures past { from ≤ result }
+    ensures last { result ≤ end }
+    ensures none { (block : ℕ) → from ≤ block → block < result → get_or marks.now block 0 ≡ 0 }
+{
+    let mut block = from;
+    while block < end && word_at(marks, block) == 0 {
+        block += 1;
+    }
+    block
+}
+
+/// The first wire with a mark from one on and before `end`, and `end` if there is none.
+pub(crate) fn next_marked(marks: &[u64], from: usize, end: usize) -> usize
+    requires { from ≤ end }
+    ensures past { from ≤ result }
+    ensures last { result ≤ end }
+    ensures none { (place : ℕ) → from ≤ place → place < result → is_marked marks.now place ≡ false }
+{
+    let block = from / 64;
+    let found = next_one(word_at(marks, block), (from % 64) as u32);
+    if found < 64 {
+        return end.min(64 * block + found as usize);
+    }
+    let next = next_block(marks, block + 1, end / 64 + 1);
+    if next > end / 64 {
+        return end;
+    }
+    let first = 64 * next;
+    let found = next_one(word_at(marks, next), 0);
+    first + (end - first).min(found as usize)
 }
 
 /// Marks these wires.

@@ -1,5 +1,5 @@
 // The fan-out of cells: for each cell, the wires that read it, and the wire whose cell it is.
-ghost use Rattle.std.specs.Prelude.{◌≡◌, [], IfOk, OnOk, fold, replicate};
+ghost use Rattle.std.specs.Prelude.{◌≡◌, [], IfOk, OnOk, fold, length, replicate};
 ghost use Rattle.vlog_engine.specs.Marks.{AreWithin, IsRead, lists_of, with_gate, with_reader};
 
 use std::alloc::{AllocError, Global};
@@ -17,7 +17,11 @@ fn no_readers(alloc: Global, count: usize) -> Result<Vec<Vec<usize>>, AllocError
 }
 
 /// Adds a wire to the list of a cell.
-fn add_reader(readers: &mut Vec<Vec<usize>>, cell: usize, place: usize) -> Result<(), AllocError>
+pub(crate) fn add_reader(
+    readers: &mut Vec<Vec<usize>>,
+    cell: usize,
+    place: usize,
+) -> Result<(), AllocError>
     ensures { OnOk result (lists_of readers.new.items ≡ with_reader place (lists_of readers.old.items) cell) }
 {
     if cell < readers.len() {
@@ -54,7 +58,8 @@ pub(crate) fn readers_of(
     count: usize,
     gates: &[Gate],
 ) -> Result<Vec<Vec<usize>>, AllocError>
-    ensures { IfOk result (λ readers. AreWithin count gates.now → IsRead gates.now readers.items) }
+    ensures count { IfOk result (λ readers. length readers.items ≡ count) }
+    ensures read { IfOk result (λ readers. AreWithin count gates.now → IsRead gates.now readers.items) }
 {
     let mut readers = no_readers(alloc, count)?;
     for (place, gate) in gates.iter().enumerate() {

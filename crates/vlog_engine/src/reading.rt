@@ -18,6 +18,14 @@ pub(crate) fn cell_at<V: Value>(cells: &[V], cell: usize) -> V
     }
 }
 
+/// The value of a cell.
+pub(crate) fn value_at<V: Value>(cells: &[V], cell: usize) -> V
+    requires { cell < length cells.now }
+    ensures { (lane : ℕ) → lane < V.LANES → V.at result lane ≡ get_or (lane_bits V.at lane cells.now) cell false }
+{
+    cells[cell]
+}
+
 /// Sets the value of a cell, if there is such a cell.
 pub(crate) fn set_cell<V: Value>(cells: &mut [V], cell: usize, value: V)
     ensures { cells.new ≡ slice_set cells.old cell value }

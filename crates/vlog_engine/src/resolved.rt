@@ -1,11 +1,12 @@
 // Items over cells: each operand is a cell that is no alias. There are `bits` names of one bit and `words` registers of 16 bits.
 ghost use Rattle.std.specs.Prelude.{◌≡◌, ◌<◌, ◌+◌, ◌*◌, ◌^◌, IfOk, map};
-ghost use Rattle.vlog_engine.specs.Resolved.{cell_of, resolved, resolved_field, resolved_flip, resolved_gate, resolved_kept, resolved_port, resolved_read, resolved_settle, resolved_table, resolved_taken, resolved_write};
+ghost use Rattle.vlog_engine.specs.Flips.{flip_flop};
+ghost use Rattle.vlog_engine.specs.Resolved.{cell_of, resolved, resolved_field, resolved_flip, resolved_gate, resolved_kept, resolved_port, resolved_read, resolved_settle, resolved_taken, resolved_write};
 
+use crate::flips::Flip;
 use crate::roots::root;
 use vlog_semantics::{
-    Field, FlipFlop, Gate, Kept, MemoryPort, Operand, Read, Settle, Table, Taken, Write,
-    operand_cell,
+    Field, FlipFlop, Gate, Kept, MemoryPort, Operand, Read, Settle, Taken, Write, operand_cell,
 };
 
 /// The cell of an operand: the root of its own cell.
@@ -41,29 +42,23 @@ fn resolved_all<const N: usize>(
     cells
 }
 
-/// A LUT over cells.
-fn resolved_table(bits: usize, words: usize, roots: &[usize], table: &Table) -> Table
-    requires { bits + 16 * words + 2 < 2 ^ 64 }
-    ensures { result ≡ resolved_table bits words roots.now table.now }
-{
-    Table {
-        word: table.word,
-        ins: resolved_all(bits, words, roots, &table.ins),
-    }
-}
-
 /// A flip-flop over cells.
-pub(crate) fn resolved_flip(bits: usize, words: usize, roots: &[usize], flip: &FlipFlop) -> FlipFlop
+pub(crate) fn resolved_flip(bits: usize, words: usize, roots: &[usize], flip: &FlipFlop) -> Flip
     requires { bits + 16 * words + 2 < 2 ^ 64 }
-    ensures { result ≡ resolved_flip bits words roots.now flip.now }
+    ensures { flip_flop result ≡ resolved_flip bits words roots.now flip.now }
 {
-    FlipFlop {
+    let [a, b, c, d] = flip.table.ins;
+    Flip {
         edge: flip.edge,
-        enable: resolved(bits, words, roots, flip.enable),
-        reset: resolved(bits, words, roots, flip.reset),
+        enable: cell_of(bits, words, roots, flip.enable),
+        reset: cell_of(bits, words, roots, flip.reset),
         set: flip.set,
         target: flip.target,
-        table: resolved_table(bits, words, roots, &flip.table),
+        table: flip.table.word,
+        a: cell_of(bits, words, roots, a),
+        b: cell_of(bits, words, roots, b),
+        c: cell_of(bits, words, roots, c),
+        d: cell_of(bits, words, roots, d),
     }
 }
 

@@ -1,5 +1,5 @@
 // The cells at the start, which are the same in all lanes, and room for what an event changes.
-ghost use Rattle.std.specs.Prelude.{◌≡◌, ◌<◌, ◌≤◌, ◌+◌, ◌*◌, ◌/◌, ℕ, IfOk, false, get_or, length, map, replicate, true};
+ghost use Rattle.std.specs.Prelude.{◌≡◌, ◌<◌, ◌≤◌, ◌+◌, ◌*◌, ℕ, IfOk, false, get_or, length, map, replicate, true};
 ghost use Rattle.vlog_engine.specs.Lanes.{lane_bits};
 ghost use Rattle.vlog_engine.specs.Marks.{AreRising, IsRead, is_marked};
 ghost use Rattle.vlog_engine.specs.Passing.{IsSettled};
@@ -35,6 +35,7 @@ pub(crate) struct Started<V: Value> {
     pub(crate) written: Vec<Option<Written>>,
 }
 
+ghost use Rattle.vlog_engine.specs.Circuits.{watched};
 ghost use Rattle.vlog_engine.specs.Starting.{AreStarted, IsStarted};
 
 /// A copy of a list for each lane.
@@ -105,18 +106,18 @@ fn changes_room<V: Value>(
     vec![in alloc; none; flips.max(settles)]
 }
 
-/// Computes all wires, which are all marked.
+/// Computes all wires. All that is watched is marked.
 fn settle_first<V: Value>(
     circuit: &Circuit,
     cells: &mut [V],
     marks: &mut [u64],
     changes: &mut [Change<V>],
 )
-    requires room { length marks.old ≡ length circuit.now.gates.items / 64 + 1 }
+    requires room { length (watched circuit.now) ≤ 64 * length marks.old }
     requires marks { (place : ℕ) → place < 64 * length marks.old → is_marked marks.old place ≡ true }
     requires changes { length circuit.now.settles.items ≤ length changes.old }
-    ensures { (lane first count : ℕ) → lane < V.LANES → AreRising first count circuit.now.gates.items → IsRead circuit.now.gates.items circuit.now.readers.items → count ≤ length cells.old
-        → IsSettled true first count circuit.now.gates.items circuit.now.settles.items (lane_bits V.at lane cells.old) (lane_bits V.at lane cells.new) marks.new }
+    ensures { (lane first count : ℕ) → lane < V.LANES → AreRising first count circuit.now.gates.items → IsRead (watched circuit.now) circuit.now.readers.items → count ≤ length cells.old
+        → IsSettled true first count circuit.now.gates.items (watched circuit.now) circuit.now.settles.items (lane_bits V.at lane cells.old) (lane_bits V.at lane cells.new) marks.new }
 {
     settle(circuit, V::every(true), cells, marks, changes);
 }
@@ -129,13 +130,14 @@ pub(crate) fn wires_of<V: Value>(
     words: &[u16],
     room: Vec<bool>,
 ) -> Result<Wires<V>, AllocError>
-    requires { length room.items ≡ length bits.now + 16 * length words.now + 2 }
+    requires room { length room.items ≡ length bits.now + 16 * length words.now + 2 }
+    requires first { layout.now.first_wire ≤ length bits.now }
     ensures started { IfOk result (IsStarted V.LANES V.at layout.now bits.now words.now) }
     ensures sixteen_bits { IfOk result (λ wires. (place : ℕ) → get_or words.now place 0 < 65536) }
 {
     let circuit = circuit_of(alloc, layout, bits.len(), words.len())?;
     let mut cells = first_cells(alloc, bits, words, room)?;
-    let mut marks = marks_of(alloc, circuit.gates.len())?;
+    let mut marks = marks_of(alloc, circuit.watched_count)?;
     let mut changes = changes_room(alloc, layout.plan.flips.len(), layout.plan.settles.len())?;
     settle_first(&circuit, &mut cells, &mut marks, &mut changes);
     Ok(Wires {
@@ -155,7 +157,8 @@ pub(crate) fn started_of<V: Value>(
     memories: &[Memory],
     room: Vec<bool>,
 ) -> Result<Started<V>, AllocError>
-    requires { length room.items ≡ length bits.now + 16 * length words.now + 2 }
+    requires room { length room.items ≡ length bits.now + 16 * length words.now + 2 }
+    requires first { layout.now.first_wire ≤ length bits.now }
     ensures { IfOk result (AreStarted V.LANES V.at layout.now bits.now words.now memories.now) }
 {
     let wires = wires_of(alloc, layout, bits, words, room)?;

@@ -1,11 +1,12 @@
 // Computes marked wires, in the order of the text.
-ghost use Rattle.std.specs.Prelude.{◌≡◌, ◌<◌, ◌≤◌, ◌+◌, ◌*◌, ◌/◌, ℕ, false, length, map};
+ghost use Rattle.std.specs.Prelude.{◌≡◌, ◌<◌, ◌≤◌, ◌+◌, ℕ, List, false, length, map};
 ghost use Rattle.vlog_engine.specs.Lanes.{lane_bits};
-ghost use Rattle.vlog_engine.specs.Marks.{AreRising, IsRead, IsSwept, IsTracked, StaySources};
+ghost use Rattle.vlog_engine.specs.Marks.{AreFirst, AreRising, IsRead, IsSwept, IsTracked, StaySources};
 ghost use Rattle.vlog_semantics.specs.Cells.{cell_at, gate_value};
 ghost use Rattle.vlog_semantics.specs.Values.{bit_of, number_of};
+ghost use Rattle.vlog_semantics.specs.declared.gates.Gate.{Gate as gate_of};
 
-use crate::marks::{next_one, set_mark, write};
+use crate::marks::{leave_mark, next_marked, write};
 use crate::reading::cell_at;
 use crate::value::Value;
 use vlog_semantics::Gate;
@@ -26,7 +27,7 @@ fn gate_value<V: Value>(cells: &[V], gate: &Gate) -> V
     cells_value(cells, &gate.ins, gate.table)
 }
 
-/// Computes a wire in active lanes. It stays marked if it is out of date in another lane. Past the last wire there are no marks.
+/// Computes a wire in active lanes. It stays marked if it is out of date in another lane.
 fn run_gate<V: Value>(
     gates: &[Gate],
     readers: &[Vec<usize>],
@@ -35,55 +36,22 @@ fn run_gate<V: Value>(
     cells: &mut [V],
     marks: &mut [u64],
 )
-    ensures swept { (lane first count : ℕ) → lane < V.LANES → AreRising first count gates.now → IsRead gates.now readers.now → count ≤ length cells.old
-        → IsSwept (V.at active lane) gates.now place (lane_bits V.at lane cells.old) marks.old
-        → IsSwept (V.at active lane) gates.now (place + 1) (lane_bits V.at lane cells.new) marks.new }
+    requires { place < length gates.now }
+    ensures swept { (lane first count : ℕ) (watched : List gate_of) → lane < V.LANES → AreRising first count gates.now → AreFirst gates.now watched → IsRead watched readers.now → count ≤ length cells.old
+        → IsSwept (V.at active lane) gates.now watched place (lane_bits V.at lane cells.old) marks.old
+        → IsSwept (V.at active lane) gates.now watched (place + 1) (lane_bits V.at lane cells.new) marks.new }
     ensures same { (lane first count : ℕ) → AreRising first count gates.now → StaySources first count (lane_bits V.at lane cells.old) (lane_bits V.at lane cells.new) }
     ensures idle { (lane : ℕ) → lane < V.LANES → V.at active lane ≡ false → lane_bits V.at lane cells.new ≡ lane_bits V.at lane cells.old }
 {
-    if place < gates.len() {
-        let gate = &gates[place];
-        let value = gate_value(cells, gate);
-        let kept = V::select(active, value, cell_at(cells, gate.slot));
-        write(readers, gate.slot, kept, cells, marks);
-        set_mark(marks, place, kept.differs(value));
-    } else {
-        set_mark(marks, place, false);
-    }
+    let gate = &gates[place];
+    let value = gate_value(cells, gate);
+    let kept = V::select(active, value, cell_at(cells, gate.slot));
+    write(readers, gate.slot, kept, cells, marks);
+    leave_mark(marks, place, kept.differs(value));
 }
 
-/// Computes the marked wires of a block of 64 wires, in active lanes.
-fn run_block<V: Value>(
-    gates: &[Gate],
-    readers: &[Vec<usize>],
-    block: usize,
-    active: V,
-    cells: &mut [V],
-    marks: &mut [u64],
-)
-    requires within { block < length marks.old }
-    requires room { length marks.old ≡ length gates.now / 64 + 1 }
-    ensures swept { (lane first count : ℕ) → lane < V.LANES → AreRising first count gates.now → IsRead gates.now readers.now → count ≤ length cells.old
-        → IsSwept (V.at active lane) gates.now (64 * block) (lane_bits V.at lane cells.old) marks.old
-        → IsSwept (V.at active lane) gates.now (64 * block + 64) (lane_bits V.at lane cells.new) marks.new }
-    ensures same { (lane first count : ℕ) → AreRising first count gates.now → StaySources first count (lane_bits V.at lane cells.old) (lane_bits V.at lane cells.new) }
-    ensures idle { (lane : ℕ) → lane < V.LANES → V.at active lane ≡ false → lane_bits V.at lane cells.new ≡ lane_bits V.at lane cells.old }
-{
-    let mut k = next_one(marks[block], 0);
-    while k < 64 {
-        run_gate(
-            gates,
-            readers,
-            64 * block + k as usize,
-            active,
-            cells,
-            marks,
-        );
-        k = next_one(marks[block], k + 1);
-    }
-}
-
-/// Computes the marked wires in active lanes, in the order of the text, which is a topological order.
+/// Computes the marked wires in active lanes, in the order of the text, which is a topological order. What is watched besides the wires keeps
+/// its marks.
 pub(crate) fn run_gates<V: Value>(
     gates: &[Gate],
     readers: &[Vec<usize>],
@@ -91,14 +59,16 @@ pub(crate) fn run_gates<V: Value>(
     cells: &mut [V],
     marks: &mut [u64],
 )
-    requires { length marks.old ≡ length gates.now / 64 + 1 }
-    ensures swept { (lane first count : ℕ) → lane < V.LANES → AreRising first count gates.now → IsRead gates.now readers.now → count ≤ length cells.old
-        → IsTracked gates.now (lane_bits V.at lane cells.old) marks.old
-        → IsSwept (V.at active lane) gates.now (length gates.now) (lane_bits V.at lane cells.new) marks.new }
+    ensures swept { (lane first count : ℕ) (watched : List gate_of) → lane < V.LANES → AreRising first count gates.now → AreFirst gates.now watched → IsRead watched readers.now → count ≤ length cells.old
+        → IsTracked watched (lane_bits V.at lane cells.old) marks.old
+        → IsSwept (V.at active lane) gates.now watched (length gates.now) (lane_bits V.at lane cells.new) marks.new }
     ensures same { (lane first count : ℕ) → AreRising first count gates.now → StaySources first count (lane_bits V.at lane cells.old) (lane_bits V.at lane cells.new) }
     ensures idle { (lane : ℕ) → lane < V.LANES → V.at active lane ≡ false → lane_bits V.at lane cells.new ≡ lane_bits V.at lane cells.old }
 {
-    for block in 0..marks.len() {
-        run_block(gates, readers, block, active, cells, marks);
+    let end = gates.len();
+    let mut place = next_marked(marks, 0, end);
+    while place < end {
+        run_gate(gates, readers, place, active, cells, marks);
+        place = next_marked(marks, place + 1, end);
     }
 }

@@ -60,6 +60,7 @@ returns-clause-changed g c lane within on =
           let falling_on = c.select.ensures lane within ∙ ap (λ k. cond k (at c.every.result lane) (at c.args.changed lane)) falls ∙ on in
           subst (λ k. IsChangedIn (at_event (record { pin = pin; bit = k })) lane a c.show.new.self) (sym falls)
           (changed-in (at_event (record { pin = pin; bit = false })) lane (at c.args.changed lane) (at c.args.changed lane) a d e c.show.new.self two c.settle.ensures.same
-          (idle-then-clocked (at_event (record { pin = pin; bit = false })) lane a b d c.clock.ensures.same (c.clock.ensures.idle lane within rising_off) (c.clock-2.ensures.clocked lane within falling_on))
+          (idle-then-clocked (at_event (record { pin = pin; bit = false })) lane a b d c.clock.ensures.same (c.clock.ensures.idle lane within rising_off)
+          (c.clock.ensures.tracked lane within) (c.clock-2.ensures.clocked lane within falling_on))
           (c.settle.ensures.settled lane within) on (c.show.ensures.shown lane within) on)
     ]

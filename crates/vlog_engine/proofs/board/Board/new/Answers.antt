@@ -1,4 +1,4 @@
-use Rattle.std.proofs.Common.{◌+◌, ◌++◌, ◌/◌, ℕ, Bool, List, ap, arith, length, length-append, subst, sym, ◌∙◌}
+use Rattle.std.proofs.Common.{◌++◌, ℕ, Bool, List, ap, arith, length, length-append, subst, sym, ◌∙◌}
 use Rattle.vlog_semantics.specs.ModuleSlots.{register_names, wire_names}
 use Rattle.vlog_semantics.specs.Run.{input_names}
 use Rattle.vlog_semantics.proofs.Showing.{start-bits}
@@ -17,13 +17,25 @@ returns g c lane within =
     let here = first-lane g.V.Value.LANES g.V.Value.at m first begins c.deref.result.now c.deref-2.result.now c.deref-3.result.now made known c.deref.ensures.value c.deref-2.ensures.value c.deref-3.ensures.value lane within in
     record { within = within; whole = c.items.ensures.well_formed; laid_out = begins.laid_out; bit_count = here.bit_count; cells = here.cells; shown = here.shown; tracked = here.tracked }
 
-pub started_of-requires : goal.started_of-requires
-started_of-requires g c =
+pub started_of-requires-clause-room : goal.started_of-requires-clause-room
+started_of-requires-clause-room g c =
     omega (
       arith,
       c.in_ok-start.ensures.cells,
       ap (λ (list : List Bool). length list) c.deref.ensures.value,
       ap (λ (list : List ℕ). length list) c.deref-2.ensures.value,
+    )
+
+pub started_of-requires-clause-first : goal.started_of-requires-clause-first
+started_of-requires-clause-first g c =
+    let m = c.args.module.now in
+    let begins = c.in_ok-start.ensures in
+    omega (
+      arith,
+      begins.laid_out.first_wire,
+      length-append (input_names m.ports ++ register_names m.items) (wire_names m.items),
+      start-bits m c.in_ok-start.start.bits.items begins.bits,
+      ap (λ (list : List Bool). length list) c.deref.ensures.value,
     )
 
 pub invariant_of-result-clause-circuit_is : goal.invariant_of-result-clause-circuit_is
@@ -49,11 +61,6 @@ invariant_of-result-clause-cells_room g c =
     let words = c.in_ok-start.start.words in
     cells-room (length c.deref.result.now) (length c.deref-2.result.now) (length wires.cells.items) wires.cells.len wires.circuit.bits words.len (length words.items)
     known.cells_room known.circuit.bits_are wires.cells.ok.0 words.ok.0 (ap (λ (list : List ℕ). length list) c.deref-2.ensures.value)
-
-pub invariant_of-result-clause-marks_room : goal.invariant_of-result-clause-marks_room
-invariant_of-result-clause-marks_room g c =
-    let wires = c.in_ok-started.started.wires in
-    wires.marks.ok.0 ∙ c.in_ok-started.ensures.wires.marks_room ∙ ap (λ n. n / 64 + 1) (sym wires.circuit.gates.ok.0)
 
 pub invariant_of-result-clause-lanes : goal.invariant_of-result-clause-lanes
 invariant_of-result-clause-lanes g c =

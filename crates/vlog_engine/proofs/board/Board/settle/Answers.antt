@@ -1,10 +1,12 @@
 use Rattle.std.proofs.Common.{ℕ, List, ap, arith, length, refl, subst, sym, ◌∙◌}
 use Rattle.std.proofs.lemmas.List.{with_items_is}
 use Rattle.std.specs.Vec.{with_items}
+use Rattle.vlog_engine.specs.Circuits.{watched}
 use Rattle.vlog_engine.specs.Lanes.{lane_bits}
 use Rattle.vlog_engine.specs.Marks.{IsTracked}
 use Rattle.vlog_engine.specs.Passing.{IsSettled}
 use Rattle.vlog_engine.proofs.Lanes.{lane-length}
+use Rattle.vlog_engine.proofs.Watched.{wires-first}
 use Rattle.vlog_engine.proofs.board.Board.settle.Goals as goal
 
 pub returns-clause-same : goal.returns-clause-same
@@ -28,10 +30,10 @@ returns-clause-settled g c lane within =
       outputs = refl;
       idle = λ off. ap (lane_bits at lane) new_cells ∙ c.settle.ensures.idle lane within off ∙ before_is;
       settled = λ first count rising room tracked.
-          subst (λ k. IsSettled active first count gates settles k (lane_bits at lane last_cells.items) last_marks.items) before_is
-          (subst (λ k. IsSettled active first count gates settles (lane_bits at lane c.deref_mut.result.now) k last_marks.items) (sym (ap (lane_bits at lane) new_cells))
-          (subst (IsSettled active first count gates settles (lane_bits at lane c.deref_mut.result.now) (lane_bits at lane c.settle.new.cells)) (sym new_marks)
-          (c.settle.ensures.settled lane first count within rising r.circuit_is.read (omega (arith, room, lane-length at lane r.cells.items, ap length c.deref_mut.ensures.value))
-          (subst (λ k. IsTracked gates k c.deref_mut-2.result.now) (sym before_is)
-          (subst (IsTracked gates (lane_bits at lane r.cells.items)) (sym c.deref_mut-2.ensures.value) tracked)))));
+          subst (λ k. IsSettled active first count gates (watched r.circuit) settles k (lane_bits at lane last_cells.items) last_marks.items) before_is
+          (subst (λ k. IsSettled active first count gates (watched r.circuit) settles (lane_bits at lane c.deref_mut.result.now) k last_marks.items) (sym (ap (lane_bits at lane) new_cells))
+          (subst (IsSettled active first count gates (watched r.circuit) settles (lane_bits at lane c.deref_mut.result.now) (lane_bits at lane c.settle.new.cells)) (sym new_marks)
+          (c.settle.ensures.settled lane first count (watched r.circuit) within rising (wires-first r.circuit) r.circuit_is.read (omega (arith, room, lane-length at lane r.cells.items, ap length c.deref_mut.ensures.value))
+          (subst (λ k. IsTracked (watched r.circuit) k c.deref_mut-2.result.now) (sym before_is)
+          (subst (IsTracked (watched r.circuit) (lane_bits at lane r.cells.items)) (sym c.deref_mut-2.ensures.value) tracked)))));
     }

@@ -73,11 +73,13 @@ With --all-pins an output of a PLL that is used is an input of the module after
 all pins: pll_X_Y_a, pll_X_Y_b, pll_X_Y_lock or pll_X_Y_sdo. It may be a clock.
 What the PLL makes of its reference isn't in the module: events say it.
 
-A LUT uses an input where two of its entries differ whose numbers differ in the
-bit of that input alone: another input can't change its value. With
+A LUT uses an input if changing that input alone can change its value. With
 --used-inputs a LUT doesn't depend on what a router led to an input that it
 doesn't use, and 1'b0 is written in its place. The module has the same values
 as without.
+
+What the database doesn't describe isn't shown, nor is SB_WARMBOOT: a design that
+reboots the chip is written as one that doesn't.
 
 In a pin file a line `set_io NAME PIN` gives the port at PIN a name: NAME, with
 _ for each byte that is no letter, digit or _, and without _ at the end. p_

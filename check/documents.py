@@ -7,7 +7,8 @@ Usage: check/documents.py           checks
 
 Each link between the documents leads to a file, and to a heading of it. Each row of docs/DEFINITIONS.md names files of crates that are
 there and have what the row names. docs/TYPES.md is what the sources make. The table of crates in docs/ARCHITECTURE.md has each crate of
-crates.txt once. The tables of causes in docs/FORMATS.md have each cause that the tools' sources write in messages, with an example and what
+crates.txt once, and where that page says that a function calls another, its body names it. Each crate and each file that the tables of
+CONTRIBUTING.md name is there. The tables of causes in docs/FORMATS.md have each cause that the tools' sources write in messages, with an example and what
 to do, and the files of crates/cause_texts that are made of that page are what it makes. The last line is 'N passed, M failed'.
 """
 import pathlib
@@ -21,6 +22,8 @@ TESTS = ("base_tests", "format_tests", "fabric_tests", "vlog_tests", "sample_ima
 # crates that write messages, and a cause in a literal of theirs
 SPEAKERS = re.compile(r"\w+_tools?|tool_inputs|design_answers")
 SPOKEN = re.compile(r'"(?:: )?([A-Z][a-z][A-Za-z]*)(?: expected \w+| net)? ?"')
+# a call in docs/ARCHITECTURE.md, as `run_icepack` calls `run_tool`
+CALL = re.compile(r"`(?:\w+::)?(\w+)`(?: of `\w+`)? (?:calls|asks) `(?:\w+::)?(\w+)`")
 TYPE = re.compile(r"(?:\s*(?:pub(?:\(\w+\))? )?(struct|enum|trait)|(?:pub(?:\(\w+\))? )?(type)) (\w+)")
 
 
@@ -122,6 +125,39 @@ def wrong_crates():
             yield "docs/ARCHITECTURE.md: the table of crates has %s, which isn't one" % name
 
 
+def bodies_of(name):
+    """The text of each function of this name: from its head to the next line that ends an item at its depth."""
+    for crate in crates():
+        for file in sorted((TOP / "crates" / crate / "src").rglob("*.rt")):
+            yield from (match.group(2) for match in re.finditer(r"^( *)(?:pub(?:\(\w+\))? )?fn %s\b(.*?)^\1}" % name, file.read_text(), re.M | re.S))
+
+
+def wrong_calls():
+    text = re.sub(r"\s+", " ", (TOP / "docs/ARCHITECTURE.md").read_text())
+    for caller, callee in CALL.findall(text):
+        if not any(re.search(r"\b%s\b" % callee, re.sub(r"//.*", "", body)) for body in bodies_of(caller)):
+            yield "docs/ARCHITECTURE.md: no function %s names %s" % (caller, callee)
+
+
+def wrong_places():
+    """Crates and files that the tables of CONTRIBUTING.md name and that aren't there."""
+    text = (TOP / "CONTRIBUTING.md").read_text().split("## Where things go")[1]
+    for row in re.findall(r"^\|.*\|$", text, re.M):
+        for name in re.findall(r"`([a-z]\w*)`", row):
+            if "_" in name and name not in crates() and not bodies_named(name):
+                yield "CONTRIBUTING.md: no crate %s" % name
+        first = re.findall(r"`(\w+)`", row.split("|")[1])
+        for file in re.findall(r"`((?:\w+/)?(?:src|specs)/[\w/]+\.(?:rt|antt))`", row):
+            if not any((TOP / "crates" / home / file).exists() for home in (*first, ".")):
+                yield "CONTRIBUTING.md: no file %s" % file
+
+
+def bodies_named(name):
+    """Whether the sources or the definitions have this word."""
+    files = (file for crate in crates() for part in ("src", "specs") for file in (TOP / "crates" / crate / part).rglob("*.*t*"))
+    return any(re.search(r"\b%s\b" % name, file.read_text()) for file in files)
+
+
 def spoken_causes():
     files = [file for crate in crates() if SPEAKERS.fullmatch(crate) for file in (TOP / "crates" / crate / "src").rglob("*.rt")]
     return {word for file in files for word in SPOKEN.findall(file.read_text())}
@@ -150,7 +186,7 @@ def main():
     if sys.argv[1:]:
         print(__doc__)
         return 2
-    checks = (broken_links, wrong_definitions, wrong_types, wrong_crates, wrong_causes)
+    checks = (broken_links, wrong_definitions, wrong_types, wrong_crates, wrong_calls, wrong_places, wrong_causes)
     failures = [list(check()) for check in checks]
     for told in failures:
         print("\n".join(told), end="\n" if told else "")

@@ -185,11 +185,12 @@ Clock, in a design (icebox_vlog):
   The clock of the flip-flop of cell I, of the register of pin P, or of the read
   or the write port of a block RAM comes from logic, as a gated clock does. N is
   the net of the clock. A clock may come from an input pin, or be always the
-  same bit; with --register-clocks it may also come from a flip-flop, or from an
-  input register of a pin. On its way it goes through buffers, through global
-  networks, and through LUTs that pass one net on or invert it. Clocks that come
-  from a carry, a block RAM or the pad of an output come from logic, and so do,
-  without --register-clocks, clocks from a register.
+  same bit; with --all-pins it may also come from an output of a PLL, and with
+  --register-clocks from a flip-flop, or from an input register of a pin. On its
+  way it goes through buffers, through global networks, and through LUTs that
+  pass one net on or invert it. Clocks that come from a carry, a block RAM or
+  the pad of an output come from logic, and so do, without --register-clocks,
+  clocks from a register.
   Example, a ripple counter, whose second flip-flop has the first one as its
   clock, without --register-clocks:
     $ icestorm icebox_vlog ripple.chipdb ripple.asc

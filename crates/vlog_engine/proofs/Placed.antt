@@ -1,6 +1,6 @@
 -- Flip-flops that come to be watched.
 use Rattle.std.proofs.Common.{◌≡◌, ℕ, zero, suc, ◌+◌, ◌-◌, ◌<◌, Bool, true, false, Some, eqb, List, [], ◌∷◌, ◌++◌, Vec, Global, append-nil, ap, ap₂, append_assoc, arith, drop, flat_map, get_or, inl, inr, length, length-append, map, refl, set, subst, sym, take, ◌∙◌}
-use Rattle.std.specs.Prelude.{◌||◌, slice_get}
+use Rattle.std.specs.Prelude.{◌||◌, ◌↔◌, slice_get}
 use Rattle.std.specs.List.{All}
 use Rattle.std.proofs.lemmas.Bool.{cases_Bool, cases_eq, cases_lt, eq-eqb, eqb-true}
 use Rattle.std.proofs.lemmas.List.{get_or-append-add, get_or-map, get_or-set_other, get_or-set_same, get_or_append_left, length-map, take_more}
@@ -230,21 +230,21 @@ pub record ArePlaced (first : ℕ) (old new : List Group) (readers readers_now :
   pub count : length new ≡ length old
   pub items : (pin : ℕ) (none : Group) → pin < length old → HasSameItems (get_or old pin none) (get_or new pin none)
   pub place : (pin : ℕ) (none : Group) → pin < length old → (get_or new pin none).first_place ≡ first + length (flat_map flip_gates (take pin old))
-  pub apart : (pin : ℕ) (none : Group) → pin < length old → (get_or new pin none).are_apart ≡ true → AreApart (get_or old pin none).flips.items
+  pub apart : (pin : ℕ) (none : Group) → pin < length old → ((get_or new pin none).are_apart ≡ true ↔ AreApart (get_or old pin none).flips.items)
   pub wires : AddsWires first (flat_map flip_gates old) readers readers_now
 
 -- a group is watched from an index on
 pub record IsPlaced (first : ℕ) (old new : Group) (readers readers_now : List (Vec ℕ Global)) : Type 0 where
   pub items : HasSameItems old new
   pub place : new.first_place ≡ first
-  pub apart : new.are_apart ≡ true → AreApart old.flips.items
+  pub apart : new.are_apart ≡ true ↔ AreApart old.flips.items
   pub wires : AddsWires first (flip_gates old) readers readers_now
 
 regroup : (before early own late after : List Gate) → before ++ ((early ++ (own ++ late)) ++ after) ≡ (before ++ early) ++ (own ++ (late ++ after))
 regroup before early own late after = simp append_assoc
 
-same-apart : (old new : Group) → HasSameItems old new → (new.are_apart ≡ true → AreApart old.flips.items) → new.are_apart ≡ true → AreApart new.flips.items
-same-apart old new same apart on = subst AreApart (sym same.flips) (apart on)
+same-apart : (old new : Group) → HasSameItems old new → (new.are_apart ≡ true ↔ AreApart old.flips.items) → (new.are_apart ≡ true ↔ AreApart new.flips.items)
+same-apart old new same apart = subst (λ flips. new.are_apart ≡ true ↔ AreApart flips) (sym same.flips) apart
 
 pub group-watched : (before after : List Gate) (first : ℕ) (old new : List Group) (readers readers_now : List (Vec ℕ Global)) → first ≡ length before → ArePlaced first old new readers readers_now
     → (pin : ℕ) (none : Group) → pin < length new → IsWatched (before ++ (flat_map flip_gates new ++ after)) (get_or new pin none)

@@ -1,5 +1,5 @@
 -- A module over cells, and the values of its cells.
-use Rattle.std.specs.Prelude.{◌≡◌, ◌<◌, ◌+◌, ◌*◌, ℕ, Bool, true, false, ◌==◌, List, [], ◌∷◌, ◌++◌, flat_map, get_or, length, map, if◌then◌else◌}
+use Rattle.std.specs.Prelude.{◌≡◌, ◌↔◌, ◌<◌, ◌+◌, ◌*◌, ℕ, Bool, true, false, ◌==◌, List, [], ◌∷◌, ◌++◌, flat_map, get_or, length, map, if◌then◌else◌}
 use Rattle.vlog_semantics.specs.Cells.{cell_at, part_at, tail_of, zero_cell}
 use Rattle.vlog_semantics.specs.declared.gates.Gate.{Gate}
 use Rattle.vlog_semantics.specs.declared.plan.Plan.{Plan}
@@ -32,10 +32,10 @@ flip_gates group = map flip_gate group.flips.items
 abbrev pub watched : Circuit → List Gate
 watched circuit = circuit.gates.items ++ (flat_map flip_gates circuit.rising.items ++ (flat_map flip_gates circuit.falling.items ++ flip_gates circuit.waves))
 
--- the flip-flops of a group are watched from its first place on
+-- the flip-flops of a group are watched from its first place on, and the group tells whether their registers are apart
 pub record IsWatched (watched : List Gate) (group : Group) : Type 0 where
   pub places : AreAt group.first_place group.flips.items watched
-  pub apart : group.are_apart ≡ true → AreApart group.flips.items
+  pub apart : group.are_apart ≡ true ↔ AreApart group.flips.items
 
 -- the circuit of a plan with `bits` names of one bit, of which the first ones aren't wires, and `words` registers of 16 bits
 pub record IsCircuit (first bits words : ℕ) (plan : Plan) (circuit : Circuit) : Type 0 where

@@ -1,5 +1,5 @@
 // Watches flip-flops: marks tell which ones may change their registers.
-ghost use Rattle.std.specs.Prelude.{◌≡◌, ◌<◌, ◌+◌, ◌∷◌, ◌^◌, [], ℕ, IfOk, OnOk, flat_map, get_or, length, map, take, true};
+ghost use Rattle.std.specs.Prelude.{◌≡◌, ◌↔◌, ◌<◌, ◌+◌, ◌∷◌, ◌^◌, [], ℕ, IfOk, OnOk, flat_map, get_or, length, map, take, true};
 ghost use Rattle.vlog_engine.specs.Circuits.{flip_gates};
 ghost use Rattle.vlog_engine.specs.Flips.{AreApart, flip_cells, flip_gate};
 ghost use Rattle.vlog_engine.specs.Marks.{has};
@@ -13,7 +13,7 @@ use std::alloc::AllocError;
 
 /// Whether the registers of flip-flops rise, so that no two are the same.
 fn are_apart(flips: &[Flip]) -> bool
-    ensures { result ≡ true → AreApart flips.now }
+    ensures { result ≡ true ↔ AreApart flips.now }
 {
     for place in 1..flips.len() {
         if flips[place].target <= flips[place - 1].target {
@@ -94,7 +94,7 @@ pub(crate) fn watch_group(
     ensures end { IfOk result (λ end. end ≡ first + length group.old.flips.items) }
     ensures items { OnOk result (HasSameItems group.old group.new) }
     ensures place { OnOk result (group.new.first_place ≡ first) }
-    ensures apart { OnOk result (group.new.are_apart ≡ true → AreApart group.old.flips.items) }
+    ensures apart { OnOk result (group.new.are_apart ≡ true ↔ AreApart group.old.flips.items) }
     ensures wires { OnOk result (AddsWires first (flip_gates group.old) readers.old.items readers.new.items) }
 {
     let end = first.checked_add(group.flips.len()).ok_or(AllocError)?;
@@ -114,7 +114,7 @@ pub(crate) fn watch_groups(
     ensures count { OnOk result (length groups.new.items ≡ length groups.old.items) }
     ensures items { OnOk result ((pin : ℕ) (none : group_of) → pin < length groups.old.items → HasSameItems (get_or groups.old.items pin none) (get_or groups.new.items pin none)) }
     ensures place { OnOk result ((pin : ℕ) (none : group_of) → pin < length groups.old.items → (get_or groups.new.items pin none).first_place ≡ first + length (flat_map flip_gates (take pin groups.old.items))) }
-    ensures apart { OnOk result ((pin : ℕ) (none : group_of) → pin < length groups.old.items → (get_or groups.new.items pin none).are_apart ≡ true → AreApart (get_or groups.old.items pin none).flips.items) }
+    ensures apart { OnOk result ((pin : ℕ) (none : group_of) → pin < length groups.old.items → ((get_or groups.new.items pin none).are_apart ≡ true ↔ AreApart (get_or groups.old.items pin none).flips.items)) }
     ensures wires { OnOk result (AddsWires first (flat_map flip_gates groups.old.items) readers.old.items readers.new.items) }
 {
     let mut next = first;

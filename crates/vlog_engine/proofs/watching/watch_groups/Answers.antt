@@ -1,4 +1,4 @@
-use Rattle.std.proofs.Common.{◌≡◌, ◌≢◌, List, true, ◌+◌, ◌<◌, ◌++◌, ap, arith, flat_map, get_or, length, subst, sym, take, ◌∙◌}
+use Rattle.std.proofs.Common.{◌≡◌, ◌≢◌, ◌↔◌, List, true, ◌+◌, ◌<◌, ◌++◌, ap, arith, flat_map, get_or, length, subst, sym, take, ◌∙◌}
 use Rattle.std.proofs.lemmas.List.{get_or-set_other, get_or_default, length-append, length-map, length-set}
 use Rattle.vlog_semantics.specs.declared.gates.Gate.{Gate}
 use Rattle.vlog_engine.specs.Circuits.{flip_gates}
@@ -41,8 +41,8 @@ loop-pin-preserved c =
           (subst (λ group. HasSameItems group made) (given_is none) told.items) (λ n below. known.items n none below) k;
       placed = λ k none. set-each (λ n group. group.first_place ≡ first + length (flat_map flip_gates (take n old))) now i made none inside
           (told.place ∙ known.next_is) (λ n below. known.placed n none below) k;
-      apart = λ k none. set-each (λ n group. group.are_apart ≡ true → AreApart (get_or old n none).flips.items) now i made none inside
-          (subst (λ (group : Group). made.are_apart ≡ true → AreApart group.flips.items) (given_is none) told.apart) (λ n below. known.apart n none below) k;
+      apart = λ k none. set-each (λ n group. group.are_apart ≡ true ↔ AreApart (get_or old n none).flips.items) now i made none inside
+          (subst (λ (group : Group). made.are_apart ≡ true ↔ AreApart group.flips.items) (given_is none) told.apart) (λ n below. known.apart n none below) k;
       wires = subst (λ wires. AddsWires first wires c.args.readers.now.items c.watch_group.new.readers.items) (sym gates_are)
           (wires-more first c.loop-pin.next (flat_map flip_gates (take i old)) (flip_gates given) c.args.readers.now.items c.loop-pin.readers.items c.watch_group.new.readers.items
           known.next_is known.wires told.wires);

@@ -73,7 +73,7 @@ clock-requires-clause-places g c =
 pub clock-requires-clause-apart : goal.clock-requires-clause-apart
 clock-requires-clause-apart g c =
     let r = c.args.self.now in
-    (c.group_by.ensures.watched r.layout.first_wire r.circuit.bits r.next_words.len r.layout.plan r.circuit_is).apart
+    (c.group_by.ensures.watched r.layout.first_wire r.circuit.bits r.next_words.len r.layout.plan r.circuit_is).apart.0
 
 -- a lane that is tracked stays tracked, active or not
 pub returns-clause-tracked : goal.returns-clause-tracked

@@ -1,4 +1,4 @@
--- The real files: how often they failed, how much was read, and what was read from a file of the system or written to one.
+-- The real files: how often they failed, how much was read, how often something was stored, and what was read from a file of the system or written to one.
 use Rattle.std.specs.Prelude.{◌≡◌, ℕ, ◌<◌, List, Option, ⊤, true, false, length, take}
 use Rattle.std.specs.Io.KnownBytes.{Appends, Consumes, IsAtEnd}
 use Rattle.ice_io.specs.Faults.{counted, counted_by}
@@ -8,19 +8,24 @@ use Rattle.ice_io.specs.declared.files.StoreFault.TheVariants.{Failed}
 use Rattle.ice_io.specs.declared.files.ContentFault.{ContentFault}
 use Rattle.ice_io.specs.declared.files.ContentFault.TheVariants.{Store, Memory}
 
--- how many loads and how many stores have failed, and how many bytes were read
+-- how many loads and how many stores have failed, how many bytes were read, and how many stores were begun
 pub record FileCounts : Type 0 where
   pub load_faults : ℕ
   pub store_faults : ℕ
   pub bytes_read : ℕ
+  pub stores : ℕ
 
 -- the counts after a load that failed
 abbrev pub after_load_fault : FileCounts → FileCounts
 after_load_fault s = record s { load_faults = counted s.load_faults }
 
+-- the counts after a store
+abbrev pub after_store : FileCounts → FileCounts
+after_store s = record s { stores = counted s.stores }
+
 -- the counts after a store that failed
 abbrev pub after_store_fault : FileCounts → FileCounts
-after_store_fault s = record s { store_faults = counted s.store_faults }
+after_store_fault s = record s { store_faults = counted s.store_faults; stores = counted s.stores }
 
 -- the counts after so many bytes were read
 abbrev pub after_bytes : FileCounts → ℕ → FileCounts

@@ -17,6 +17,10 @@ counted_by count more = min (count + more) last_count
 abbrev pub Rose : ℕ → ℕ → Type 0
 Rose old new = counted old ≤ new
 
+-- at least so many more were counted, or fewer if the count came to the last one
+abbrev pub RoseAtLeastBy : ℕ → ℕ → ℕ → Type 0
+RoseAtLeastBy more old new = counted_by old more ≤ new
+
 -- so many more were counted, or fewer if the count came to the last one
 abbrev pub RoseBy : ℕ → ℕ → ℕ → Type 0
-RoseBy more old new = (counted_by old more ≤ new) × (new ≤ old + more)
+RoseBy more old new = RoseAtLeastBy more old new × (new ≤ old + more)

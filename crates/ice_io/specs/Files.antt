@@ -1,9 +1,9 @@
 -- Files by their names, if they are known, and what loading and storing do to them.
-use Rattle.std.specs.Prelude.{◌≡◌, ℕ, ◌<◌, ◌≤◌, List, [], ◌++◌, Option, Some, None, ⊤, MatchOption, length, take, drop, true, false, option_map, IsSomeAnd}
+use Rattle.std.specs.Prelude.{◌≡◌, ℕ, ◌<◌, ◌≤◌, List, [], ◌++◌, Option, Some, None, Result, Ok, Err, ⊤, MatchOption, length, take, drop, true, false, option_map, IsSomeAnd}
 use Rattle.std.specs.Ordering.{nat_cmp}
 use Rattle.std.specs.Cmp.Lexicographic.{slice_cmp}
 use Rattle.std.specs.FinMap.{FinMap, get, insert}
-use Rattle.ice_io.specs.Faults.{Rose}
+use Rattle.ice_io.specs.Faults.{counted, Rose}
 use Rattle.ice_io.specs.Takers.{TakesMore}
 use Rattle.ice_io.specs.declared.files.StoreFault.{StoreFault}
 use Rattle.ice_io.specs.declared.files.StoreFault.TheVariants.{Failed}
@@ -66,3 +66,9 @@ LeavesContent old new name bytes (Memory e) = new ≡ old
 abbrev pub CountsStore : ℕ → ℕ → ContentFault → Type 0
 CountsStore old new (Store fault) = Rose old new
 CountsStore old new (Memory e) = new ≡ old
+
+-- how many stores were begun, with one of content: none was if there was no memory for the content
+abbrev pub stores_after : {T : Type 0} → ℕ → Result T ContentFault → ℕ
+stores_after stores (Ok done) = counted stores
+stores_after stores (Err (Store fault)) = counted stores
+stores_after stores (Err (Memory e)) = stores

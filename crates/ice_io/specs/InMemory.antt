@@ -1,15 +1,16 @@
 -- The forms in memory: what their calls do, and which fail.
 use Rattle.std.specs.Prelude.{ℕ, ◌-◌, ◌++◌, min, List, length, take, drop, Contains}
-use Rattle.ice_io.specs.Faults.{counted}
+use Rattle.ice_io.specs.Faults.{counted, counted_by}
 
--- the bytes not yet read, the greatest size of a read, the numbers of the reads that fail, counted from 1, and how
--- many reads there were and have failed
+-- the bytes not yet read, the greatest size of a read, the numbers of the reads that fail, counted from 1, how many reads there were and
+-- have failed, and how many bytes were read
 pub record SourceState : Type 0 where
   pub left : List ℕ
   pub most : ℕ
   pub failing : List ℕ
   pub calls : ℕ
   pub faults : ℕ
+  pub bytes_read : ℕ
 
 -- the next read is one of those that fail
 abbrev pub ReadFails : SourceState → Type 0
@@ -21,7 +22,7 @@ read_size s len = min s.most (min (length s.left) len)
 
 -- the source after a read that gave n bytes
 abbrev pub after_read : SourceState → ℕ → SourceState
-after_read s n = record s { left = drop n s.left; calls = counted s.calls }
+after_read s n = record s { left = drop n s.left; calls = counted s.calls; bytes_read = counted_by s.bytes_read n }
 
 -- the source after a read that failed
 abbrev pub after_failed_read : SourceState → SourceState

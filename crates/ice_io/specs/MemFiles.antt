@@ -8,8 +8,8 @@ use Rattle.ice_io.specs.Files.{FileMap}
 use Rattle.ice_io.specs.declared.named_file.NamedFile.{NamedFile}
 
 -- the files, the one name that may be stored, how many bytes it may have, the greatest size of a copy, the numbers of
--- the calls that fail, counted from 1, how many calls there were, how many loads and stores have failed, and how many bytes were
--- read
+-- the calls that fail, counted from 1, how many calls there were, how many loads and stores have failed, how many bytes were read, and
+-- how many stores were begun
 pub record FilesState : Type 0 where
   pub files : FileMap
   pub target : List ℕ
@@ -20,14 +20,15 @@ pub record FilesState : Type 0 where
   pub load_faults : ℕ
   pub store_faults : ℕ
   pub bytes_read : ℕ
+  pub stores : ℕ
 
 -- it is stored as the tuple of its fields
 abbrev pub files_code : Coded FilesState
 files_code =
-    code_by (FileMap × (List ℕ × (ℕ × (ℕ × (List ℕ × (ℕ × (ℕ × (ℕ × ℕ))))))))
-    (coded× (map_of.code (coded_list coded_ℕ) (coded_list coded_ℕ)) (coded× (coded_list coded_ℕ) (coded× coded_ℕ (coded× coded_ℕ (coded× (coded_list coded_ℕ) (coded× coded_ℕ (coded× coded_ℕ (coded× coded_ℕ coded_ℕ))))))))
-    (λ s. (s.files, (s.target, (s.room, (s.most, (s.failing, (s.calls, (s.load_faults, (s.store_faults, s.bytes_read)))))))))
-    (λ p. record { files = p.0; target = p.1.0; room = p.1.1.0; most = p.1.1.1.0; failing = p.1.1.1.1.0; calls = p.1.1.1.1.1.0; load_faults = p.1.1.1.1.1.1.0; store_faults = p.1.1.1.1.1.1.1.0; bytes_read = p.1.1.1.1.1.1.1.1 })
+    code_by (FileMap × (List ℕ × (ℕ × (ℕ × (List ℕ × (ℕ × (ℕ × (ℕ × (ℕ × ℕ)))))))))
+    (coded× (map_of.code (coded_list coded_ℕ) (coded_list coded_ℕ)) (coded× (coded_list coded_ℕ) (coded× coded_ℕ (coded× coded_ℕ (coded× (coded_list coded_ℕ) (coded× coded_ℕ (coded× coded_ℕ (coded× coded_ℕ (coded× coded_ℕ coded_ℕ)))))))))
+    (λ s. (s.files, (s.target, (s.room, (s.most, (s.failing, (s.calls, (s.load_faults, (s.store_faults, (s.bytes_read, s.stores))))))))))
+    (λ p. record { files = p.0; target = p.1.0; room = p.1.1.0; most = p.1.1.1.0; failing = p.1.1.1.1.0; calls = p.1.1.1.1.1.0; load_faults = p.1.1.1.1.1.1.0; store_faults = p.1.1.1.1.1.1.1.0; bytes_read = p.1.1.1.1.1.1.1.1.0; stores = p.1.1.1.1.1.1.1.1.1 })
     (λ _. refl)
 
 -- a file's name and its bytes
@@ -69,7 +70,7 @@ after_failed_load s = record s { calls = counted s.calls; load_faults = counted 
 
 -- the files after a store of these bytes
 abbrev pub after_store : FilesState → List ℕ → FilesState
-after_store s bytes = record s { files = insert s.files s.target bytes; calls = counted s.calls }
+after_store s bytes = record s { files = insert s.files s.target bytes; calls = counted s.calls; stores = counted s.stores }
 
 -- the files after a store of bytes for which there wasn't enough room
 abbrev pub after_part_store : FilesState → List ℕ → FilesState
@@ -77,8 +78,9 @@ after_part_store s bytes = record s {
   files = insert s.files s.target (take s.room bytes);
   calls = counted s.calls;
   store_faults = counted s.store_faults;
+  stores = counted s.stores;
 }
 
 -- the files after a store that failed before anything was opened
 abbrev pub after_failed_store : FilesState → FilesState
-after_failed_store s = record s { calls = counted s.calls; store_faults = counted s.store_faults }
+after_failed_store s = record s { calls = counted s.calls; store_faults = counted s.store_faults; stores = counted s.stores }

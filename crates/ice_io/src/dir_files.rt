@@ -1,26 +1,27 @@
 // The real files. What is read from a file that was opened, and what is written to one, is exact. That the file is the one of
 // that name, and was emptied before, is the system's part.
-ghost use Rattle.std.specs.Prelude.{◌≡◌, ◌+◌, ◌<◌, ◌≤◌, ◌^◌, None, true, false, length, vec_len, IfOk, IfErr, OnOk, OnErr, IsErrOf};
+ghost use Rattle.std.specs.Prelude.{◌≡◌, ◌+◌, ◌<◌, ◌≤◌, ◌^◌, ◌↔◌, ℕ, List, None, true, false, length, vec_len, IfOk, IfErr, OnOk, OnErr, IsErrOf, IsNone};
 ghost use Rattle.std.specs.Io.KnownBytes.{Appends};
-ghost use Rattle.ice_io.specs.DirFiles.{after_bytes, after_load_fault, after_store_fault, AppendsPart, WereInFile, WereTaken, WereRead, WereWritten, WereContentWritten, WerePartWritten};
-ghost use Rattle.ice_io.specs.Faults.{Rose};
-ghost use Rattle.ice_io.specs.Files.{LeavesContent, LeavesPart};
-ghost use Rattle.ice_io.specs.Real.{read_faults, reader_of};
+ghost use Rattle.ice_io.specs.DirFiles.{after_bytes, after_load_fault, after_store, after_store_fault, AppendsPart, WereInFile, WereTaken, WereRead, WereWritten, WereContentWritten, WerePartWritten};
+ghost use Rattle.ice_io.specs.Faults.{Rose, counted};
+ghost use Rattle.ice_io.specs.Files.{LeavesContent, LeavesPart, stores_after};
+ghost use Rattle.ice_io.specs.Real.{FailsOver, read_faults, reader_of, write_faults};
 ghost use Rattle.ice_io.specs.Taken.{TakesAll, TakesAtMost, TakesCount};
 
 use crate::content::Content;
 use crate::files::{ContentFault, Files, StoreFault};
-use crate::kept_file::{KeptFile, read_part};
-use crate::real::{StdSink, StdSource};
+use crate::kept_file::{KeptFile, opened_at, read_part};
+use crate::real::{StdSink, StdSource, opened_sink};
 use crate::sink::{PutFault, Sink};
 use crate::source::{Failed, TakeFault, read_expected};
 use std::alloc::{AllocError, Global};
 use std::fs::OpenFile;
-use std::io::Read;
+use std::io::{Read, Write};
 use std::marker::Model;
 use std::{fs, rt};
 
-/// The files of the system. A contract sees only how many loads and stores have failed, and how many bytes were read.
+/// The files of the system. A contract sees only how many loads and stores have failed, how many bytes were read, and how many stores were
+/// begun.
 #[derive(Drop)]
 pub struct DirFiles<'a, R: rt::Files> {
     rt: &'a R,
@@ -28,6 +29,7 @@ pub struct DirFiles<'a, R: rt::Files> {
     load_faults: u64,
     store_faults: u64,
     bytes_read: u64,
+    stores: u64,
 }
 
 impl<'a, R: rt::Files> Model for DirFiles<'a, R> {
@@ -35,13 +37,13 @@ impl<'a, R: rt::Files> Model for DirFiles<'a, R> {
 
     ghost Value = { FileCounts };
 
-    ghost view = { λ s. record { load_faults = s.load_faults; store_faults = s.store_faults; bytes_read = s.bytes_read } };
+    ghost view = { λ s. record { load_faults = s.load_faults; store_faults = s.store_faults; bytes_read = s.bytes_read; stores = s.stores } };
 }
 
 impl<'a, R: rt::Files> DirFiles<'a, R> {
     /// The files that this runtime reaches, with nothing counted yet.
     pub fn new(rt: &'a R) -> DirFiles<'a, R>
-        ensures { result ≡ record { load_faults = 0; store_faults = 0; bytes_read = 0 } }
+        ensures { result ≡ record { load_faults = 0; store_faults = 0; bytes_read = 0; stores = 0 } }
     {
         DirFiles {
             rt,
@@ -49,6 +51,7 @@ impl<'a, R: rt::Files> DirFiles<'a, R> {
             load_faults: 0,
             store_faults: 0,
             bytes_read: 0,
+            stores: 0,
         }
     }
 
@@ -60,19 +63,21 @@ impl<'a, R: rt::Files> DirFiles<'a, R> {
         self.bytes_read = self.bytes_read.saturating_add(count as u64);
     }
 
-    // Stores the content, and counts a failure.
+    // Stores the content, and counts that, and a failure.
     fn replace<C: Content>(&mut self, name: &str, content: C) -> Result<(), StoreFault>
         ensures part { IfErr result (LeavesPart None None name.now (C.bytes content)) }
         ensures never_falls { self.old.store_faults ≤ self.new.store_faults }
         ensures same_load_faults { self.new.load_faults ≡ self.old.load_faults }
+        ensures begun { self.new.stores ≡ counted self.old.stores }
         ensures same_bytes_read { self.new.bytes_read ≡ self.old.bytes_read }
-        ensures same { OnOk result (self.new ≡ self.old) }
+        ensures stored { OnOk result (self.new ≡ after_store self.old) }
         ensures failed { OnErr result (self.new ≡ after_store_fault self.old) }
         ensures whole { OnOk result (WereWritten R.File.contents (C.bytes content)) }
         ensures first { IfErr result (WerePartWritten R.File.contents (C.bytes content)) }
     {
         self.kept.close();
-        let stored = store_to(self.rt, name, content);
+        self.stores = self.stores.saturating_add(1);
+        let stored = store_to(&mut opened_sink(fs::create(self.rt, name)), content);
         if stored.is_err() {
             self.store_faults = self.store_faults.saturating_add(1);
         }
@@ -91,10 +96,13 @@ impl<R: rt::Files> Files for DirFiles<'_, R> {
 
     ghost bytes_read = { λ counts. counts.bytes_read };
 
+    ghost stores = { λ counts. counts.stores };
+
     fn load(&mut self, alloc: Global, name: &str, limit: usize) -> Result<Vec<u8>, TakeFault>
         requires { limit < 2 ^ 32 }
         ensures within { IfOk result (λ bytes. vec_len bytes ≤ limit) }
         ensures never_falls { self.old.load_faults ≤ self.new.load_faults }
+        ensures same_stores { self.new.stores ≡ self.old.stores }
         ensures same_store_faults { self.new.store_faults ≡ self.old.store_faults }
 
         ensures read { IfOk result (λ bytes. self.new ≡ after_bytes self.old (vec_len bytes)) }
@@ -108,7 +116,7 @@ impl<R: rt::Files> Files for DirFiles<'_, R> {
         ensures longer { IsErrOf result TakeFault.TooLong → WereTaken R.File.remaining (limit + 1) }
     {
         self.kept.close();
-        match load_from(self.rt, alloc, name, limit) {
+        match load_from(alloc, &mut opened_at(fs::open(self.rt, name), 0), limit) {
             Ok(bytes) => {
                 self.count_bytes(bytes.len());
                 Ok(bytes)
@@ -128,6 +136,7 @@ impl<R: rt::Files> Files for DirFiles<'_, R> {
     fn read_at(&mut self, name: &str, at: u64, into: &mut [u8]) -> Result<usize, Failed>
         ensures count { IfOk result (λ n. n ≤ length into.new) }
         ensures never_falls { self.old.load_faults ≤ self.new.load_faults }
+        ensures same_stores { self.new.stores ≡ self.old.stores }
         ensures same_store_faults { self.new.store_faults ≡ self.old.store_faults }
 
         ensures counted { IfOk result (λ n. self.new ≡ after_bytes self.old n) }
@@ -153,9 +162,10 @@ impl<R: rt::Files> Files for DirFiles<'_, R> {
         ensures part { IfErr result (LeavesPart None None name.now bytes.now) }
         ensures never_falls { self.old.store_faults ≤ self.new.store_faults }
         ensures same_load_faults { self.new.load_faults ≡ self.old.load_faults }
+        ensures begun { self.new.stores ≡ counted self.old.stores }
         ensures same_bytes_read { self.new.bytes_read ≡ self.old.bytes_read }
 
-        ensures same { OnOk result (self.new ≡ self.old) }
+        ensures stored { OnOk result (self.new ≡ after_store self.old) }
         ensures failed { OnErr result (self.new ≡ after_store_fault self.old) }
 
         // `Ok` has written all bytes to a file, and a fault as many as it says.
@@ -174,9 +184,10 @@ impl<R: rt::Files> Files for DirFiles<'_, R> {
         ensures part { IfErr result (LeavesContent None None name.now (C.bytes content)) }
         ensures never_falls { self.old.store_faults ≤ self.new.store_faults }
         ensures same_load_faults { self.new.load_faults ≡ self.old.load_faults }
+        ensures begun { self.new.stores ≡ stores_after self.old.stores result }
         ensures same_bytes_read { self.new.bytes_read ≡ self.old.bytes_read }
 
-        ensures same { OnOk result (self.new ≡ self.old) }
+        ensures stored { OnOk result (self.new ≡ after_store self.old) }
         ensures failed { OnErr result (self.new ≡ after_store_fault self.old) }
 
         // `Ok` has written all bytes to a file, and a fault as many as it says.
@@ -190,21 +201,22 @@ impl<R: rt::Files> Files for DirFiles<'_, R> {
     }
 }
 
-// Opens a file and reads it.
-fn load_from<R: rt::Files>(
-    rt: &R,
+// Reads a file to its end, if it could be opened.
+fn load_from<F: Read + OpenFile>(
     alloc: Global,
-    name: &str,
+    opened: &mut Option<StdSource<F>>,
     limit: usize,
 ) -> Result<Vec<u8>, TakeFault>
     requires { limit < 2 ^ 32 }
     ensures within { IfOk result (λ bytes. vec_len bytes ≤ limit) }
-    ensures whole { IfOk result (λ bytes. WereInFile R.File.remaining bytes.items) }
-    ensures longer { IsErrOf result TakeFault.TooLong → WereTaken R.File.remaining (limit + 1) }
+    ensures whole { IfOk result (λ bytes. WereInFile F.remaining bytes.items) }
+    ensures longer { IsErrOf result TakeFault.TooLong → WereTaken F.remaining (limit + 1) }
+    ensures unopened { IsNone opened.old → IsErrOf result TakeFault.Failed }
+    ensures failed { IsErrOf result TakeFault.Failed → FailsOver read_faults opened.old opened.new }
 {
-    match fs::open(rt, name) {
-        Ok(file) => load_opened(alloc, &mut StdSource::new(file), limit),
-        Err(_) => Err(TakeFault::Failed),
+    match opened {
+        Some(file) => load_opened(alloc, file, limit),
+        None => Err(TakeFault::Failed),
     }
 }
 
@@ -228,15 +240,20 @@ fn load_opened<F: Read + OpenFile>(
     read_expected(alloc, file, limit, told)
 }
 
-// Creates a file, or empties it, and writes the content.
-fn store_to<R: rt::Files, C: Content>(rt: &R, name: &str, content: C) -> Result<(), StoreFault>
-    ensures part { IfErr result (LeavesPart None None name.now (C.bytes content)) }
-    ensures whole { OnOk result (WereWritten R.File.contents (C.bytes content)) }
-    ensures first { IfErr result (WerePartWritten R.File.contents (C.bytes content)) }
+// Writes the content to a file, if it could be opened for it.
+fn store_to<C: Content, W: Write>(
+    opened: &mut Option<StdSink<W>>,
+    content: C,
+) -> Result<(), StoreFault>
+    ensures part { (name : List ℕ) → IfErr result (LeavesPart None None name (C.bytes content)) }
+    ensures whole { OnOk result (WereWritten W.contents (C.bytes content)) }
+    ensures first { IfErr result (WerePartWritten W.contents (C.bytes content)) }
+    ensures unopened { IsErrOf result (StoreFault.Failed false 0) ↔ IsNone opened.old }
+    ensures failed { OnErr result (FailsOver write_faults opened.old opened.new) }
 {
-    match fs::create(rt, name) {
-        Ok(file) => store_opened(content, &mut StdSink::new(file)),
-        Err(_) => Err(StoreFault::Failed {
+    match opened {
+        Some(file) => store_opened(content, file),
+        None => Err(StoreFault::Failed {
             opened: false,
             written: 0,
         }),

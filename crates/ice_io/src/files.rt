@@ -1,7 +1,7 @@
 // Files, loaded whole or read in parts, and stored.
 ghost use Rattle.std.specs.Prelude.{◌≡◌, ◌+◌, ◌<◌, ◌≤◌, ◌^◌, ℕ, List, Bool, Option, length, take, vec_len, IfOk, IfErr, OnOk, OnErr, IsErrOf, IsTrue};
-ghost use Rattle.ice_io.specs.Faults.{Rose, RoseBy};
-ghost use Rattle.ice_io.specs.Files.{CountsStore, EndsBefore, FileMap, HasFile, HasMore, HasPart, LacksFile, LeavesContent, LeavesPart, TakesFrontOf, with_file};
+ghost use Rattle.ice_io.specs.Faults.{Rose, RoseBy, counted};
+ghost use Rattle.ice_io.specs.Files.{CountsStore, EndsBefore, FileMap, HasFile, HasMore, HasPart, LacksFile, LeavesContent, LeavesPart, TakesFrontOf, stores_after, with_file};
 ghost use Rattle.ice_io.specs.Takers.{TakesMore};
 
 use crate::content::Content;
@@ -44,6 +44,9 @@ pub trait Files {
     /// and stays at `u64::MAX`.
     ghost bytes_read: { Self → ℕ };
 
+    /// How many stores were begun, whether they succeeded or failed. It never falls, and stays at `u64::MAX`.
+    ghost stores: { Self → ℕ };
+
     /// All bytes of a file, if there are at most `limit`.
     fn load(&mut self, alloc: Global, name: &str, limit: usize) -> Result<Vec<u8>, TakeFault>
         requires { limit < 2 ^ 32 }
@@ -60,6 +63,7 @@ pub trait Files {
         ensures same_contents { contents self.new ≡ contents self.old }
         ensures same_steady { steady self.new ≡ steady self.old }
         ensures never_falls { load_faults self.old ≤ load_faults self.new }
+        ensures same_stores { stores self.new ≡ stores self.old }
         ensures same_store_faults { store_faults self.new ≡ store_faults self.old };
 
     /// Reads bytes of a file from the place `at` on into the front of the buffer, and returns how many. It returns 0 only if
@@ -77,6 +81,7 @@ pub trait Files {
         ensures same_contents { contents self.new ≡ contents self.old }
         ensures same_steady { steady self.new ≡ steady self.old }
         ensures never_falls { load_faults self.old ≤ load_faults self.new }
+        ensures same_stores { stores self.new ≡ stores self.old }
         ensures same_store_faults { store_faults self.new ≡ store_faults self.old };
 
     /// Creates the file or replaces it, with these bytes. If a write fails, the file has the bytes written before it. If the
@@ -84,6 +89,7 @@ pub trait Files {
     fn store(&mut self, name: &str, bytes: &[u8]) -> Result<(), StoreFault>
         ensures whole { OnOk result (contents self.new ≡ with_file (contents self.old) name.now bytes.now) }
         ensures part { IfErr result (LeavesPart (contents self.old) (contents self.new) name.now bytes.now) }
+        ensures begun { stores self.new ≡ counted (stores self.old) }
         ensures failed { OnErr result (Rose (store_faults self.old) (store_faults self.new)) }
 
         ensures same_steady { steady self.new ≡ steady self.old }
@@ -101,6 +107,7 @@ pub trait Files {
     ) -> Result<(), ContentFault>
         ensures whole { OnOk result (contents self.new ≡ with_file (contents self.old) name.now (C.bytes content)) }
         ensures part { IfErr result (LeavesContent (contents self.old) (contents self.new) name.now (C.bytes content)) }
+        ensures begun { stores self.new ≡ stores_after (stores self.old) result }
         ensures failed { IfErr result (CountsStore (store_faults self.old) (store_faults self.new)) }
 
         ensures same_steady { steady self.new ≡ steady self.old }
@@ -147,6 +154,7 @@ pub fn load_into<F: Files, T: Taker>(
     ensures same_contents { F.contents files.new ≡ F.contents files.old }
     ensures same_steady { F.steady files.new ≡ F.steady files.old }
     ensures never_falls { F.load_faults files.old ≤ F.load_faults files.new }
+    ensures same_stores { F.stores files.new ≡ F.stores files.old }
     ensures same_store_faults { F.store_faults files.new ≡ F.store_faults files.old }
 {
     let mut buffer = piece_room(alloc, limit)?;

@@ -1,13 +1,14 @@
 // The file of the system that was read last, which stays open.
-ghost use Rattle.std.specs.Prelude.{◌≡◌, ◌+◌, ◌<◌, ◌≤◌, ◌^◌, None, Some, length, take, IfNone, IfOk, IfSome};
+ghost use Rattle.std.specs.Prelude.{◌≡◌, ◌↔◌, ◌+◌, ◌<◌, ◌≤◌, ◌^◌, ℕ, List, None, Some, length, take, IfNone, IfOk, IfSome, IsErr, IsOkAnd, IsSome, IsTrue, OnErr, OnOk};
 ghost use Rattle.ice_io.specs.DirFiles.{WereRead};
 ghost use Rattle.ice_io.specs.KeptFile.{IsKept};
+ghost use Rattle.ice_io.specs.Real.{FailsOver, StandsAt, read_faults, reader_of};
 
 use crate::pieces::copy_front;
 use crate::real::StdSource;
 use crate::source::{Failed, Source};
 use std::io::{Read, Seek, SeekFrom};
-use std::{fs, rt};
+use std::{fs, io, rt};
 
 /// The most bytes of a name that the system opens.
 const NAME_ROOM: usize = 4_095;
@@ -43,28 +44,57 @@ impl<F: Read + Drop> KeptFile<F> {
         self.file = None;
     }
 
-    // The file, if it was opened by this name, and that place was reached.
-    fn take(&mut self, name: &str, place: u64) -> Option<StdSource<F>>
-        ensures closed { self.new.file ≡ None }
-        ensures kept { IfSome result (λ file. IsKept self.old.file (take self.old.name_len self.old.name) self.old.place file name.now (Some place)) }
-        ensures other { IfNone result ((file : StdSource F) → IsKept self.old.file (take self.old.name_len self.old.name) self.old.place file name.now (Some place) → ⊥) }
+    // Whether a file is open that was opened by this name, and that place was reached in it.
+    fn stands_at(&self, name: &str, place: u64) -> bool
+        ensures { IsTrue result ↔ IsKept self.now.file (take self.now.name_len self.now.name) self.now.place name.now place }
     {
-        let file = self.file.take();
-        let is_here = self.place == Some(place) && &self.name[..self.name_len] == name.as_bytes();
-        if is_here { file } else { None }
+        self.file.is_some()
+            && self.place == Some(place)
+            && &self.name[..self.name_len] == name.as_bytes()
     }
 
-    // Keeps a file, with its name and the place that was reached in it, or closes it if the name doesn't fit.
-    fn keep(&mut self, file: StdSource<F>, name: &str, place: Option<u64>)
-        ensures kept { length name.now ≤ NAME_ROOM → IsKept self.new.file (take self.new.name_len self.new.name) self.new.place file name.now place }
-        ensures long { NAME_ROOM < length name.now → self.new ≡ self.old }
+    // Keeps a file, with its name and the place that was reached in it. If the name doesn't fit, no place in it is known.
+    fn keep(&mut self, file: StdSource<F>, name: &str, place: u64)
+        ensures open { self.new.file ≡ Some file }
+        ensures kept { length name.now ≤ 4095 → IsKept self.new.file (take self.new.name_len self.new.name) self.new.place name.now place }
+        ensures long { 4095 < length name.now → self.new.place ≡ None }
     {
-        if name.len() > self.name.len() {
-            return;
-        }
+        let fits = name.len() <= self.name.len();
         self.name_len = copy_front(name.as_bytes(), NAME_ROOM, &mut self.name);
-        self.place = place;
+        self.place = if fits { Some(place) } else { None };
         self.file = Some(file);
+    }
+
+    // Reads on in the file that is open. At its end it is closed, and after a read that failed no place in it is known.
+    fn read_on(&mut self, into: &mut [u8]) -> Result<usize, Failed>
+        ensures count { IfOk result (λ n. n ≤ length into.new) }
+        ensures read { IfOk result (WereRead F.remaining into.new) }
+        ensures kept { (name : List ℕ) (at : ℕ) → IsKept self.old.file (take self.old.name_len self.old.name) self.old.place name at
+            → IfOk result (λ n. 0 < n → at + n < 2 ^ 64 → IsKept self.new.file (take self.new.name_len self.new.name) self.new.place name (at + n)) }
+        ensures failed { OnErr result (FailsOver read_faults self.old.file self.new.file) }
+    {
+        let Ok(count) = read_open(&mut self.file, into) else {
+            self.place = None;
+            return Err(Failed);
+        };
+        if count == 0 && !into.is_empty() {
+            self.file = None;
+        }
+        self.place = self.place.and_then(|place| place.checked_add(count as u64));
+        Ok(count)
+    }
+}
+
+// One read of a file, if one is open.
+fn read_open<F: Read>(file: &mut Option<StdSource<F>>, into: &mut [u8]) -> Result<usize, Failed>
+    ensures count { IfOk result (λ n. n ≤ length into.new) }
+    ensures read { IfOk result (WereRead F.remaining into.new) }
+    ensures kept { OnOk result (IsSome file.new) }
+    ensures failed { OnErr result (FailsOver read_faults file.old file.new) }
+{
+    match file {
+        Some(source) => source.read(into),
+        None => Err(Failed),
     }
 }
 
@@ -79,26 +109,34 @@ pub(crate) fn read_part<R: rt::Files>(
 ) -> Result<usize, Failed>
     ensures count { IfOk result (λ n. n ≤ length into.new) }
     ensures read { IfOk result (WereRead R.File.remaining into.new) }
-    ensures kept { IfOk result (λ n. 0 < n → length name.now ≤ NAME_ROOM → at + n < 2 ^ 64 → (file : StdSource R.File) × IsKept kept.new.file (take kept.new.name_len kept.new.name) kept.new.place file name.now (Some (at + n))) }
+    ensures kept { IfOk result (λ n. 0 < n → length name.now ≤ 4095 → at + n < 2 ^ 64 → IsKept kept.new.file (take kept.new.name_len kept.new.name) kept.new.place name.now (at + n)) }
+    // A read fails where the file that is kept fails, and, if none is kept for this place, where one can't be opened or fails.
+    ensures failed { OnErr result (IsKept kept.old.file (take kept.old.name_len kept.old.name) kept.old.place name.now at → FailsOver read_faults kept.old.file kept.new.file) }
+    ensures fault { OnErr result (IfSome kept.new.file (λ file. 0 < read_faults file)) }
 {
-    let mut file = match kept.take(name, at) {
-        Some(file) => file,
-        None => open_at(rt, name, at)?,
-    };
-    let count = file.read(into)?;
-    if count > 0 || into.is_empty() {
-        kept.keep(file, name, at.checked_add(count as u64));
+    if !kept.stands_at(name, at) {
+        kept.close();
+        let Some(file) = opened_at(fs::open(rt, name), at) else {
+            return Err(Failed);
+        };
+        kept.keep(file, name, at);
     }
-    Ok(count)
+    kept.read_on(into)
 }
 
-// Opens a file, to be read from a place on.
-fn open_at<R: rt::Files>(rt: &R, name: &str, at: u64) -> Result<StdSource<R::File>, Failed> {
-    let Ok(mut file) = fs::open(rt, name) else {
-        return Err(Failed);
+/// A source over a file, to be read from a place on, if it was opened.
+pub(crate) fn opened_at<F: Read + Seek + Drop>(
+    opened: io::Result<F>,
+    at: u64,
+) -> Option<StdSource<F>>
+    ensures stands { IfSome result (λ source. (read_faults source ≡ 0) × IsOkAnd opened (λ file. StandsAt F.stream_position file (reader_of source) at)) }
+    ensures none { IfNone result (at ≡ 0 → IsErr opened) }
+{
+    let Ok(mut file) = opened else {
+        return None;
     };
     if at > 0 && file.seek(SeekFrom::Start(at)).is_err() {
-        return Err(Failed);
+        return None;
     }
-    Ok(StdSource::new(file))
+    Some(StdSource::new(file))
 }

@@ -30,6 +30,7 @@ pub struct MemFiles {
     load_faults: u64,
     store_faults: u64,
     bytes_read: u64,
+    stores: u64,
 }
 
 impl Model for MemFiles {
@@ -50,6 +51,7 @@ impl Model for MemFiles {
       load_faults = s.load_faults;
       store_faults = s.store_faults;
       bytes_read = s.bytes_read;
+      stores = s.stores;
     } };
 
     ghost invariant = { λ s. 1 ≤ s.most };
@@ -71,7 +73,7 @@ impl MemFiles {
         failing: Vec<u64>,
     ) -> Result<MemFiles, AllocError>
         requires { 1 ≤ most }
-        ensures { IfOk result (λ all. all ≡ record { files = files_of files.items; target = target.now; room = room; most = most; failing = failing.items; calls = 0; load_faults = 0; store_faults = 0; bytes_read = 0 }) }
+        ensures { IfOk result (λ all. all ≡ record { files = files_of files.items; target = target.now; room = room; most = most; failing = failing.items; calls = 0; load_faults = 0; store_faults = 0; bytes_read = 0; stores = 0 }) }
     {
         Ok(MemFiles {
             files,
@@ -84,6 +86,7 @@ impl MemFiles {
             load_faults: 0,
             store_faults: 0,
             bytes_read: 0,
+            stores: 0,
         })
     }
 
@@ -129,6 +132,7 @@ impl MemFiles {
         ensures after_failed { IsErrOf result (StoreFault.Failed false 0) → self.new ≡ after_failed_store self.old }
     {
         self.calls = self.calls.saturating_add(1);
+        self.stores = self.stores.saturating_add(1);
         if is_listed(&self.failing, self.calls) || name != self.target.as_str() {
             self.store_faults = self.store_faults.saturating_add(1);
             return Err(StoreFault::Failed {
@@ -158,6 +162,8 @@ impl Files for MemFiles {
     ghost store_faults = { λ s. s.store_faults };
 
     ghost bytes_read = { λ s. s.bytes_read };
+
+    ghost stores = { λ s. s.stores };
 
     fn load(&mut self, alloc: Global, name: &str, limit: usize) -> Result<Vec<u8>, TakeFault>
         requires { limit < 2 ^ 32 }

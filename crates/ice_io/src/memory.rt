@@ -1,7 +1,7 @@
 // Sources and sinks in memory. They know their bytes, and fail at the calls that were chosen.
 ghost use Rattle.std.specs.Prelude.{◌≡◌, ◌⊎◌, ◌↔◌, ◌+◌, ◌++◌, ◌<◌, ◌≤◌, min, ℕ, [], Some, length, take, drop, IfOk, OnErr, IsErr, IsTrue, Contains};
 ghost use Rattle.std.specs.Io.KnownBytes.{ReadConsumes, WriteAppends};
-ghost use Rattle.ice_io.specs.Faults.{counted, Rose};
+ghost use Rattle.ice_io.specs.Faults.{counted, Rose, RoseBy};
 ghost use Rattle.ice_io.specs.InMemory.{ReadFails, read_size, after_read, after_failed_read, WriteFails, room_left, write_size, after_write, after_failed_write};
 
 use crate::pieces::{copy_front, is_listed};
@@ -19,6 +19,7 @@ pub struct MemSource {
     failing: Vec<u64>,
     calls: u64,
     faults: u64,
+    bytes_read: u64,
 }
 
 impl Model for MemSource {
@@ -27,7 +28,7 @@ impl Model for MemSource {
 
     ghost Value = { SourceState };
 
-    ghost view = { λ s. record { left = drop s.at s.bytes.items; most = s.most; failing = s.failing.items; calls = s.calls; faults = s.faults } };
+    ghost view = { λ s. record { left = drop s.at s.bytes.items; most = s.most; failing = s.failing.items; calls = s.calls; faults = s.faults; bytes_read = s.bytes_read } };
 
     ghost invariant = { λ s. (s.at ≤ vec_len s.bytes) × (1 ≤ s.most) };
 }
@@ -36,7 +37,7 @@ impl MemSource {
     /// A source of these bytes. A read gives at most `most` of them. `failing` lists the reads that fail, counted from 1.
     pub fn new(bytes: Vec<u8>, most: usize, failing: Vec<u64>) -> MemSource
         requires { 1 ≤ most }
-        ensures { result ≡ record { left = bytes.items; most = most; failing = failing.items; calls = 0; faults = 0 } }
+        ensures { result ≡ record { left = bytes.items; most = most; failing = failing.items; calls = 0; faults = 0; bytes_read = 0 } }
     {
         MemSource {
             bytes,
@@ -45,6 +46,7 @@ impl MemSource {
             failing,
             calls: 0,
             faults: 0,
+            bytes_read: 0,
         }
     }
 }
@@ -54,8 +56,12 @@ impl Source for MemSource {
 
     ghost faults = { λ s. s.faults };
 
+    ghost bytes_read = { λ s. s.bytes_read };
+
     fn read(&mut self, into: &mut [u8]) -> Result<usize, Failed>
         ensures bytes { ReadConsumes (Some self.old.left) (Some self.new.left) result into.new }
+        ensures read { IfOk result (λ n. RoseBy n self.old.bytes_read self.new.bytes_read) }
+        ensures bytes_never_fall { self.old.bytes_read ≤ self.new.bytes_read }
         ensures never_falls { self.old.faults ≤ self.new.faults }
 
         ensures fails { IsErr result ↔ ReadFails self.old }
@@ -71,6 +77,7 @@ impl Source for MemSource {
         }
         let count = copy_front(&self.bytes[self.at..], self.most, into);
         self.at += count;
+        self.bytes_read = self.bytes_read.saturating_add(count as u64);
         Ok(count)
     }
 }

@@ -1,10 +1,11 @@
 // Sources and sinks over the readers and writers of the standard library. They know the bytes if those do: in memory, but
 // not in a file, at a terminal or in a pipe.
-ghost use Rattle.std.specs.Prelude.{◌≡◌, ◌≢◌, ◌<◌, ◌≤◌, ℕ, length, IfOk, IfErr, OnOk, OnErr};
+ghost use Rattle.std.specs.Prelude.{◌≡◌, ◌≢◌, ◌<◌, ◌≤◌, ℕ, length, Ok, IfOk, IfErr, IfNone, IfSome, IsErr, OnOk, OnErr};
 ghost use Rattle.std.specs.Fs.{metadata_len};
 ghost use Rattle.std.specs.IoError.{error_kind};
 ghost use Rattle.std.specs.Io.KnownBytes.{ReadConsumes, WriteAppends};
-ghost use Rattle.ice_io.specs.Faults.{counted};
+ghost use Rattle.ice_io.specs.Faults.{counted, RoseBy};
+ghost use Rattle.ice_io.specs.Real.{writer_of, write_faults};
 
 use crate::sink::Sink;
 use crate::source::{Failed, Source};
@@ -17,17 +18,23 @@ use std::io::{Error, ErrorKind, Read, Write};
 pub struct StdSource<R: Read> {
     inner: R,
     faults: u64,
+    bytes_read: u64,
 }
 
 impl<R: Read> StdSource<R> {
-    ghost use Rattle.ice_io.specs.Real.{reader_of, read_faults};
+    ghost use Rattle.ice_io.specs.Real.{reader_of, read_faults, read_bytes};
 
-    /// A source over this reader, with no failure counted yet.
+    /// A source over this reader, with nothing counted yet.
     pub fn new(inner: R) -> StdSource<R>
         ensures reader { reader_of result ≡ inner }
         ensures faults { read_faults result ≡ 0 }
+        ensures bytes_read { read_bytes result ≡ 0 }
     {
-        StdSource { inner, faults: 0 }
+        StdSource {
+            inner,
+            faults: 0,
+            bytes_read: 0,
+        }
     }
 }
 
@@ -50,22 +57,30 @@ fn length_in(told: io::Result<Metadata>) -> usize
 }
 
 impl<R: Read> Source for StdSource<R> {
-    ghost use Rattle.ice_io.specs.Real.{reader_of, read_faults};
+    ghost use Rattle.ice_io.specs.Real.{reader_of, read_faults, read_bytes};
 
     ghost left = { λ source. R.remaining source.inner };
 
     ghost faults = { λ source. source.faults };
 
+    ghost bytes_read = { λ source. source.bytes_read };
+
     fn read(&mut self, into: &mut [u8]) -> Result<usize, Failed>
         ensures count { IfOk result (λ n. n ≤ length into.new) }
         ensures bytes { ReadConsumes (R.remaining (reader_of self.old)) (R.remaining (reader_of self.new)) result into.new }
+        ensures read { IfOk result (λ n. RoseBy n (read_bytes self.old) (read_bytes self.new)) }
+        ensures unread { OnErr result (read_bytes self.new ≡ read_bytes self.old) }
+        ensures bytes_never_fall { read_bytes self.old ≤ read_bytes self.new }
         ensures never_falls { read_faults self.old ≤ read_faults self.new }
 
         ensures ok { OnOk result (read_faults self.new ≡ read_faults self.old) }
         ensures failed { OnErr result (read_faults self.new ≡ counted (read_faults self.old)) }
     {
         match read_once(&mut self.inner, into) {
-            Ok(count) => Ok(count),
+            Ok(count) => {
+                self.bytes_read = self.bytes_read.saturating_add(count as u64);
+                Ok(count)
+            }
             Err(_) => {
                 self.faults = self.faults.saturating_add(1);
                 Err(Failed)
@@ -116,6 +131,17 @@ impl<W: Write> Sink for StdSink<W> {
                 Err(Failed)
             }
         }
+    }
+}
+
+// A sink over a file, if it was opened.
+pub(crate) fn opened_sink<W: Write + Drop>(opened: io::Result<W>) -> Option<StdSink<W>>
+    ensures open { IfSome result (λ sink. (opened ≡ Ok (writer_of sink)) × (write_faults sink ≡ 0)) }
+    ensures none { IfNone result (IsErr opened) }
+{
+    match opened {
+        Ok(file) => Some(StdSink::new(file)),
+        Err(_) => None,
     }
 }
 

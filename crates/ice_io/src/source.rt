@@ -1,8 +1,8 @@
 // Reading bytes.
-ghost use Rattle.std.specs.Prelude.{◌≡◌, ◌≢◌, ◌+◌, ◌<◌, ◌≤◌, ◌^◌, ℕ, List, [], Option, length, min, vec_len, vec_capacity, take, drop, IfOk, OnOk, OnErr, IsErrOf};
+ghost use Rattle.std.specs.Prelude.{◌≡◌, ◌≢◌, ◌+◌, ◌-◌, ◌<◌, ◌≤◌, ◌^◌, ℕ, List, [], Option, length, min, vec_len, vec_capacity, take, drop, IfOk, OnOk, OnErr, IsErrOf};
 ghost use Rattle.std.specs.Io.KnownBytes.{Consumes, IsAtEnd, Keeps, ReadConsumes};
-ghost use Rattle.ice_io.specs.Faults.{Rose};
-ghost use Rattle.ice_io.specs.Taken.{TakesCount, TakesAtMost, TakesAll};
+ghost use Rattle.ice_io.specs.Faults.{Rose, RoseBy};
+ghost use Rattle.ice_io.specs.Taken.{TakesCount, TakesAtMost, TakesAll, turn_of};
 
 use std::alloc::{AllocError, Global};
 
@@ -18,11 +18,17 @@ pub trait Source {
     /// How many reads have failed. It never falls, and stays at `u64::MAX`.
     ghost faults: { Self → ℕ };
 
+    /// How many bytes were read. It never falls, and stays at `u64::MAX`.
+    ghost bytes_read: { Self → ℕ };
+
     /// Reads bytes into the front of the buffer, and returns how many. It returns 0 only at the end of the input, or for an
     /// empty buffer. `Failed` leaves the unread bytes as they were.
     fn read(&mut self, into: &mut [u8]) -> Result<usize, Failed>
         ensures count { IfOk result (λ n. n ≤ length into.new) }
         ensures bytes { ReadConsumes (left self.old) (left self.new) result into.new }
+        ensures read { IfOk result (λ n. RoseBy n (bytes_read self.old) (bytes_read self.new)) }
+        ensures unread { OnErr result (bytes_read self.new ≡ bytes_read self.old) }
+        ensures bytes_never_fall { bytes_read self.old ≤ bytes_read self.new }
         ensures never_falls { faults self.old ≤ faults self.new }
         ensures failed { OnErr result (Rose (faults self.old) (faults self.new)) };
 }
@@ -77,6 +83,8 @@ pub fn read_all<S: Source>(
         → TakesCount (S.left source.old) (S.left source.new) (limit + 1) }
     ensures not_too_long { (IsErrOf result TakeFault.TooLong → ⊥)
         → TakesAtMost (S.left source.old) (S.left source.new) limit }
+    ensures read_past { IsErrOf result TakeFault.TooLong → RoseBy (limit + 1) (S.bytes_read source.old) (S.bytes_read source.new) }
+    ensures bytes_never_fall { S.bytes_read source.old ≤ S.bytes_read source.new }
     ensures never_falls { S.faults source.old ≤ S.faults source.new }
     ensures failed { IsErrOf result TakeFault.Failed → Rose (S.faults source.old) (S.faults source.new) }
 {
@@ -98,6 +106,8 @@ pub(crate) fn read_expected<S: Source>(
         → TakesCount (S.left source.old) (S.left source.new) (limit + 1) }
     ensures not_too_long { (IsErrOf result TakeFault.TooLong → ⊥)
         → TakesAtMost (S.left source.old) (S.left source.new) limit }
+    ensures read_past { IsErrOf result TakeFault.TooLong → RoseBy (limit + 1) (S.bytes_read source.old) (S.bytes_read source.new) }
+    ensures bytes_never_fall { S.bytes_read source.old ≤ S.bytes_read source.new }
     ensures never_falls { S.faults source.old ≤ S.faults source.new }
     ensures failed { IsErrOf result TakeFault.Failed → Rose (S.faults source.old) (S.faults source.new) }
 {
@@ -126,7 +136,8 @@ fn first_room(alloc: Global, expected: usize, limit: usize) -> Result<Vec<u8>, A
     Vec::with_capacity(alloc, expected.min(limit) + 1)
 }
 
-// Makes room after the first bytes, if there is none. After a refusal the bytes are as before.
+// Makes room after the first bytes, if there is none: as much as there is memory for, or a turn, and none past the byte that follows the
+// limit. After a refusal the bytes are as before.
 fn make_room(bytes: &mut Vec<u8>, filled: usize, limit: usize) -> Result<(), AllocError>
     requires small { limit < 2 ^ 32 }
     requires below { filled ≤ limit }
@@ -134,7 +145,9 @@ fn make_room(bytes: &mut Vec<u8>, filled: usize, limit: usize) -> Result<(), All
     requires most { vec_len bytes.old ≤ limit + 1 }
     ensures room { OnOk result (filled < vec_len bytes.new) }
     ensures most { vec_len bytes.new ≤ limit + 1 }
-    ensures turn { vec_len bytes.new ≤ vec_len bytes.old + 65536 }
+    ensures turn { OnOk result (filled ≡ vec_len bytes.old
+        → vec_len bytes.new ≡ filled + min (turn_of (vec_capacity bytes.old - filled)) (limit + 1 - filled)) }
+    ensures same { filled < vec_len bytes.old → bytes.new ≡ bytes.old }
     ensures kept { take filled bytes.new.items ≡ take filled bytes.old.items }
     ensures refused { OnErr result (bytes.new.items ≡ bytes.old.items) }
 {
@@ -147,8 +160,7 @@ fn make_room(bytes: &mut Vec<u8>, filled: usize, limit: usize) -> Result<(), All
 
 // For how many bytes room is made, if the vector has memory for so many more.
 fn turn(spare: usize) -> usize
-    ensures some { 0 < result }
-    ensures most { result ≤ 65536 }
+    ensures { result ≡ turn_of spare }
 {
     if spare == 0 { TURN } else { spare.min(TURN) }
 }
@@ -166,6 +178,8 @@ fn read_after<S: Source>(
     ensures taken { IfOk result (λ n. Consumes (S.left source.old) (S.left source.new) (take n (drop filled bytes.new.items))) }
     ensures end { IfOk result (λ n. n ≡ 0 → IsAtEnd (S.left source.new)) }
     ensures none { OnErr result (Keeps (S.left source.old) (S.left source.new)) }
+    ensures read { IfOk result (λ n. RoseBy n (S.bytes_read source.old) (S.bytes_read source.new)) }
+    ensures bytes_never_fall { S.bytes_read source.old ≤ S.bytes_read source.new }
     ensures never_falls { S.faults source.old ≤ S.faults source.new }
     ensures failed { OnErr result (Rose (S.faults source.old) (S.faults source.new)) }
 {

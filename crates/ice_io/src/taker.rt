@@ -1,6 +1,6 @@
 // Taking bytes piece by piece.
 ghost use Rattle.std.specs.Prelude.{◌≡◌, ◌+◌, ◌<◌, ◌≤◌, ◌^◌, ℕ, List, length, min, vec_len, IfOk, OnOk, OnErr, IsErrOf};
-ghost use Rattle.ice_io.specs.Faults.{Rose};
+ghost use Rattle.ice_io.specs.Faults.{Rose, RoseBy};
 ghost use Rattle.ice_io.specs.Taken.{TakesAll, TakesAtMost, TakesCount};
 ghost use Rattle.ice_io.specs.Takers.{TakesMore, TakesRead, TakesFront};
 
@@ -52,6 +52,8 @@ pub fn feed_all<S: Source, T: Taker>(
     ensures part { OnErr result (TakesFront (S.left source.old) (S.left source.new) T.has_taken taker.old taker.new) }
     ensures given { IsErrOf result TakeFault.Failed
         → TakesRead (S.left source.old) (S.left source.new) T.has_taken taker.old taker.new }
+    ensures read_past { IsErrOf result TakeFault.TooLong → RoseBy (limit + 1) (S.bytes_read source.old) (S.bytes_read source.new) }
+    ensures bytes_never_fall { S.bytes_read source.old ≤ S.bytes_read source.new }
     ensures never_falls { S.faults source.old ≤ S.faults source.new }
     ensures failed { IsErrOf result TakeFault.Failed → Rose (S.faults source.old) (S.faults source.new) }
 {

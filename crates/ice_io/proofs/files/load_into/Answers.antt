@@ -24,6 +24,7 @@ loop-buffer-init g c = record {
   faults = omega arith;
   same_contents = refl;
   same_steady = refl;
+  same_stores = refl;
   same_store_faults = refl;
 }
 
@@ -114,5 +115,6 @@ loop-buffer-preserved g c =
       faults = omega (arith, i.faults, e.never_falls);
       same_contents = e.same_contents ∙ i.same_contents;
       same_steady = e.same_steady ∙ i.same_steady;
+      same_stores = e.same_stores ∙ i.same_stores;
       same_store_faults = e.same_store_faults ∙ i.same_store_faults;
     }

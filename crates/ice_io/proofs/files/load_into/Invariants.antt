@@ -20,6 +20,7 @@ invariant-loop-buffer g l =
       faults : F.load_faults l.initial.files ≤ F.load_faults l.files;
       same_contents : F.contents l.files ≡ F.contents l.initial.files;
       same_steady : F.steady l.files ≡ F.steady l.initial.files;
+      same_stores : F.stores l.files ≡ F.stores l.initial.files;
       same_store_faults : F.store_faults l.files ≡ F.store_faults l.initial.files;
     }
 

@@ -23,5 +23,7 @@ loop-bytes-preserved g c =
       filled = c.in_ok-count.ensures.count;
       most = omega (arith, c.make_room.ensures.most, c.read_after.ensures.length);
       below = omega arith;
+      read = (omega (arith, c.loop-bytes.invariant.read.0, c.in_ok-count.ensures.read.0), omega (arith, c.loop-bytes.invariant.read.1, c.in_ok-count.ensures.read.1));
+      bytes = omega (arith, c.loop-bytes.invariant.bytes, c.read_after.ensures.bytes_never_fall);
       faults = omega (arith, c.loop-bytes.invariant.faults, c.read_after.ensures.never_falls);
     }

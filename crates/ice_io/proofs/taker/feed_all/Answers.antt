@@ -40,5 +40,7 @@ loop-buffer-preserved g c =
       within = omega (arith, c.if-taken-count.false);
       room = i.room;
       most = i.most;
+      read = (omega (arith, i.read.0, c.in_ok-count.ensures.read.0), omega (arith, i.read.1, c.in_ok-count.ensures.read.1));
+      bytes = omega (arith, i.bytes, c.in_ok-count.ensures.bytes_never_fall);
       faults = omega (arith, i.faults, c.in_ok-count.ensures.never_falls);
     }

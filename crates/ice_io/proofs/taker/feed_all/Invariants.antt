@@ -1,5 +1,6 @@
 use Rattle.std.proofs.Common.{◌≡◌, ℕ, List, length, vec_len, ◌-◌, ◌+◌, ◌≤◌}
 use Rattle.std.specs.Io.KnownBytes.{Consumes}
+use Rattle.ice_io.specs.Faults.{RoseBy}
 use Rattle.ice_io.specs.Takers.{TakesMore}
 use Rattle.ice_io.proofs.taker.feed_all.Given as goal
 
@@ -12,6 +13,8 @@ invariant-loop-buffer g l = record {
   within : l.taken ≤ l.limit;
   room : 1 ≤ vec_len l.buffer;
   most : vec_len l.buffer ≤ 65536;
+  read : RoseBy l.taken (g.S.Source.bytes_read l.initial.source) (g.S.Source.bytes_read l.source);
+  bytes : g.S.Source.bytes_read l.initial.source ≤ g.S.Source.bytes_read l.source;
   faults : g.S.Source.faults l.initial.source ≤ g.S.Source.faults l.source;
 }
 

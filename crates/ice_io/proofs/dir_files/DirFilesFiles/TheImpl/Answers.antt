@@ -56,6 +56,7 @@ load-tells g c = record {
   same_contents = refl;
   same_steady = refl;
   never_falls = c.ensures.never_falls;
+  same_stores = c.ensures.same_stores;
   same_store_faults = c.ensures.same_store_faults;
 }
 
@@ -72,6 +73,7 @@ read_at-tells g c = record {
   same_contents = refl;
   same_steady = refl;
   never_falls = c.ensures.never_falls;
+  same_stores = c.ensures.same_stores;
   same_store_faults = c.ensures.same_store_faults;
 }
 
@@ -79,6 +81,7 @@ pub store-tells : goal.store-tells
 store-tells g c = record {
   whole = on_ok c.result refl;
   part = c.ensures.part;
+  begun = c.ensures.begun;
   failed = on_err c.result (λ h. omega (arith, ap (λ (s : FileCounts). s.store_faults) h)) c.ensures.failed;
   same_steady = refl;
   never_falls = c.ensures.never_falls;
@@ -97,6 +100,7 @@ pub store_content-tells : goal.store_content-tells
 store_content-tells g c = record {
   whole = on_ok c.result refl;
   part = c.ensures.part;
+  begun = c.ensures.begun;
   failed = counts_store c.args.self.now.store_faults c.new.self.now.store_faults _ c.result (λ h. omega (arith, ap (λ (s : FileCounts). s.store_faults) h)) (λ e were. were) c.ensures.failed c.ensures.first;
   same_steady = refl;
   never_falls = c.ensures.never_falls;

@@ -71,6 +71,8 @@ impl<F: Read + Drop> KeptFile<F> {
         ensures read { IfOk result (WereRead F.remaining into.new) }
         ensures kept { (name : List ℕ) (at : ℕ) → IsKept self.old.file (take self.old.name_len self.old.name) self.old.place name at
             → IfOk result (λ n. 0 < n → at + n < 2 ^ 64 → IsKept self.new.file (take self.new.name_len self.new.name) self.new.place name (at + n)) }
+        ensures end { IfOk result (λ n. n ≡ 0 → 0 < length into.new → self.new.file ≡ None) }
+        ensures unknown { self.old.place ≡ None → self.new.place ≡ None }
         ensures failed { OnErr result (FailsOver read_faults self.old.file self.new.file) }
     {
         let Ok(count) = read_open(&mut self.file, into) else {
@@ -110,6 +112,8 @@ pub(crate) fn read_part<R: rt::Files>(
     ensures count { IfOk result (λ n. n ≤ length into.new) }
     ensures read { IfOk result (WereRead R.File.remaining into.new) }
     ensures kept { IfOk result (λ n. 0 < n → length name.now ≤ 4095 → at + n < 2 ^ 64 → IsKept kept.new.file (take kept.new.name_len kept.new.name) kept.new.place name.now (at + n)) }
+    ensures long { 4095 < length name.now → OnOk result (kept.new.place ≡ None) }
+    ensures end { IfOk result (λ n. n ≡ 0 → 0 < length into.new → kept.new.file ≡ None) }
     // A read fails where the file that is kept fails, and, if none is kept for this place, where one can't be opened or fails.
     ensures failed { OnErr result (IsKept kept.old.file (take kept.old.name_len kept.old.name) kept.old.place name.now at → FailsOver read_faults kept.old.file kept.new.file) }
     ensures fault { OnErr result (IfSome kept.new.file (λ file. 0 < read_faults file)) }

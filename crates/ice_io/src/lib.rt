@@ -1,4 +1,5 @@
-//! Input and output: sources of bytes, sinks for bytes, and files by name. Each counts its failures.
+//! Input and output: sources of bytes, sinks for bytes, and files by name. Each counts its failures; sources and files count the bytes that
+//! were read, and files the stores that were begun.
 //!
 //! The sources, sinks and files in memory know their bytes, and fail at the calls that you choose. `StdSource`, `StdSink` and
 //! `DirFiles` stand over the standard library. They promise that all bytes were read or written, and an exact count if not;

@@ -9,13 +9,15 @@ use Rattle.ice_io.proofs.mem_files.MemFiles.replace.Goals as goal
 use Rattle.ice_io.proofs.mem_files.MemFiles.replace.Goals.{then-is_listed-via-then-is_listed, then-is_listed-via-else-is_listed+then-ne}
 
 pub returns-then-is_listed-clause-fails : goal.returns-then-is_listed-clause-fails
-returns-then-is_listed-clause-fails g c =
-    (λ _. elim c.then-is_listed.branch [
-      | then-is_listed-via-then-is_listed w ↦
-          let listed : Contains c.self.inside.failing.items (counted c.self.inside.calls) = rw (c.deref.ensures.value, c.saturating_add-self-inside.ensures) at c.is_listed.ensures.0 w.if-is_listed.true in
-          inl (subst (λ (s : FilesState). Contains s.failing (counted s.calls)) c.self.view_is listed)
-      | then-is_listed-via-else-is_listed+then-ne w ↦ inr (search rules)
-    ], λ _. refl)
+returns-then-is_listed-clause-fails g c = (
+  λ _. elim c.then-is_listed.branch [
+    | then-is_listed-via-then-is_listed w ↦
+        let listed : Contains c.self.inside.failing.items (counted c.self.inside.calls) = rw (c.deref.ensures.value, c.saturating_add-self-inside.ensures) at c.is_listed.ensures.0 w.if-is_listed.true in
+        inl (subst (λ (s : FilesState). Contains s.failing (counted s.calls)) c.self.view_is listed)
+    | then-is_listed-via-else-is_listed+then-ne w ↦ inr (search rules)
+  ],
+  λ _. refl,
+)
 
 pub returns-then-fill-clause-after : goal.returns-then-fill-clause-after
 returns-then-fill-clause-after g c =

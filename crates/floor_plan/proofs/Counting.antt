@@ -30,7 +30,7 @@ use Rattle.plan_marks.specs.declared.plan.Part.{Part}
 use Rattle.plan_marks.specs.declared.plan.Part.TheVariants.{Cell, Lower, Upper, Pin}
 use Rattle.plan_marks.specs.Plans.{Plan, TilePlan, class_of, count_of, has_class, marks_in}
 use Rattle.plan_marks.proofs.Classes.{cell-classes, pin-classes}
-use Rattle.floor_plan.specs.Laws.{CountsAgree, has_registers, is_cell, is_lower, is_pin, is_upper, marks_that}
+use Rattle.floor_plan.specs.Laws.{CountsAgree, LinksAgree, has_registers, is_cell, is_lower, is_pin, is_upper, marks_that}
 use Rattle.floor_plan.specs.Marks.{cell_mark, is_registered, lower_mark, pin_mark, pin_part, upper_mark}
 use Rattle.floor_plan.specs.Plans.{floor_plan, is_on_at, links_at, tile_of, tiles_of}
 use Rattle.floor_plan.proofs.Kept.{count_by-all, count_by-both, count_by-cons, count_by-map, count_by-same}
@@ -184,61 +184,65 @@ module _ (all : Bool) (db : Database) (image : Configuration) (device_is : db.ch
         ∙ over-plus (grid_width device) (grid_height device) (λ x y. count_by (is_on_at image x y) db.buffers) (λ x y. count_by (is_on_at image x y) db.routings)
         ∙ ap₂ (λ n m. n + m) (on-grid db.buffers fit.buffers) (on-grid db.routings fit.routings)
 
-    -- ---- the law
+-- ---- the laws
 
-    lut : (carry flip : Bool) → is_among (codes "lfcd") (if carry then (if flip then 100 else 99) else (if flip then 102 else 108)) ≡ true
-    lut true true = refl
-    lut true false = refl
-    lut false true = refl
-    lut false false = refl
+pub links-told : (all : Bool) (db : Database) (image : Configuration) → LinksAgree all db image
+unfolding counts_of floor_plan
+links-told all db image device_is fit = links-agree all db image device_is fit
 
-    flop : (carry flip : Bool) → is_among (codes "fd") (if carry then (if flip then 100 else 99) else (if flip then 102 else 108)) ≡ flip
-    flop true true = refl
-    flop true false = refl
-    flop false true = refl
-    flop false false = refl
+module _ (all : Bool) (db : Database) (image : Configuration) where
+  lut : (carry flip : Bool) → is_among (codes "lfcd") (if carry then (if flip then 100 else 99) else (if flip then 102 else 108)) ≡ true
+  lut true true = refl
+  lut true false = refl
+  lut false true = refl
+  lut false false = refl
 
-    carry : (carry flip : Bool) → is_among (codes "cd") (if carry then (if flip then 100 else 99) else (if flip then 102 else 108)) ≡ carry
-    carry true true = refl
-    carry true false = refl
-    carry false true = refl
-    carry false false = refl
+  flop : (carry flip : Bool) → is_among (codes "fd") (if carry then (if flip then 100 else 99) else (if flip then 102 else 108)) ≡ flip
+  flop true true = refl
+  flop true false = refl
+  flop false true = refl
+  flop false false = refl
 
-    abbrev plan : Plan
-    plan = floor_plan all db image
+  carry : (carry flip : Bool) → is_among (codes "cd") (if carry then (if flip then 100 else 99) else (if flip then 102 else 108)) ≡ carry
+  carry true true = refl
+  carry true false = refl
+  carry false true = refl
+  carry false false = refl
 
-    -- the cells with these classes, and the pins with these
-    cells-with : (classes : List ℕ) (wanted : LogicCell → Bool) → is_among classes 114 ≡ false → is_among classes 117 ≡ false
-        → is_among classes 113 ≡ false → is_among classes 98 ≡ false → is_among classes 112 ≡ false → is_among classes 111 ≡ false → is_among classes 106 ≡ false → is_among classes 105 ≡ false
-        → ((lc : LogicCell) → has_class classes (cell_mark lc) ≡ wanted lc) → count_of classes plan ≡ count_by wanted (cells_of db image)
-    cells-with classes wanted r u q b p o j i each =
-        counted classes is_cell cell_mark wanted (cells_of db image) plan (cells-stand db image all) (cells-alone classes r u q b p o j i) each
+  abbrev plan : Plan
+  plan = floor_plan all db image
 
-    pins-with : (classes : List ℕ) (wanted : PortPin → Bool) → is_among classes 114 ≡ false → is_among classes 117 ≡ false
-        → is_among classes 100 ≡ false → is_among classes 99 ≡ false → is_among classes 102 ≡ false → is_among classes 108 ≡ false
-        → ((pin : PortPin) → has_class classes (pin_mark pin) ≡ wanted pin) → count_of classes plan ≡ count_by wanted (pins_of all db image)
-    pins-with classes wanted r u d c f l each =
-        counted classes is_pin pin_mark wanted (pins_of all db image) plan (pins-stand db image all) (pins-alone classes r u d c f l) each
+  -- the cells with these classes, and the pins with these
+  cells-with : (classes : List ℕ) (wanted : LogicCell → Bool) → is_among classes 114 ≡ false → is_among classes 117 ≡ false
+      → is_among classes 113 ≡ false → is_among classes 98 ≡ false → is_among classes 112 ≡ false → is_among classes 111 ≡ false → is_among classes 106 ≡ false → is_among classes 105 ≡ false
+      → ((lc : LogicCell) → has_class classes (cell_mark lc) ≡ wanted lc) → count_of classes plan ≡ count_by wanted (cells_of db image)
+  cells-with classes wanted r u q b p o j i each =
+      counted classes is_cell cell_mark wanted (cells_of db image) plan (cells-stand db image all) (cells-alone classes r u q b p o j i) each
 
-    pub counts-agree : CountsAgree all db image plan
-    unfolding counts_of floor_plan
-    counts-agree = record {
-      luts = cells-with (codes "lfcd") (λ lc. true) refl refl refl refl refl refl refl refl (λ (lc : LogicCell). lut lc.carry lc.flip) ∙ count_by-all (cells_of db image);
-      flops = cells-with (codes "fd") (λ (lc : LogicCell). lc.flip) refl refl refl refl refl refl refl refl (λ lc. flop lc.carry lc.flip);
-      carries = cells-with (codes "cd") (λ (lc : LogicCell). lc.carry) refl refl refl refl refl refl refl refl (λ lc. carry lc.carry lc.flip);
-      rams = counted (codes "r") is_lower lower_mark (λ ram. true) (rams_of db image) plan (lower-stand db image all) lower-alone (λ (ram : RamCell). refl) ∙ count_by-all (rams_of db image);
-      upper_rams = counted (codes "u") is_upper upper_mark (λ ram. true) (rams_of db image) plan (upper-stand db image all) upper-alone (λ (ram : RamCell). refl) ∙ count_by-all (rams_of db image);
-      pins = pins-with (codes "ijopbq") (λ pin. true) refl refl refl refl refl refl
-          (λ (pin : PortPin). pin-classes (λ letter. is_among (codes "ijopbq") letter ≡ true) refl refl refl refl refl refl (pin_part pin))
-          ∙ count_by-all (pins_of all db image);
-      inputs = pins-with (codes "ij") (λ (pin : PortPin). not (drives pin)) refl refl refl refl refl refl
-          (λ (pin : PortPin). input-letter (is_switched pin) (drives pin) (is_registered pin) (λ is. ever-at-times pin.drive is));
-      outputs = pins-with (codes "op") (λ (pin : PortPin). drives pin && not (is_switched pin)) refl refl refl refl refl refl
-          (λ (pin : PortPin). output-letter (is_switched pin) (drives pin) (is_registered pin));
-      switched = pins-with (codes "bq") is_switched refl refl refl refl refl refl (λ (pin : PortPin). switched-letter (is_switched pin) (drives pin) (is_registered pin));
-      registered = pins-with (codes "jpq") has_registers refl refl refl refl refl refl
-          (λ (pin : PortPin). register-letter (is_switched pin) (drives pin) (is_registered pin) ∙ sym (registers-are pin));
-      numbers = globals-numbered db all image (is_read db image);
-      globals = globals-marked db all image (is_read db image);
-      links = links-agree;
-    }
+  pins-with : (classes : List ℕ) (wanted : PortPin → Bool) → is_among classes 114 ≡ false → is_among classes 117 ≡ false
+      → is_among classes 100 ≡ false → is_among classes 99 ≡ false → is_among classes 102 ≡ false → is_among classes 108 ≡ false
+      → ((pin : PortPin) → has_class classes (pin_mark pin) ≡ wanted pin) → count_of classes plan ≡ count_by wanted (pins_of all db image)
+  pins-with classes wanted r u d c f l each =
+      counted classes is_pin pin_mark wanted (pins_of all db image) plan (pins-stand db image all) (pins-alone classes r u d c f l) each
+
+  pub counts-agree : CountsAgree all db image plan
+  unfolding counts_of floor_plan
+  counts-agree = record {
+    luts = cells-with (codes "lfcd") (λ lc. true) refl refl refl refl refl refl refl refl (λ (lc : LogicCell). lut lc.carry lc.flip) ∙ count_by-all (cells_of db image);
+    flops = cells-with (codes "fd") (λ (lc : LogicCell). lc.flip) refl refl refl refl refl refl refl refl (λ lc. flop lc.carry lc.flip);
+    carries = cells-with (codes "cd") (λ (lc : LogicCell). lc.carry) refl refl refl refl refl refl refl refl (λ lc. carry lc.carry lc.flip);
+    rams = counted (codes "r") is_lower lower_mark (λ ram. true) (rams_of db image) plan (lower-stand db image all) lower-alone (λ (ram : RamCell). refl) ∙ count_by-all (rams_of db image);
+    upper_rams = counted (codes "u") is_upper upper_mark (λ ram. true) (rams_of db image) plan (upper-stand db image all) upper-alone (λ (ram : RamCell). refl) ∙ count_by-all (rams_of db image);
+    pins = pins-with (codes "ijopbq") (λ pin. true) refl refl refl refl refl refl
+        (λ (pin : PortPin). pin-classes (λ letter. is_among (codes "ijopbq") letter ≡ true) refl refl refl refl refl refl (pin_part pin))
+        ∙ count_by-all (pins_of all db image);
+    inputs = pins-with (codes "ij") (λ (pin : PortPin). not (drives pin)) refl refl refl refl refl refl
+        (λ (pin : PortPin). input-letter (is_switched pin) (drives pin) (is_registered pin) (λ is. ever-at-times pin.drive is));
+    outputs = pins-with (codes "op") (λ (pin : PortPin). drives pin && not (is_switched pin)) refl refl refl refl refl refl
+        (λ (pin : PortPin). output-letter (is_switched pin) (drives pin) (is_registered pin));
+    switched = pins-with (codes "bq") is_switched refl refl refl refl refl refl (λ (pin : PortPin). switched-letter (is_switched pin) (drives pin) (is_registered pin));
+    registered = pins-with (codes "jpq") has_registers refl refl refl refl refl refl
+        (λ (pin : PortPin). register-letter (is_switched pin) (drives pin) (is_registered pin) ∙ sym (registers-are pin));
+    numbers = globals-numbered db all image (is_read db image);
+    globals = globals-marked db all image (is_read db image);
+  }

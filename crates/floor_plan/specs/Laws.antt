@@ -6,6 +6,7 @@ use Rattle.plane_map.specs.Layout.{kind_of}
 use Rattle.plane_map.specs.declared.tile.TileKind.{TileKind}
 use Rattle.ice_image.specs.Configuration.{Configuration}
 use Rattle.chipdb_reader.specs.Database.{Database}
+use Rattle.chipdb_reader.specs.Fit.{IsFit}
 use Rattle.fabric_model.specs.declared.cell.LogicCell.{LogicCell}
 use Rattle.fabric_model.specs.declared.pin.PadData.{PadData}
 use Rattle.fabric_model.specs.declared.pin.PadData.TheVariants as sends
@@ -23,7 +24,7 @@ use Rattle.plan_marks.specs.declared.plan.Part.{Part}
 use Rattle.plan_marks.specs.declared.plan.Part.TheVariants.{Cell, Lower, Upper, Pin}
 use Rattle.plan_marks.specs.declared.plan.PinPart.{PinPart}
 use Rattle.plan_marks.specs.Plans.{Plan, TilePlan, count_of, marks_in}
-use Rattle.floor_plan.specs.Plans.{is_mark_at, links_at}
+use Rattle.floor_plan.specs.Plans.{floor_plan, is_mark_at, links_at}
 
 -- ---- what the marks of a plan are
 
@@ -143,8 +144,7 @@ pub record HasTiles (db : Database) (image : Configuration) (plan : Plan) : Type
 
 -- ---- what can be counted in it
 
--- The marks of a plan, by their classes, are as many as icebox_stat tells, and so are the links of its tiles: each line of a database that was read names a
--- tile of its device.
+-- The marks of a plan, by their classes, are as many as icebox_stat tells, and so are the global networks.
 pub record CountsAgree (all : Bool) (db : Database) (image : Configuration) (plan : Plan) : Type 0 where
   pub luts : count_of (codes "lfcd") plan ≡ (counts_of all db image).luts
   pub flops : count_of (codes "fd") plan ≡ (counts_of all db image).flops
@@ -158,4 +158,10 @@ pub record CountsAgree (all : Bool) (db : Database) (image : Configuration) (pla
   pub registered : count_of (codes "jpq") plan ≡ count_by has_registers (pins_of all db image)
   pub numbers : map (λ global. global.g) plan.globals ≡ globals_among (globals_of all db image)
   pub globals : length plan.globals ≡ (counts_of all db image).globals
-  pub links : sum_by (λ tile. tile.links) plan.tiles ≡ (counts_of all db image).buffers + (counts_of all db image).routings
+
+-- So are the links of all tiles, if the database is for the device of the image and each of its lines is in a tile of that device, as in each database that
+-- was read.
+abbrev pub LinksAgree : Bool → Database → Configuration → Type 0
+LinksAgree all db image =
+    db.chip.device ≡ image.layout.device → IsFit db
+    → sum_by (λ tile. tile.links) (floor_plan all db image).tiles ≡ (counts_of all db image).buffers + (counts_of all db image).routings

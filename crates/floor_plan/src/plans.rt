@@ -1,7 +1,6 @@
 // The floor plan of a database and an image.
 ghost use Rattle.std.specs.Prelude.{◌≡◌, ◌++◌, ◌<◌, All, IfErr, IfOk, None, OnOk, map};
 ghost use Rattle.ice_image.specs.Either.{configuration_of};
-ghost use Rattle.chipdb_reader.specs.Fit.{IsFit};
 ghost use Rattle.chipdb_reader.specs.Kept.{database_in};
 ghost use Rattle.fabric_model.specs.Cells.{cells_of};
 ghost use Rattle.fabric_model.specs.Links.{AreLinks};
@@ -11,7 +10,6 @@ ghost use Rattle.fabric_model.specs.Rams.{rams_of};
 ghost use Rattle.image_stat.specs.Faults.{IsCause, stat_fault};
 ghost use Rattle.plan_marks.specs.Plans.{plan_in};
 ghost use Rattle.floor_plan.specs.ByTile.{CountsLinks, IsLinkNear};
-ghost use Rattle.floor_plan.specs.Laws.{CountsAgree, HasTiles, StandsOnce};
 ghost use Rattle.floor_plan.specs.Marks.{cell_mark, lower_mark, marks_of, pin_mark, upper_mark};
 ghost use Rattle.floor_plan.specs.Plans.{floor_plan};
 
@@ -29,7 +27,8 @@ use plan_marks::{FloorPlan, Mark};
 use std::alloc::{AllocError, Global};
 
 /// The floor plan of an image, by the names of a chip database. `all_pins` says whether pins of every kind are taken. Each used logic cell, each
-/// used RAM and each pin that is a port stands in it once, and their counts are those of `image_stat`.
+/// used RAM and each pin that is a port stands in it once, and their counts are those of `image_stat`: these are laws of the plan,
+/// [`parts_stand_once`](crate::parts_stand_once) and [`marks_are_counted`](crate::marks_are_counted).
 ///
 /// # Errors
 /// Those of `image_stat::stat`.
@@ -47,9 +46,6 @@ pub fn floor_plan(
     all_pins: bool,
 ) -> Result<FloorPlan, StatFault>
     ensures plan { IfOk result (λ plan. plan_in plan ≡ floor_plan all_pins (database_in db.now) (configuration_of image.now)) }
-    ensures stands { IfOk result (λ plan. StandsOnce all_pins (database_in db.now) (configuration_of image.now) (plan_in plan)) }
-    ensures tiles { IfOk result (λ plan. HasTiles (database_in db.now) (configuration_of image.now) (plan_in plan)) }
-    ensures counts { IfOk result (λ plan. CountsAgree all_pins (database_in db.now) (configuration_of image.now) (plan_in plan)) }
     ensures taken { OnOk result (stat_fault all_pins (database_in db.now) (configuration_of image.now) ≡ None) }
     ensures refused { IfErr result (IsCause (stat_fault all_pins (database_in db.now) (configuration_of image.now))) }
 {
@@ -72,8 +68,7 @@ fn plan_of(
     requires globals { parts.now.pins.globals.items ≡ globals_of all_pins (database_in db.now) (configuration_of image.now) }
     requires rams { parts.now.rams.items ≡ rams_of (database_in db.now) (configuration_of image.now) }
     requires cells { parts.now.cells.lcs.items ≡ cells_of (database_in db.now) (configuration_of image.now) }
-    ensures plan { IfOk result (λ plan. plan_in plan ≡ floor_plan all_pins (database_in db.now) (configuration_of image.now)) }
-    ensures fit { IsFit (database_in db.now) }
+    ensures { IfOk result (λ plan. plan_in plan ≡ floor_plan all_pins (database_in db.now) (configuration_of image.now)) }
 {
     let (buffers, routings) = (db.buffers(), db.routings());
     let marks = marks_of(alloc, parts)?;

@@ -108,8 +108,8 @@ calm-cell : (cell : CellPart) → IsCalm (cell_line cell)
 unfolding cell_line read
 calm-cell cell =
     calm-concat (codes "\nlc " ∷ decimal cell.i ∷ codes ": LUT 0x" ∷ word_digits cell.lut
-    ∷ word_if cell.flip (codes " flip-flop") ∷ word_if cell.carry (codes " carry") ∷ word_if cell.«set» (codes " set")
-    ∷ word_if cell.is_async (codes " async") ∷ word_if (cell.flip && cell.neg) (codes " negclk") ∷ []) (λ elements classes. refl, (calm-number cell.i, (λ elements classes. refl, (calm-word cell.lut, (calm-word_if cell.flip (codes " flip-flop") (λ elements classes. refl), (calm-word_if cell.carry (codes " carry") (λ elements classes. refl), (calm-word_if cell.«set» (codes " set") (λ elements classes. refl), (calm-word_if cell.is_async (codes " async") (λ elements classes. refl), (calm-word_if (cell.flip && cell.neg) (codes " negclk") (λ elements classes. refl), tt)))))))))
+    ∷ word_if cell.flip (codes " flip-flop") ∷ word_if cell.carry (codes " carry") ∷ word_if (cell.flip && cell.«set») (codes " set")
+    ∷ word_if cell.is_async (codes " async") ∷ word_if (cell.flip && cell.neg) (codes " negclk") ∷ []) (λ elements classes. refl, (calm-number cell.i, (λ elements classes. refl, (calm-word cell.lut, (calm-word_if cell.flip (codes " flip-flop") (λ elements classes. refl), (calm-word_if cell.carry (codes " carry") (λ elements classes. refl), (calm-word_if (cell.flip && cell.«set») (codes " set") (λ elements classes. refl), (calm-word_if cell.is_async (codes " async") (λ elements classes. refl), (calm-word_if (cell.flip && cell.neg) (codes " negclk") (λ elements classes. refl), tt)))))))))
 
 calm-ram : (x y : ℕ) (ram : RamPart) → IsCalm (ram_line x y ram)
 unfolding ram_line read

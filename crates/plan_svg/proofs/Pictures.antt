@@ -1,5 +1,5 @@
 -- A picture is a document, and the classes of its marks are those of the plan.
-use Rattle.std.proofs.Common.{◌≡◌, ℕ, zero, suc, ◌+◌, ◌<◌, Bool, true, false, not, cond, ◌&&◌, ◌||◌, ◌==◌, List, [], ◌∷◌, ◌++◌, count_by, drop, length, refl, sym, ap, ◌∙◌, subst, arith, inl, inr}
+use Rattle.std.proofs.Common.{◌≡◌, ℕ, zero, suc, ◌+◌, ◌<◌, Bool, true, false, not, cond, ◌&&◌, ◌||◌, ◌==◌, List, [], ◌∷◌, ◌++◌, count_by, drop, length, refl, sym, ap, ◌∙◌, arith, inl, inr}
 use Rattle.std.specs.Prelude.{Option, None, Some, bytes_eq, codes, decimal, flat_map, if◌then◌else◌, is_some}
 use Rattle.std.specs.Fmt.{digits}
 use Rattle.std.specs.List.{concat, list_all, list_any}
@@ -18,7 +18,7 @@ use Rattle.plan_marks.specs.declared.plan.PllMark.{PllMark}
 use Rattle.plan_svg.specs.declared.sheet.Sheet.{Sheet}
 use Rattle.plan_svg.specs.declared.sheet.Side.{Side}
 use Rattle.plan_svg.specs.declared.sheet.Side.TheVariants as side
-use Rattle.plan_svg.specs.Laws.{Draws, drawn_with, has_name, is_framed, is_mark, names_onto}
+use Rattle.plan_svg.specs.Laws.{DrawsPlan, drawn_with, has_name, is_framed, is_mark, names_onto}
 use Rattle.plan_svg.specs.Legend.{legend}
 use Rattle.plan_svg.specs.Margins.{column_numbers, pin_names, row_numbers}
 use Rattle.plan_svg.specs.Names.{Names, name_of}
@@ -426,7 +426,7 @@ module _ (letter : ℕ) (is : is_mark letter ≡ true) where
         )
 
 -- a picture draws its plan
-pub draws : (names : Names) (plan : Plan) → Draws (sheet_of plan.device (is_some names)) plan (plan_svg names plan)
+pub draws : (names : Names) (plan : Plan) → DrawsPlan names plan
 unfolding plan_svg
 draws names plan =
     let sheet = sheet_of plan.device (is_some names) in
@@ -435,10 +435,3 @@ draws names plan =
       document = document sheet names plan;
       marks = λ letter is. counted letter is sheet names plan;
     }
-
--- bytes that were drawn on the sheet of a plan draw the plan
-pub bytes-draw : (names : Names) (plan : Plan) (sheet : Sheet) (bytes : List ℕ) → sheet ≡ sheet_of plan.device (is_some names) → bytes ≡ drawn sheet names plan
-    → Draws (sheet_of plan.device (is_some names)) plan bytes
-unfolding plan_svg
-bytes-draw names plan sheet bytes sheet_is are =
-    subst (Draws (sheet_of plan.device (is_some names)) plan) (sym (are ∙ ap (λ (one : Sheet). drawn one names plan) sheet_is)) (draws names plan)

@@ -1,5 +1,5 @@
 -- The elements of marks stand in their tiles.
-use Rattle.std.proofs.Common.{◌≡◌, ℕ, ◌+◌, Bool, true, List, [], ◌∷◌, ◌++◌, append_assoc, count_by, cond, refl, sym, ap, ◌∙◌, subst, arith}
+use Rattle.std.proofs.Common.{◌≡◌, ℕ, ◌+◌, Bool, true, List, [], ◌∷◌, ◌++◌, append_assoc, count_by, cond, refl, sym, ap, ◌∙◌, arith}
 use Rattle.std.specs.Prelude.{codes, flat_map, if◌then◌else◌, is_some}
 use Rattle.std.proofs.lemmas.Grind.{flat_map-append}
 use Rattle.std.proofs.lemmas.List.Sums.{sum_by-append}
@@ -10,14 +10,14 @@ use Rattle.plan_marks.specs.Plans.{Plan, TilePlan, has_class}
 use Rattle.plan_svg.specs.declared.sheet.Sheet.{Sheet}
 use Rattle.plan_svg.specs.declared.sheet.Side.{Side}
 use Rattle.plan_svg.specs.Hover.{hover}
-use Rattle.plan_svg.specs.Laws.{EndsTitle, HasGroup, IsInPicture, Places, StandsAlone, StandsInGroup, has_name, is_framed, is_mark}
+use Rattle.plan_svg.specs.Laws.{EndsTitle, HasGroup, IsInPicture, Places, PlacesMarks, StandsAlone, StandsInGroup, has_name, is_framed, is_mark}
 use Rattle.plan_svg.specs.Legend.{legend}
 use Rattle.plan_svg.specs.Margins.{column_numbers, pin_names, row_numbers}
 use Rattle.plan_svg.specs.Names.{Names}
 use Rattle.plan_svg.specs.Reader.{before, content, reading}
 use Rattle.plan_svg.specs.Sheet.{sheet_of, side_of}
 use Rattle.plan_svg.specs.Sources.{global_mark, pll_frame, pll_mark}
-use Rattle.plan_svg.specs.Svg.{beginning, drawn, inside, sizes}
+use Rattle.plan_svg.specs.Svg.{beginning, drawn, inside, plan_svg, sizes}
 use Rattle.plan_svg.specs.Tiles.{ground, part_mark, place_text, tile_text}
 use Rattle.plan_svg.proofs.Drawn.{axis_words, badge_words, calm-hover, columns-read, global-reads, heading, names-read, names_words, on-ground, part-reads, part_words, pll-reads, pll_words, rows-read, shade_word, tile-reads, tile_words}
 use Rattle.plan_svg.proofs.Legends.{legend-reads, legend_words}
@@ -235,11 +235,10 @@ module _ (sheet : Sheet) (names : Names) (plan : Plan) where
       (reads-append before_frames frames before_words frame_words before-reads (frames-read plan.plls)) (badges-read front))
       (deeper bytes to_badges badges ending front_text (global_mark sheet global) back_text to-badges (split-each (global_mark sheet) plan.globals front global back are) ∙ simp append_assoc)
 
-  pub placed : Places sheet plan bytes
+  placed : Places sheet plan bytes
   placed = record { tiles = has-group; frames = frame-stands; badges = badge-stands }
 
--- bytes that were drawn on the sheet of a plan have each element at its place
-pub bytes-placed : (names : Names) (plan : Plan) (sheet : Sheet) (bytes : List ℕ) → sheet ≡ sheet_of plan.device (is_some names) → bytes ≡ drawn sheet names plan
-    → Places (sheet_of plan.device (is_some names)) plan bytes
-bytes-placed names plan sheet bytes sheet_is are =
-    subst (λ sheet. Places sheet plan bytes) sheet_is (subst (Places sheet plan) (sym are) (placed sheet names plan))
+-- the picture of a plan has each element at its place
+pub places : (names : Names) (plan : Plan) → PlacesMarks names plan
+unfolding plan_svg
+places names plan = placed (sheet_of plan.device (is_some names)) names plan

@@ -1,14 +1,10 @@
 -- Places on a sheet lie as those on the chip.
 use Rattle.std.proofs.Common.{◌≡◌, ℕ, zero, suc, ◌+◌, ◌<◌, ◌≤◌, ◌==◌, refl, arith, inl, inr}
 use Rattle.std.proofs.lemmas.Bool.{cases_Bool}
-use Rattle.std.specs.Prelude.{Option, None, Some, is_some}
-use denote.Ref.{Bor}
-use Rattle.pin_file.specs.declared.given.GivenNames.{GivenNames}
 use Rattle.plan_svg.specs.declared.sheet.Sheet.{Sheet}
 use Rattle.plan_svg.specs.declared.sheet.Side.{Side}
 use Rattle.plan_svg.specs.declared.sheet.Side.TheVariants as side
 use Rattle.plan_svg.specs.Laws.{CellsLie, IsAt, LiesAsOnChip, PinsLie}
-use Rattle.plan_svg.specs.Names.{names_in}
 use Rattle.plan_svg.specs.Sheet.{cell_offset, pin_offset}
 
 pub lies : (sheet : Sheet) → LiesAsOnChip sheet
@@ -76,8 +72,3 @@ pins-outward side.Bottom n =
 
 pub pins-lie : PinsLie
 pins-lie = record { inside = pins-inside; outward = pins-outward; at_left = omega arith; at_right = omega arith; at_top = omega arith; at_bottom = omega arith }
-
--- there are names if a pin file was read
-pub named-some : (names : Option (Bor GivenNames)) → is_some names ≡ is_some (names_in names)
-named-some None = refl
-named-some (Some names) = refl

@@ -15,11 +15,11 @@ use Rattle.plan_svg.specs.Pieces.{word_digits, word_if}
 use Rattle.plan_marks.specs.Plans.{TilePlan}
 use Rattle.plan_svg.specs.Sheet.{bits_of}
 
--- a cell: its LUT as a number, whose lowest bit is entry 0, and what it has beside
+-- a cell: its LUT as a number, whose lowest bit is entry 0, and what it has beside; how a flip-flop works is told only where there is one
 unfoldable pub cell_line : CellPart → List ℕ
 cell_line cell = concat (
     codes "\nlc " ∷ decimal cell.i ∷ codes ": LUT 0x" ∷ word_digits cell.lut
-    ∷ word_if cell.flip (codes " flip-flop") ∷ word_if cell.carry (codes " carry") ∷ word_if cell.«set» (codes " set")
+    ∷ word_if cell.flip (codes " flip-flop") ∷ word_if cell.carry (codes " carry") ∷ word_if (cell.flip && cell.«set») (codes " set")
     ∷ word_if cell.is_async (codes " async") ∷ word_if (cell.flip && cell.neg) (codes " negclk") ∷ [])
 
 -- a RAM, by its lower tile: how many bits a word has where it is written and where it is read

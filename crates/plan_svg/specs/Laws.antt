@@ -1,6 +1,6 @@
 -- Laws of pictures: a picture is a well-formed document, in which the classes of marks are those of the plan, each mark has its element in the group of
 -- its tile, and places on the sheet tell the places on the chip.
-use Rattle.std.specs.Prelude.{◌≡◌, ℕ, ◌+◌, ◌<◌, ◌≤◌, Bool, ◌&&◌, ◌==◌, IsTrue, List, [], ◌∷◌, ◌++◌, drop, length, flat_map, bytes_eq, count_by, codes, nat_lt, if◌then◌else◌, Some}
+use Rattle.std.specs.Prelude.{◌≡◌, ℕ, ◌+◌, ◌<◌, ◌≤◌, Bool, ◌&&◌, ◌==◌, IsTrue, List, [], ◌∷◌, ◌++◌, drop, length, flat_map, bytes_eq, count_by, codes, nat_lt, if◌then◌else◌, is_some, Some}
 use Rattle.std.specs.List.{list_any}
 use Rattle.plan_marks.specs.declared.plan.GlobalMark.{GlobalMark}
 use Rattle.plan_marks.specs.declared.plan.Mark.{Mark}
@@ -10,9 +10,11 @@ use Rattle.plan_svg.specs.declared.sheet.Sheet.{Sheet}
 use Rattle.plan_svg.specs.declared.sheet.Side.{Side}
 use Rattle.plan_svg.specs.declared.sheet.Side.TheVariants as side
 use Rattle.plan_marks.specs.Plans.{Plan, TilePlan, count_of, has_class}
+use Rattle.plan_svg.specs.Names.{Names}
 use Rattle.plan_svg.specs.Reader.{before, classes_read, content, declaration, read, reading}
-use Rattle.plan_svg.specs.Sheet.{left, top, side_of, cell_offset, pin_offset}
+use Rattle.plan_svg.specs.Sheet.{left, top, sheet_of, side_of, cell_offset, pin_offset}
 use Rattle.plan_svg.specs.Sources.{global_mark, pll_frame}
+use Rattle.plan_svg.specs.Svg.{plan_svg}
 use Rattle.plan_svg.specs.Tiles.{part_mark, place_text}
 
 -- ---- classes
@@ -46,6 +48,10 @@ pub record Draws (sheet : Sheet) (plan : Plan) (bytes : List ℕ) : Type 0 where
   pub classes : List (List ℕ)
   pub document : classes_read bytes ≡ Some classes
   pub marks : (letter : ℕ) → IsTrue (is_mark letter) → count_by (has_name letter) classes ≡ drawn_with sheet plan letter
+
+-- the picture of a plan is such a document
+abbrev pub DrawsPlan : Names → Plan → Type 0
+DrawsPlan names plan = Draws (sheet_of plan.device (is_some names)) plan (plan_svg names plan)
 
 -- ---- elements in their groups
 
@@ -96,6 +102,10 @@ pub record Places (sheet : Sheet) (plan : Plan) (bytes : List ℕ) : Type 0 wher
       → StandsAlone (pll_frame sheet pll) bytes
   pub badges : (globals : List GlobalMark) (global : GlobalMark) (more : List GlobalMark) → plan.globals ≡ globals ++ global ∷ more
       → StandsAlone (global_mark sheet global) bytes
+
+-- so it is in the picture of a plan
+abbrev pub PlacesMarks : Names → Plan → Type 0
+PlacesMarks names plan = Places (sheet_of plan.device (is_some names)) plan (plan_svg names plan)
 
 -- ---- places
 

@@ -100,7 +100,7 @@ fn push_cell(text: &mut Vec<u8>, cell: CellPart) -> Result<(), AllocError>
             Piece::Word(cell.lut),
             word_if(cell.flip, b" flip-flop"),
             word_if(cell.carry, b" carry"),
-            word_if(cell.set, b" set"),
+            word_if(cell.flip && cell.set, b" set"),
             word_if(cell.is_async, b" async"),
             word_if(cell.flip && cell.neg, b" negclk"),
         ],

@@ -1,9 +1,7 @@
 // The picture of a floor plan.
-ghost use Rattle.std.specs.Prelude.{◌≡◌, ◌++◌, IfOk, List, OnOk, flat_map, is_some, ℕ};
-ghost use Rattle.plan_svg.specs.Laws.{CellsLie, Draws, LiesAsOnChip, PinsLie, Places};
-ghost use Rattle.plan_svg.specs.Names.{Says, cut, label, names_in, shown};
+ghost use Rattle.std.specs.Prelude.{◌≡◌, ◌++◌, IfOk, OnOk, flat_map};
+ghost use Rattle.plan_svg.specs.Names.{names_in};
 ghost use Rattle.plan_marks.specs.Plans.{plan_in};
-ghost use Rattle.plan_svg.specs.Sheet.{sheet_of};
 ghost use Rattle.plan_svg.specs.Svg.{beginning, device_text, document_title, drawn, inside, paper, plan_svg, seen_title, sizes, title};
 ghost use Rattle.plan_svg.specs.Tiles.{tile_text};
 
@@ -21,7 +19,9 @@ use std::alloc::{AllocError, Global};
 
 /// The picture of a floor plan as SVG 1.1, without scripts and outside fonts. Row 0 of the grid is at the bottom. If there is a pin file, pins have
 /// its names. The picture is a well-formed document, in which each mark of the plan is one element that has its class and stands in the group of its
-/// tile, and no other element has such a class (`specs/Laws.antt`). Whatever the names are, an XML reader reads them as texts.
+/// tile, and no other element has such a class. Whatever the names are, an XML reader reads them as texts. These are laws of the text:
+/// [`picture_draws_the_plan`](crate::picture_draws_the_plan), [`marks_are_placed`](crate::marks_are_placed) and
+/// [`names_are_said`](crate::names_are_said).
 ///
 /// # Errors
 /// `AllocError` if memory is out, and for no other cause.
@@ -39,10 +39,6 @@ pub fn plan_svg(
     names: Option<&GivenNames>,
 ) -> Result<Vec<u8>, AllocError>
     ensures text { IfOk result (λ text. text.items ≡ plan_svg (names_in names.entry) (plan_in plan.now)) }
-    ensures draws { IfOk result (λ text. Draws (sheet_of plan.now.device (is_some (names_in names.entry))) (plan_in plan.now) text.items) }
-    ensures places { IfOk result (λ text. Places (sheet_of plan.now.device (is_some (names_in names.entry))) (plan_in plan.now) text.items) }
-    ensures lies { LiesAsOnChip (sheet_of plan.now.device (is_some (names_in names.entry))) × CellsLie × PinsLie }
-    ensures says { (first last : ℕ) (name : List ℕ) → Says (label first last name) (shown (cut first last name)) }
 {
     let sheet = Sheet::of(plan.device, names.is_some());
     let mut text = Vec::new(alloc);

@@ -33,8 +33,8 @@ links_by_tile-requires-clause-routings c =
     let db = c.args.db.now in
     subst (All IsLinkNear) (sym c.routings-routings.ensures.routings) (links-near db.chip db.bits db.routings c.routings-routings.ensures.fit.routings)
 
-pub returns-clause-plan : goal.returns-clause-plan
-returns-clause-plan c =
+pub returns : goal.returns
+returns c =
     let all = c.args.all_pins in
     let kept = c.args.db.now in
     let db = database_in kept in

@@ -11,7 +11,9 @@ use Rattle.plane_map.specs.declared.tile.TileKind.{TileKind}
 use Rattle.plane_map.proofs.Grids.{kind_of-inside}
 use Rattle.ice_image.specs.Configuration.{Configuration}
 use Rattle.chipdb_reader.specs.Database.{Database, Link}
+use Rattle.chipdb_reader.specs.Faults.{DbMeans}
 use Rattle.chipdb_reader.specs.Fit.{IsFit, IsLink}
+use Rattle.chipdb_reader.proofs.FitPlaces.{database-fit}
 use Rattle.fabric_model.specs.declared.cell.LogicCell.{LogicCell}
 use Rattle.fabric_model.specs.declared.pin.Pin.{Pin as PortPin}
 use Rattle.fabric_model.specs.declared.ram.RamCell.{RamCell}
@@ -189,6 +191,9 @@ module _ (all : Bool) (db : Database) (image : Configuration) (device_is : db.ch
 pub links-told : (all : Bool) (db : Database) (image : Configuration) → LinksAgree all db image
 unfolding counts_of floor_plan
 links-told all db image device_is fit = links-agree all db image device_is fit
+
+pub fit-read : (text : List ℕ) (db : Database) → DbMeans text db → IsFit db
+fit-read text db means = subst IsFit (sym means.lines) (database-fit db.chip _ means.device)
 
 module _ (all : Bool) (db : Database) (image : Configuration) where
   lut : (carry flip : Bool) → is_among (codes "lfcd") (if carry then (if flip then 100 else 99) else (if flip then 102 else 108)) ≡ true

@@ -159,8 +159,7 @@ pub record CountsAgree (all : Bool) (db : Database) (image : Configuration) (pla
   pub numbers : map (λ global. global.g) plan.globals ≡ globals_among (globals_of all db image)
   pub globals : length plan.globals ≡ (counts_of all db image).globals
 
--- So are the links of all tiles, if the database is for the device of the image and each of its lines is in a tile of that device, as in each database that
--- was read.
+-- So are the links of all tiles, if the database is for the device of the image, and its lines name tiles of that device.
 abbrev pub LinksAgree : Bool → Database → Configuration → Type 0
 LinksAgree all db image =
     db.chip.device ≡ image.layout.device → IsFit db

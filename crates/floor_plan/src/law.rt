@@ -1,7 +1,9 @@
 // The laws of floor plans.
-ghost use Rattle.std.specs.Prelude.{Bool};
+ghost use Rattle.std.specs.Prelude.{Bool, List, ℕ};
 ghost use Rattle.ice_image.specs.Configuration.{Configuration};
 ghost use Rattle.chipdb_reader.specs.Database.{Database};
+ghost use Rattle.chipdb_reader.specs.Faults.{DbMeans};
+ghost use Rattle.chipdb_reader.specs.Fit.{IsFit};
 ghost use Rattle.floor_plan.specs.Laws.{CountsAgree, HasTiles, LinksAgree, StandsOnce};
 ghost use Rattle.floor_plan.specs.Plans.{floor_plan};
 
@@ -21,7 +23,9 @@ pub fn marks_are_counted()
     ensures { (all : Bool) (db : Database) (image : Configuration) → CountsAgree all db image (floor_plan all db image) }
 {}
 
-/// So are the links of all tiles, by a database that was read for the device of the image. The call does nothing: its clause is the law.
+/// So are the links of all tiles, by a database for the device of the image whose lines name tiles of that device (`links`), as each database that a
+/// text means is (`fit`). The call does nothing: its clauses are the law.
 pub fn links_are_counted()
-    ensures { (all : Bool) (db : Database) (image : Configuration) → LinksAgree all db image }
+    ensures links { (all : Bool) (db : Database) (image : Configuration) → LinksAgree all db image }
+    ensures fit { (text : List ℕ) (db : Database) → DbMeans text db → IsFit db }
 {}

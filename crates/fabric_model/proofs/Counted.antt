@@ -1,12 +1,7 @@
 -- How many items of a list pass a test.
-use Rattle.std.proofs.Common.{◌≡◌, zero, suc, ◌<◌, ◌≤◌, Bool, true, false, List, [], ◌∷◌, length, refl, ap, ◌∙◌, arith, inl, inr}
+use Rattle.std.proofs.Common.{◌≡◌, zero, suc, ◌<◌, ◌≤◌, Bool, true, false, List, [], ◌∷◌, length, ap, ◌∙◌, arith, inl, inr}
 use Rattle.std.specs.Prelude.{Contains, filter}
 use Rattle.std.proofs.lemmas.Bool.{cases_Bool}
-
--- none does
-pub filter-none : {A : Type 0} (test : A → Bool) (list : List A) → ((item : A) → test item ≡ false) → filter test list ≡ []
-filter-none test [] fails = refl
-filter-none test (item ∷ list) fails = rw (fails item) (filter-none test list fails)
 
 module _ {A : Type 0} (some many : A → Bool) (so : (item : A) → some item ≡ true → many item ≡ true) where
   -- as many pass a wider test

@@ -1,15 +1,14 @@
 -- What holds after an event: through its first step and its waves.
-use Rattle.std.proofs.Common.{◌≡◌, ℕ, Bool, true, false, set, length, refl, sym, ap, ◌∙◌, subst}
+use Rattle.std.proofs.Common.{◌≡◌, ℕ, Bool, true, false, set, refl, sym, ap, ◌∙◌}
 use Rattle.std.specs.Prelude.{Option, Some, None, ◌&&◌, is_some}
 use Rattle.std.proofs.lemmas.List.Folds.{list_any_none}
 use Rattle.fabric_model.specs.Fabric.{Fabric}
 use Rattle.fabric_model.specs.Values.{State, bit_in}
 use Rattle.fabric_model.specs.Clocks.{clock_class}
-use Rattle.fabric_model.specs.Steps.{is_on_register, wave_edges, state_after, event_edges, settled_state, Event, Entry, IsEntry, IsFirstStep, IsWave, clocked_users, has_wave, wave_bound, EndsAt, Follows, start_state, IsFirst}
+use Rattle.fabric_model.specs.Steps.{is_on_register, wave_edges, state_after, event_edges, settled_state, Event, Entry, IsEntry, IsFirstStep, IsWave, clocked_users, has_wave, EndsAt, Follows, start_state, IsFirst}
 use Rattle.fabric_model.specs.Steps.EndsAt.{bound, rests, goes_on}
 use Rattle.fabric_model.proofs.Settling.{settled-twice}
 use Rattle.fabric_model.proofs.Edges.{edge-still}
-use Rattle.fabric_model.proofs.Counted.{filter-none}
 use Rattle.fabric_model.proofs.Apart.{All-every}
 use Rattle.fabric_model.proofs.Chains.{clock_end-alone}
 
@@ -106,16 +105,3 @@ module _ (fabric : Fabric) where
     unfolding clock_class
     none-on_register None = refl
     none-on_register (Some net) = ap is_some (clock_end-alone fabric alone net)
-
-    bound-none : wave_bound fabric ≡ 0
-    bound-none = ap length (filter-none (λ (user : Bool × Option ℕ). is_on_register fabric user.1) (clocked_users fabric) (λ user. none-on_register user.1))
-
-    ends-none : {more : ℕ} {earlier before prior last : Entry} → more ≡ 0 → EndsAt fabric more earlier before prior last → last ≡ before
-    ends-none none bound = refl
-    ends-none none (rests still) = refl
-    ends-none none (goes_on next comes wave more) = absurd cc
-
-    -- an event has its first step alone
-    pub follows-alone : (before : Entry) (event : Event) (after : Entry) → Follows fabric before event after → IsFirstStep fabric before event after
-    follows-alone before event after follows =
-        subst (IsFirstStep fabric before event) (sym (ends-none bound-none follows.waves)) follows.first_step

@@ -1,4 +1,4 @@
--- A used RAM of a narrow mode is a memory of narrow words, in each run of a fabric.
+-- A used RAM of a narrow mode is a memory of narrow words, in each step of each run of a fabric.
 use Rattle.std.proofs.Common.{◌≡◌, ◌≢◌, ℕ, zero, suc, ◌+◌, ◌*◌, ◌/◌, ◌%◌, ◌^◌, ◌<◌, ◌≤◌, ◌&&◌, ◌==◌, Bool, true, false, List, [], ◌∷◌, ◌++◌, length, map, take, drop, get_or, set, refl, sym, ap, ◌∙◌, subst, inl, inr, arith, eq-eqb, ne_eqb, length-append, if◌then◌else◌}
 use Rattle.std.specs.Prelude.{All, Contains, Option, None}
 use Rattle.std.proofs.lemmas.Bool.{cases_Bool}
@@ -25,14 +25,15 @@ use Rattle.narrow_words.specs.Narrow.{share, put_bit, got_bit}
 use Rattle.fabric_model.specs.declared.ram.RamCell.{RamCell}
 use Rattle.fabric_model.specs.Tiles.{over_grid}
 use Rattle.fabric_model.specs.Rams.{data_bit, is_ram_used, ram_at, rams_of, over_rams, start_word, start_words}
-use Rattle.fabric_model.specs.Fabric.{Fabric, fabric_of, fabric_with, numbered_from, numbered}
+use Rattle.fabric_model.specs.declared.options.FabricOptions.{FabricOptions}
+use Rattle.fabric_model.specs.Fabric.{Fabric, fabric_with, numbered_from, numbered}
 use Rattle.fabric_model.specs.Values.{State, input_or_0, input_or_1, bit_in, is_connected}
-use Rattle.fabric_model.specs.Steps.{has_edge, Edges, event_edges, word_address, high_part, word_at, bit_of_word, masked_bit, written_data, written, shown, next_words, next_register, words_after, read_after, state_after, settled_state, Event, Entry, IsFirstStep, Follows, IsFirst, FollowEach}
-use Rattle.fabric_model.specs.NarrowMemories.{narrow_in, narrow_address, port_place, given_bit, AreWords, words_in, read_in, WritesNarrow, ReadsNarrow, KeepsRead, IsNarrowMemory, EachStep, RamsAreMemories}
+use Rattle.fabric_model.specs.Steps.{Edges, event_edges, wave_edges, word_address, high_part, word_at, bit_of_word, masked_bit, written_data, written, shown, next_words, next_register, words_after, read_after, state_after, settled_state, start_state, Event, Entry, EndsAt, IsFirst, FollowEach}
+use Rattle.fabric_model.specs.Steps.EndsAt.{bound, rests, goes_on}
+use Rattle.fabric_model.specs.NarrowMemories.{narrow_in, narrow_address, port_place, given_bit, AreWords, HasWords, words_in, read_in, is_written, is_read, WritesNarrow, ReadsNarrow, IsNarrowMemory, OfStep, EachWave, EachStep, RamsAreMemories}
 use Rattle.fabric_model.proofs.OneValue.{each_below-length}
 use Rattle.fabric_model.proofs.Within.{All-if, All-single, All-over_tiles, All-numbered}
 use Rattle.fabric_model.proofs.Settling.{numbered-read}
-use Rattle.fabric_model.proofs.Events.{none-on_register, follows-alone}
 
 -- ---- bits of narrow words in a word
 
@@ -159,6 +160,10 @@ module _ (connected bit : ℕ → Bool) (ram : RamCell) where
     unfolding next_register
     register-read register clocked enabled = rw (clocked, enabled) refl
 
+    words-kept : (input_or_1 connected bit ram.wclke && input_or_0 connected bit ram.we) ≡ false → next_words connected bit ram words ≡ words
+    unfolding next_words
+    words-kept off = rw off refl
+
     register-kept : (register : List Bool) → (input_or_1 connected bit ram.rclke && input_or_0 connected bit ram.re) ≡ false
         → next_register connected bit ram words register ≡ register
     unfolding next_register
@@ -266,11 +271,6 @@ record IsRam (ram : RamCell) : Type 0 where
   waddr : length ram.waddr ≡ 11
   raddr : length ram.raddr ≡ 11
 
--- for each RAM 256 words of 16 bits
-record HasWords (fabric : Fabric) (words : List (List (List Bool))) : Type 0 where
-  each : All AreWords words
-  count : length words ≡ length fabric.rams
-
 -- lists that give as much at each place are as long
 same-length : {A B : Type 0} (n : ℕ) (one : ℕ → List A) (other : ℕ → List B) → ((k : ℕ) → length (one k) ≡ length (other k))
     → length (gathered_below n one) ≡ length (gathered_below n other)
@@ -288,7 +288,7 @@ same-if false one other same = refl
 mode-small : (first second : Bool) → bit_value first + 2 * bit_value second < 4
 mode-small first second = omega (arith, bit_value-le first, bit_value-le second)
 
-module _ (db : Database) (image : Configuration) where
+module _ (options : FabricOptions) (db : Database) (image : Configuration) where
   over_rams-length : {A B : Type 0} (one : ℕ → ℕ → A) (other : ℕ → ℕ → B)
       → length (over_rams db image (λ x y. one x y ∷ [])) ≡ length (over_rams db image (λ x y. other x y ∷ []))
   unfolding over_grid
@@ -306,7 +306,7 @@ module _ (db : Database) (image : Configuration) where
     raddr = each_below-length 11 _;
   }
 
-  rams-are : All IsRam (fabric_of db image).rams
+  rams-are : All IsRam (fabric_with options db image).rams
   unfolding fabric_with rams_of
   rams-are =
       All-over_tiles IsRam image.layout.device RamB _
@@ -320,7 +320,7 @@ module _ (db : Database) (image : Configuration) where
         (λ k below. All-single (λ word. length word ≡ 16) (start_word image x y k) (length-row_from 16 _)),
   )
 
-  start-has : HasWords (fabric_of db image) (fabric_of db image).start
+  start-has : HasWords (fabric_with options db image) (start_state (fabric_with options db image))
   unfolding fabric_with rams_of
   start-has = record {
     each =
@@ -330,59 +330,43 @@ module _ (db : Database) (image : Configuration) where
     count = over_rams-length (start_words image) (ram_at db image);
   }
 
-  -- without options no register is a clock
-  registers-alone : (fabric_of db image).register_clocks ≡ false
-  unfolding fabric_with
-  registers-alone = refl
+-- ---- steps
 
--- ---- events
+-- what is left of two conditions that don't both hold
+other-off : (one other : Bool) → (one && other) ≡ false → one ≡ true → other ≡ false
+other-off true other off on = off
+other-off false other off on = absurd cc
 
-module _ (fabric : Fabric) (rams : All IsRam fabric.rams) (alone : fabric.register_clocks ≡ false) where
+both-on : (one other : Bool) → (one && other) ≡ true → (one ≡ true) × (other ≡ true)
+both-on true other on = (refl, on)
+both-on false other on = absurd cc
+
+module _ (fabric : Fabric) (rams : All IsRam fabric.rams) where
   abbrev connected : ℕ → Bool
   connected = is_connected fabric
 
   place-is : (place : ℕ × RamCell) → Contains (numbered fabric.rams) place → IsRam place.1
   place-is place there = All-contains (λ (p : ℕ × RamCell). IsRam p.1) (numbered fabric.rams) place (All-numbered IsRam 0 fabric.rams rams) there
 
-  place-words : (state : State) → HasWords fabric state.words → (place : ℕ × RamCell) → Contains (numbered fabric.rams) place
+  place-words : (state : State) → HasWords fabric state → (place : ℕ × RamCell) → Contains (numbered fabric.rams) place
       → AreWords (words_in state place.0)
   place-words state has place there =
       let within : place.0 < 0 + length fabric.rams =
       All-contains (λ (p : ℕ × RamCell). p.0 < 0 + length fabric.rams) (numbered fabric.rams) place (numbered-within 0 fabric.rams) there in
       All-get_or AreWords state.words place.0 [] (omega (arith, within, has.count)) has.each
 
-  module _ (before : Entry) (event : Event) (after : Entry) (has : HasWords fabric before.state.words) (follows : Follows fabric before event after) where
+  module _ (edges : Edges) (before after : Entry) (has : HasWords fabric before.state)
+      (state-is : after.state ≡ settled_state fabric (bit_in after.v) (state_after fabric before.pins before.state (bit_in before.v) edges)) where
     abbrev bits_before : ℕ → Bool
     bits_before = bit_in before.v
 
-    -- who has an edge
-    abbrev edges : Edges
-    edges = event_edges fabric bits_before (bit_in after.v)
-
-    -- it is whoever's clock has one, since no register is a clock
-    edges-are : (inverted : Bool) (net : Option ℕ) → edges inverted net ≡ has_edge inverted net bits_before (bit_in after.v)
-    edges-are inverted net = rw (none-on_register fabric alone net) refl
-
-    step : IsFirstStep fabric before event after
-    step = follows-alone fabric alone before event after follows
-
     words-are : after.state.words ≡ map (words_after connected bits_before edges before.state) (numbered fabric.rams)
     unfolding settled_state state_after
-    words-are = ap (λ (state : State). state.words) step.state
+    words-are = ap (λ (state : State). state.words) state-is
 
     reads-are : after.state.reads ≡ map (read_after connected bits_before edges before.state) (numbered fabric.rams)
     unfolding settled_state state_after
-    reads-are = ap (λ (state : State). state.reads) step.state
-
-    words-at : (place : ℕ × RamCell) → Contains (numbered fabric.rams) place
-        → words_in after.state place.0 ≡ words_after connected bits_before edges before.state place
-    words-at place there =
-        ap (λ words. get_or words place.0 []) words-are ∙ numbered-read (words_after connected bits_before edges before.state) [] fabric.rams place there
-
-    read-at : (place : ℕ × RamCell) → Contains (numbered fabric.rams) place
-        → read_in after.state place.0 ≡ read_after connected bits_before edges before.state place
-    read-at place there =
-        ap (λ reads. get_or reads place.0 []) reads-are ∙ numbered-read (read_after connected bits_before edges before.state) [] fabric.rams place there
+    reads-are = ap (λ (state : State). state.reads) state-is
 
     words-stay : (place : ℕ × RamCell) → Contains (numbered fabric.rams) place → AreWords (words_after connected bits_before edges before.state place)
     words-stay place there =
@@ -392,7 +376,7 @@ module _ (fabric : Fabric) (rams : All IsRam fabric.rams) (alone : fabric.regist
           | inr still ↦ rw still are
         ]
 
-    has-after : HasWords fabric after.state.words
+    has-after : HasWords fabric after.state
     has-after =
         let next = words_after connected bits_before edges before.state in
         let all : All AreWords (map next (numbered fabric.rams)) =
@@ -402,63 +386,107 @@ module _ (fabric : Fabric) (rams : All IsRam fabric.rams) (alone : fabric.regist
           count = ap length words-are ∙ length-map (numbered fabric.rams) next ∙ numbered-length 0 fabric.rams;
         }
 
-    writes-narrow : (place : ℕ × RamCell) → Contains (numbered fabric.rams) place → WritesNarrow fabric before after place
-    writes-narrow place there narrow edge clocked enabled address d inside short =
-        let ram = place.1 in
-        let words = words_in before.state place.0 in
-        let is = place-is place there in
-        let at : words_after connected bits_before edges before.state place ≡ next_words connected bits_before ram words = rw (edges-are ram.wneg ram.wclk, edge) refl in
-        ap (λ now. narrow_in ram.write now address d) (words-at place there ∙ at ∙ words-written connected bits_before ram words clocked enabled)
-        ∙ written-bit connected bits_before ram words (place-words before.state has place there) narrow is.write is.waddr address d inside short
+    module _ (place : ℕ × RamCell) (there : Contains (numbered fabric.rams) place) where
+      abbrev ram : RamCell
+      ram = place.1
 
-    reads-narrow : (place : ℕ × RamCell) → Contains (numbered fabric.rams) place → ReadsNarrow fabric before after place
-    reads-narrow place there narrow edge clocked enabled d short =
-        let ram = place.1 in
-        let words = words_in before.state place.0 in
-        let register = read_in before.state place.0 in
-        let is = place-is place there in
-        let at : read_after connected bits_before edges before.state place ≡ next_register connected bits_before ram words register = rw (edges-are ram.rneg ram.rclk, edge) refl in
-        ap (λ now. get_or now (share ram.read * d) false) (read-at place there ∙ at ∙ register-read connected bits_before ram words register clocked enabled)
-        ∙ shown-bit connected bits_before ram words d narrow is.read is.raddr short
+      abbrev old_words : List (List Bool)
+      old_words = words_in before.state place.0
 
-    keeps-read : (place : ℕ × RamCell) → Contains (numbered fabric.rams) place → KeepsRead fabric before after place
-    keeps-read place there edge off =
-        let ram = place.1 in
-        let words = words_in before.state place.0 in
-        let register = read_in before.state place.0 in
-        let at : read_after connected bits_before edges before.state place ≡ next_register connected bits_before ram words register = rw (edges-are ram.rneg ram.rclk, edge) refl in
-        read-at place there ∙ at ∙ register-kept connected bits_before ram words register off
+      abbrev old_read : List Bool
+      old_read = read_in before.state place.0
 
-    memories : All (IsNarrowMemory fabric before after) (numbered fabric.rams)
-    memories =
-        each-of (IsNarrowMemory fabric before after) (numbered fabric.rams) (λ place there.
-        record { writes = writes-narrow place there; reads = reads-narrow place there; keeps = keeps-read place there })
+      words-at : words_in after.state place.0 ≡ words_after connected bits_before edges before.state place
+      words-at = ap (λ words. get_or words place.0 []) words-are ∙ numbered-read (words_after connected bits_before edges before.state) [] fabric.rams place there
+
+      read-at : read_in after.state place.0 ≡ read_after connected bits_before edges before.state place
+      read-at = ap (λ reads. get_or reads place.0 []) reads-are ∙ numbered-read (read_after connected bits_before edges before.state) [] fabric.rams place there
+
+      words-edge : edges ram.wneg ram.wclk ≡ true → words_after connected bits_before edges before.state place ≡ next_words connected bits_before ram old_words
+      words-edge edge = rw edge refl
+
+      read-edge : edges ram.rneg ram.rclk ≡ true → read_after connected bits_before edges before.state place ≡ next_register connected bits_before ram old_words old_read
+      read-edge edge = rw edge refl
+
+      writes-narrow : WritesNarrow fabric edges before after place
+      writes-narrow narrow writes address d inside short =
+          let is = place-is place there in
+          let edge = both-on (edges ram.wneg ram.wclk) (input_or_1 connected bits_before ram.wclke && input_or_0 connected bits_before ram.we) writes in
+          let enables = both-on (input_or_1 connected bits_before ram.wclke) (input_or_0 connected bits_before ram.we) edge.1 in
+          ap (λ now. narrow_in ram.write now address d)
+          (words-at ∙ words-edge edge.0 ∙ words-written connected bits_before ram old_words enables.0 enables.1)
+          ∙ written-bit connected bits_before ram old_words (place-words before.state has place there) narrow is.write is.waddr address d inside short
+
+      reads-narrow : ReadsNarrow fabric edges before after place
+      reads-narrow narrow reads d short =
+          let is = place-is place there in
+          let edge = both-on (edges ram.rneg ram.rclk) (input_or_1 connected bits_before ram.rclke && input_or_0 connected bits_before ram.re) reads in
+          let enables = both-on (input_or_1 connected bits_before ram.rclke) (input_or_0 connected bits_before ram.re) edge.1 in
+          ap (λ now. get_or now (share ram.read * d) false)
+          (read-at ∙ read-edge edge.0 ∙ register-read connected bits_before ram old_words old_read enables.0 enables.1)
+          ∙ shown-bit connected bits_before ram old_words d narrow is.read is.raddr short
+
+      keeps-words : is_written fabric edges before ram ≡ false → words_in after.state place.0 ≡ old_words
+      keeps-words off =
+          elim (cases_Bool (edges ram.wneg ram.wclk)) [
+            | inl edge ↦
+                words-at ∙ words-edge edge
+                ∙ words-kept connected bits_before ram old_words (other-off (edges ram.wneg ram.wclk) (input_or_1 connected bits_before ram.wclke && input_or_0 connected bits_before ram.we) off edge)
+            | inr still ↦ words-at ∙ rw still refl
+          ]
+
+      keeps-read : is_read fabric edges before ram ≡ false → read_in after.state place.0 ≡ old_read
+      keeps-read off =
+          elim (cases_Bool (edges ram.rneg ram.rclk)) [
+            | inl edge ↦
+                read-at ∙ read-edge edge
+                ∙ register-kept connected bits_before ram old_words old_read (other-off (edges ram.rneg ram.rclk) (input_or_1 connected bits_before ram.rclke && input_or_0 connected bits_before ram.re) off edge)
+            | inr still ↦ read-at ∙ rw still refl
+          ]
+
+      memory : IsNarrowMemory fabric edges before after place
+      memory = record { writes = writes-narrow; reads = reads-narrow; keeps_words = keeps-words; keeps_read = keeps-read }
+
+    memories : All (IsNarrowMemory fabric edges before after) (numbered fabric.rams)
+    memories = each-of (IsNarrowMemory fabric edges before after) (numbered fabric.rams) memory
 
   -- ---- runs
 
-  abbrev HoldsWords : Entry → Type 0
-  HoldsWords entry = All AreWords entry.state.words
+  abbrev IsStep : OfStep
+  IsStep edges before after = HasWords fabric after.state × All (IsNarrowMemory fabric edges before after) (numbered fabric.rams)
 
-  abbrev IsStep : Entry → Entry → Type 0
-  IsStep before after = All (IsNarrowMemory fabric before after) (numbered fabric.rams)
+  each-wave : {most : ℕ} {earlier before prior last : Entry} (waves : EndsAt fabric most earlier before prior last) → HasWords fabric before.state
+      → EachWave IsStep waves × HasWords fabric last.state
+  each-wave bound has = (tt, has)
+  each-wave (rests still) has = (tt, has)
+  each-wave {earlier = earlier} {before = before} (goes_on next comes wave more) has =
+      let edges : Edges = wave_edges fabric (bit_in earlier.v) (bit_in before.v) in
+      let here = has-after edges before next has wave.state in
+      let rest = each-wave more here in
+      (((here, memories edges before next has wave.state), rest.0), rest.1)
 
-  each-step : (events : List Event) (entry : Entry) (entries : List Entry) → HasWords fabric entry.state.words → FollowEach fabric entry events entries
-      → All HoldsWords (entry ∷ entries) × EachStep IsStep entry entries
-  each-step [] entry [] has follow = (All-single HoldsWords entry has.each, tt)
+  each-step : (events : List Event) (entry : Entry) (entries : List Entry) → HasWords fabric entry.state → (follow : FollowEach fabric entry events entries)
+      → EachStep fabric IsStep entry events entries follow
+  each-step [] entry [] has follow = tt
   each-step [] entry (next ∷ entries) has follow = absurd follow
   each-step (event ∷ events) entry [] has follow = absurd follow
   each-step (event ∷ events) entry (next ∷ entries) has follow =
-      let rest = each-step events next entries (has-after entry event next has follow.0) follow.1 in
-      (All-cons HoldsWords entry (next ∷ entries) has.each rest.0, (memories entry event next has follow.0, rest.1))
+      let first = follow.0.first in
+      let edges : Edges = event_edges fabric (bit_in entry.v) (bit_in first.v) in
+      let here = has-after edges entry first has follow.0.first_step.state in
+      let waves = each-wave follow.0.waves here in
+      ((here, memories edges entry first has follow.0.first_step.state), waves.0, each-step events next entries waves.1 follow.1)
 
-  first-has : HasWords fabric fabric.start → (first : Entry) → IsFirst fabric first → HasWords fabric first.state.words
+  first-has : HasWords fabric (start_state fabric) → (first : Entry) → IsFirst fabric first → HasWords fabric first.state
   unfolding settled_state
-  first-has start first is = subst (HasWords fabric) (sym (ap (λ (state : State). state.words) is.state)) start
+  first-has start first is =
+      let words : first.state.words ≡ fabric.start = ap (λ (state : State). state.words) is.state in
+      record { each = subst (All AreWords) (sym words) start.each; count = ap length words ∙ start.count }
 
--- in each run used RAMs are memories of narrow words
-pub narrow-memories : (db : Database) (image : Configuration) → RamsAreMemories db image
-narrow-memories db image events first entries run =
-    let fabric = fabric_of db image in
-    let rams = rams-are db image in
-    let alone = registers-alone db image in
-    each-step fabric rams alone events first entries (first-has fabric rams alone (start-has db image) first run.0) run.1
+-- in each step of each run used RAMs are memories of narrow words
+pub narrow-memories : (options : FabricOptions) (db : Database) (image : Configuration) → RamsAreMemories options db image
+narrow-memories options db image events first entries run =
+    let fabric = fabric_with options db image in
+    let rams = rams-are options db image in
+    let has = first-has fabric rams (start-has options db image) first run.0 in
+    (has, each-step fabric rams events first entries has run.1)

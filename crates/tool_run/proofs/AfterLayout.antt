@@ -1,15 +1,16 @@
 -- A layout file that is read before other needs.
-use Rattle.std.proofs.Common.{◌≡◌, ◌∙◌, ◌≤◌, ℕ, Bool, true, false, List, [], ◌∷◌, ap, subst, inl, inr, arith}
+use Rattle.std.proofs.Common.{◌≡◌, ◌∙◌, ◌+◌, ℕ, Bool, true, false, List, [], ◌∷◌, ap, subst, inl, inr, arith}
 use Rattle.std.specs.Prelude.{Option, Some, Result, Ok, Err, IfOk, IfErr}
 use Rattle.ice_io.specs.Files.{FileMap}
 use Rattle.tool_run.specs.Answering.{Answers, Gives}
+use Rattle.tool_run.specs.Counts.{Counts, NeverFall}
 use Rattle.tool_run.specs.Loads.{AreTextsOf, IsReached, IsTextOf, Reaches, StopsLoading}
 use Rattle.tool_run.specs.Needs.{Need, layout_need, need_of}
 use Rattle.tool_run.specs.Tasks.{Answer, layout_first}
 use Rattle.tool_run.specs.declared.load.LoadStop.{LoadStop}
 use Rattle.tool_run.specs.declared.load.LoadStop.TheVariants.{Failed, TooLong, Memory}
 use Rattle.tool_run.specs.declared.tool.Stop.{Stop}
-use Rattle.tool_run.proofs.Loading.{SourceRose-earlier, stops_after_others, stops_now}
+use Rattle.tool_run.proofs.Loading.{SourceGave-earlier, SourceRose-earlier, stops_after_others, stops_now}
 
 -- a need that is reached is reached after a first one too
 reaches_after : (contents : Option FileMap) (left : Option (List ℕ)) (first need : Need) (needs : List Need) (text : List ℕ) → IsTextOf contents left first text
@@ -23,23 +24,24 @@ reaches_after contents left first need needs text is r = record {
 }
 
 -- loading stopped after a first need was read
-stops_after : {I : Type 0} (contents : Option FileMap) (steady : Bool) (left : I → Option (List ℕ)) (input_faults : I → ℕ) (first : Need) (needs : List Need) (text : List ℕ) (loads loads_now new_loads : ℕ) (input new_input : I) (stop : LoadStop)
-    → IsTextOf contents (left input) first text → loads ≤ loads_now
-    → StopsLoading contents steady left input_faults needs loads_now new_loads input new_input stop → StopsLoading contents steady left input_faults (first ∷ needs) loads new_loads input new_input stop
-stops_after contents steady left input_faults first needs text loads loads_now new_loads input new_input (Failed load) is le fails = record {
+stops_after : {I : Type 0} (contents : Option FileMap) (steady : Bool) (left : I → Option (List ℕ)) (reads : I → Counts) (first : Need) (needs : List Need) (text : List ℕ) (loads loads_now new_loads : Counts) (input new_input : I) (stop : LoadStop)
+    → IsTextOf contents (left input) first text → NeverFall loads loads_now
+    → StopsLoading contents steady left reads needs loads_now new_loads input new_input stop → StopsLoading contents steady left reads (first ∷ needs) loads new_loads input new_input stop
+stops_after contents steady left reads first needs text loads loads_now new_loads input new_input (Failed load) is le fails = record {
   reached = reaches_after contents (left input) first (need_of load) needs text is fails.reached;
-  rose = SourceRose-earlier (need_of load) loads_now loads new_loads (input_faults input) (input_faults new_input) le fails.rose;
+  rose = SourceRose-earlier (need_of load) loads_now loads new_loads (reads input) (reads new_input) le fails.rose;
   lacks = fails.lacks;
   untried = fails.untried;
 }
-stops_after contents steady left input_faults first needs text loads loads_now new_loads input new_input (TooLong load) is le passes = record {
+stops_after contents steady left reads first needs text loads loads_now new_loads input new_input (TooLong load) is le passes = record {
   reached = reaches_after contents (left input) first (need_of load) needs text is passes.reached;
+  gave = SourceGave-earlier ((need_of load).limit + 1) (need_of load) loads_now loads new_loads (reads input) (reads new_input) le passes.gave;
   longer = passes.longer;
   untried = passes.untried;
 }
-stops_after contents steady left input_faults first needs text loads loads_now new_loads input new_input Memory is le memory = tt
+stops_after contents steady left reads first needs text loads loads_now new_loads input new_input Memory is le memory = tt
 
-module _ {F I M : Type 0} (contents : F → Option FileMap) (steady : F → Bool) (load_faults store_faults : F → ℕ) (left : I → Option (List ℕ)) (input_faults : I → ℕ)
+module _ {F I M : Type 0} (contents : F → Option FileMap) (steady : F → Bool) (loads stores : F → Counts) (left : I → Option (List ℕ)) (reads : I → Counts)
     (file : List ℕ) (needs : List Need) (answer : Option (List ℕ) → List (List ℕ) → Answer) (answer_with : M → Answer) where
   -- what is made after the layout file was read
   module _ (files middle : F) (input middle_input : I) (text : List ℕ) (is : IsTextOf (contents files) (left input) (layout_need file) text)
@@ -60,13 +62,13 @@ module _ {F I M : Type 0} (contents : F → Option FileMap) (steady : F → Bool
     made_after (Ok made) m = (text ∷ m.0, (is, texts_now m.0 m.1), m.2)
     made_after (Err stop) m = tt
 
-    stopped_after : (new_files : F) (new_input : I) (result : Result (Result M Stop) LoadStop) → steady middle ≡ steady files → load_faults files ≤ load_faults middle
-        → IfErr result (StopsLoading (contents middle) (steady middle) left input_faults needs (load_faults middle) (load_faults new_files) middle_input new_input)
-        → IfErr result (StopsLoading (contents files) (steady files) left input_faults (layout_need file ∷ needs) (load_faults files) (load_faults new_files) input new_input)
+    stopped_after : (new_files : F) (new_input : I) (result : Result (Result M Stop) LoadStop) → steady middle ≡ steady files → NeverFall (loads files) (loads middle)
+        → IfErr result (StopsLoading (contents middle) (steady middle) left reads needs (loads middle) (loads new_files) middle_input new_input)
+        → IfErr result (StopsLoading (contents files) (steady files) left reads (layout_need file ∷ needs) (loads files) (loads new_files) input new_input)
     stopped_after new_files new_input (Ok made) same_steady le stops = tt
     stopped_after new_files new_input (Err stop) same_steady le stops =
-        stops_after (contents files) (steady files) left input_faults (layout_need file) needs text (load_faults files) (load_faults middle) (load_faults new_files) input new_input stop is le
-        (stops_now (contents files) (contents middle) (steady files) (steady middle) left input_faults needs (load_faults middle) (load_faults new_files) input middle_input new_input stop
+        stops_after (contents files) (steady files) left reads (layout_need file) needs text (loads files) (loads middle) (loads new_files) input new_input stop is le
+        (stops_now (contents files) (contents middle) (steady files) (steady middle) left reads needs (loads middle) (loads new_files) input middle_input new_input stop
         same_contents same_steady same_input stops)
 
     reached_after : (new_input : I) → IsReached (contents middle) left needs middle_input new_input → IsReached (contents files) left (layout_need file ∷ needs) input new_input
@@ -77,15 +79,15 @@ module _ {F I M : Type 0} (contents : F → Option FileMap) (steady : F → Bool
 
     -- the layout file was read, and then the needs
     pub answers_after : (new_files : F) (new_input : I) (result : Result (Result M Stop) LoadStop)
-        → steady middle ≡ steady files → load_faults files ≤ load_faults middle → store_faults middle ≡ store_faults files
-        → Answers contents steady load_faults store_faults left input_faults needs (answer (Some text)) answer_with result middle new_files middle_input new_input
-        → Answers contents steady load_faults store_faults left input_faults (layout_need file ∷ needs) (layout_first (Some file) answer) answer_with result files new_files input new_input
-    answers_after new_files new_input result same_steady le same_store_faults a = record {
+        → steady middle ≡ steady files → NeverFall (loads files) (loads middle) → stores middle ≡ stores files
+        → Answers contents steady loads stores left reads needs (answer (Some text)) answer_with result middle new_files middle_input new_input
+        → Answers contents steady loads stores left reads (layout_need file ∷ needs) (layout_first (Some file) answer) answer_with result files new_files input new_input
+    answers_after new_files new_input result same_steady le same_stores a = record {
       made = made_after result a.made;
       stops = stopped_after new_files new_input result same_steady le a.stops;
       end = a.end;
       same_contents = a.same_contents ∙ same_contents;
-      same_store_faults = a.same_store_faults ∙ same_store_faults;
+      same_stores = a.same_stores ∙ same_stores;
       unread = λ none. a.unread none ∙ same_input;
       unreached = reached_after new_input a.unreached;
       unasked = λ none. let both : true ≡ false = none in absurd cc;
@@ -93,15 +95,15 @@ module _ {F I M : Type 0} (contents : F → Option FileMap) (steady : F → Bool
 
   -- the layout file wasn't read
   pub answers_stopped : (files new_files : F) (input new_input : I) (stop : LoadStop)
-      → StopsLoading (contents files) (steady files) left input_faults (layout_need file ∷ []) (load_faults files) (load_faults new_files) input new_input stop
-      → contents new_files ≡ contents files → store_faults new_files ≡ store_faults files → new_input ≡ input
-      → Answers contents steady load_faults store_faults left input_faults (layout_need file ∷ needs) (layout_first (Some file) answer) answer_with (Err stop) files new_files input new_input
-  answers_stopped files new_files input new_input stop stops same_contents same_store_faults same_input = record {
+      → StopsLoading (contents files) (steady files) left reads (layout_need file ∷ []) (loads files) (loads new_files) input new_input stop
+      → contents new_files ≡ contents files → stores new_files ≡ stores files → new_input ≡ input
+      → Answers contents steady loads stores left reads (layout_need file ∷ needs) (layout_first (Some file) answer) answer_with (Err stop) files new_files input new_input
+  answers_stopped files new_files input new_input stop stops same_contents same_stores same_input = record {
     made = tt;
-    stops = stops_after_others (contents files) (steady files) left input_faults [] needs (layout_need file) [] (load_faults files) (load_faults files) (load_faults new_files) input new_input stop tt (omega arith) stops;
+    stops = stops_after_others (contents files) (steady files) left reads [] needs (layout_need file) [] (loads files) (loads files) (loads new_files) input new_input stop tt (omega arith, omega arith) stops;
     end = tt;
     same_contents = same_contents;
-    same_store_faults = same_store_faults;
+    same_stores = same_stores;
     unread = λ none. same_input;
     unreached = inl same_input;
     unasked = λ none. let both : true ≡ false = none in absurd cc;

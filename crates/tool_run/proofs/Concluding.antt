@@ -5,6 +5,7 @@ use Rattle.ice_io.specs.Files.{FileMap}
 use Rattle.tool_run.specs.Needs.{need_of}
 use Rattle.tool_run.specs.Lines.{line_of, refusal_text}
 use Rattle.tool_run.specs.Tasks.{Answer, Both, TooLong as MissesLimit, Outcome, Task}
+use Rattle.tool_run.specs.Counts.{Counts}
 use Rattle.tool_run.specs.Effects.{Delivers, FailsBeside, FailsToDeliver, FailsToTake, Speaks, TargetRose, DeliversPart, Writes, with_beside}
 use Rattle.tool_run.specs.Answering.{Answers, Gives}
 use Rattle.tool_run.specs.Concluding.{Concludes, Refuses, TellsStop}
@@ -42,36 +43,36 @@ made_refusal answer_with (Err (UsageError refusal)) answer status S refuses give
 made_refusal answer_with (Err Memory) answer status S none gives = absurd none
 
 -- what failed to be delivered, over files that had not changed
-module _ {F O : Type 0} (contents : F → Option FileMap) (store_faults : F → ℕ) (held : O → Option (List ℕ)) (output_faults : O → ℕ) (files middle new_files : F) (output new_output : O) (S : List ℕ → Type 0) where
-  take_fails : (before earlier : Option FileMap) (target : Option (List ℕ)) (bytes : List ℕ) → before ≡ earlier → store_faults middle ≡ store_faults files
-      → FailsToTake contents store_faults held output_faults middle new_files output new_output S before target bytes
-      → FailsToTake contents store_faults held output_faults files new_files output new_output S earlier target bytes
-  take_fails before earlier target bytes same same_store_faults fails = record {
+module _ {F O : Type 0} (contents : F → Option FileMap) (stores : F → Counts) (held : O → Option (List ℕ)) (output_faults : O → ℕ) (files middle new_files : F) (output new_output : O) (S : List ℕ → Type 0) where
+  take_fails : (before earlier : Option FileMap) (target : Option (List ℕ)) (bytes : List ℕ) → before ≡ earlier → stores middle ≡ stores files
+      → FailsToTake contents stores held output_faults middle new_files output new_output S before target bytes
+      → FailsToTake contents stores held output_faults files new_files output new_output S earlier target bytes
+  take_fails before earlier target bytes same same_stores fails = record {
     part = subst (λ (old : Option FileMap). DeliversPart target bytes old (contents new_files) (held output) (held new_output)) same fails.part;
-    rose = subst (λ n. TargetRose target n (store_faults new_files) (output_faults output) (output_faults new_output)) same_store_faults fails.rose;
+    rose = subst (λ n. TargetRose target n (stores new_files) (output_faults output) (output_faults new_output)) same_stores fails.rose;
     said = fails.said;
   }
 
-  beside_fails : (beside : Option (List ℕ)) (bytes : List ℕ) → contents middle ≡ contents files → store_faults middle ≡ store_faults files
-      → FailsBeside contents store_faults held output_faults middle new_files output new_output S beside bytes
-      → FailsBeside contents store_faults held output_faults files new_files output new_output S beside bytes
-  beside_fails None bytes same same_store_faults fails = absurd fails
-  beside_fails (Some name) bytes same same_store_faults fails =
-      (take_fails (contents middle) (contents files) (Some name) bytes same same_store_faults fails.0, fails.1)
+  beside_fails : (beside : Option (List ℕ)) (bytes : List ℕ) → contents middle ≡ contents files → stores middle ≡ stores files
+      → FailsBeside contents stores held output_faults middle new_files output new_output S beside bytes
+      → FailsBeside contents stores held output_faults files new_files output new_output S beside bytes
+  beside_fails None bytes same same_stores fails = absurd fails
+  beside_fails (Some name) bytes same same_stores fails =
+      (take_fails (contents middle) (contents files) (Some name) bytes same same_stores fails.0, fails.1)
 
-  delivery_fails : (beside : Option (List ℕ)) (more : List ℕ) (target : Option (List ℕ)) (bytes : List ℕ) → contents middle ≡ contents files → store_faults middle ≡ store_faults files
-      → FailsToDeliver contents store_faults held output_faults middle new_files output new_output S beside more target bytes
-      → FailsToDeliver contents store_faults held output_faults files new_files output new_output S beside more target bytes
-  delivery_fails beside more target bytes same same_store_faults fails = elim fails [
-    | inl first ↦ inl (beside_fails beside more same same_store_faults first)
+  delivery_fails : (beside : Option (List ℕ)) (more : List ℕ) (target : Option (List ℕ)) (bytes : List ℕ) → contents middle ≡ contents files → stores middle ≡ stores files
+      → FailsToDeliver contents stores held output_faults middle new_files output new_output S beside more target bytes
+      → FailsToDeliver contents stores held output_faults files new_files output new_output S beside more target bytes
+  delivery_fails beside more target bytes same same_stores fails = elim fails [
+    | inl first ↦ inl (beside_fails beside more same same_stores first)
     | inr then ↦ inr (take_fails (with_beside (contents middle) beside more) (with_beside (contents files) beside more) target bytes
-        (ap (λ (old : Option FileMap). with_beside old beside more) same) same_store_faults then)
+        (ap (λ (old : Option FileMap). with_beside old beside more) same) same_stores then)
   ]
 
 -- a run in which all was loaded
 pub concluded_run : {F I O E M : Type 0} (by : Outside F I O E) (task : Task) (bytes beside : M → List ℕ) (made : Result M Stop) (status : ℕ) (files middle new_files : F) (input new_input : I) (output new_output : O) (errors new_errors : E)
-    → Answers by.contents by.steady by.load_faults by.store_faults by.left by.input_faults task.needs task.answer (answer_by bytes beside) (Ok made) files middle input new_input
-    → Concludes by.contents by.store_faults by.held by.output_faults by.said by.error_faults task.tool_name task.beside task.target beside bytes made status middle new_files output new_output errors new_errors
+    → Answers by.contents by.steady by.loads by.stores by.left by.reads task.needs task.answer (answer_by bytes beside) (Ok made) files middle input new_input
+    → Concludes by.contents by.stores by.held by.output_faults by.said by.error_faults task.tool_name task.beside task.target beside bytes made status middle new_files output new_output errors new_errors
     → Does by task status (scene files input output errors) (scene new_files new_input new_output new_errors)
 concluded_run {F = F} by task bytes beside made status files middle new_files input new_input output new_output errors new_errors l k =
     let contents = by.contents files in
@@ -82,7 +83,7 @@ concluded_run {F = F} by task bytes beside made status files middle new_files in
     let says : Option (List ℕ) → Type 0 = λ message. Speaks message by.said by.error_faults errors new_errors in
     let spoken : Option (List ℕ) → Type 0 = λ said. says (option_map (line_of task.tool_name) said) in
     let delivered : Option FileMap → List ℕ → List ℕ → Type 0 = λ old text more. Delivers task.target text (with_beside old task.beside more) (by.contents new_files) (by.held output) (by.held new_output) in
-    let fails : F → List ℕ → List ℕ → Type 0 = λ old text more. FailsToDeliver by.contents by.store_faults by.held by.output_faults old new_files output new_output (λ said. spoken (Some said)) task.beside more task.target text in
+    let fails : F → List ℕ → List ℕ → Type 0 = λ old text more. FailsToDeliver by.contents by.stores by.held by.output_faults old new_files output new_output (λ said. spoken (Some said)) task.beside more task.target text in
     let whole : status ≡ 0 → (text : List ℕ) × (more : List ℕ) × delivered (by.contents middle) text more × (answer ≡ Both text more) =
     λ zero_is. made_bytes bytes beside made answer (delivered (by.contents middle)) (k.whole zero_is) l.made.2 in
     let part : status ≡ 4 → (text : List ℕ) × (more : List ℕ) × fails middle text more × (answer ≡ Both text more) =
@@ -117,7 +118,7 @@ concluded_run {F = F} by task bytes beside made status files middle new_files in
           let w = part four_is in (
             w.0,
             w.1,
-            delivery_fails by.contents by.store_faults by.held by.output_faults files middle new_files output new_output (λ said. spoken (Some said)) task.beside w.1 task.target w.0 l.same_contents l.same_store_faults w.2,
+            delivery_fails by.contents by.stores by.held by.output_faults files middle new_files output new_output (λ said. spoken (Some said)) task.beside w.1 task.target w.0 l.same_contents l.same_stores w.2,
             foretold-texts task contents left texts (HasBytes w.0 w.1) are (λ needs. has_bytes task needs answer w.0 w.1 w.3),
             (texts, are, w.3),
           );
@@ -127,8 +128,8 @@ concluded_run {F = F} by task bytes beside made status files middle new_files in
       untouched = k.untouched;
       kept = λ not_zero not_four. k.kept not_zero not_four ∙ l.same_contents;
       unstored = λ why. elim why [
-        | inl no_file ↦ ap by.store_faults (k.unasked no_file.0 no_file.1) ∙ l.same_store_faults
-        | inr not_made ↦ k.unstored not_made.0 not_made.1 ∙ l.same_store_faults
+        | inl no_file ↦ ap by.stores (k.unasked no_file.0 no_file.1) ∙ l.same_stores
+        | inr not_made ↦ k.unstored not_made.0 not_made.1 ∙ l.same_stores
       ];
       aside = k.aside;
       unread = l.unread;
@@ -138,7 +139,7 @@ concluded_run {F = F} by task bytes beside made status files middle new_files in
 
 -- a run in which loading stopped
 pub stopped_run : {F I O E M : Type 0} (by : Outside F I O E) (task : Task) (answer_with : M → Answer) (stop : LoadStop) (status : ℕ) (files new_files : F) (input new_input : I) (output : O) (errors new_errors : E)
-    → Answers by.contents by.steady by.load_faults by.store_faults by.left by.input_faults task.needs task.answer answer_with (Err stop) files new_files input new_input
+    → Answers by.contents by.steady by.loads by.stores by.left by.reads task.needs task.answer answer_with (Err stop) files new_files input new_input
     → TellsStop status (λ said. Writes (line_of task.tool_name said) (by.said errors) (by.said new_errors) (by.error_faults errors) (by.error_faults new_errors)) stop
     → Does by task status (scene files input output errors) (scene new_files new_input output new_errors)
 stopped_run by task answer_with (load_stop.Failed load) status files new_files input new_input output errors new_errors l k =
@@ -158,13 +159,13 @@ stopped_run by task answer_with (load_stop.Failed load) status files new_files i
       longer = λ six_is. absurd (omega (arith, three));
       refused = λ refusal. absurd (grind (arith, three));
       read = λ three_is. (need, record { fails = stops; line = k.1; input = λ stream. foretold_input task contents left (input-reached contents left task.needs need stops.reached stream) });
-      steady = λ three_is is_steady. foretold_failure task contents (by.steady files) by.left by.input_faults (by.load_faults files) (by.load_faults new_files) input new_input need says stops k.1 is_steady;
+      steady = λ three_is is_steady. foretold_failure task contents (by.steady files) by.left by.reads (by.loads files) (by.loads new_files) input new_input need says stops k.1 is_steady;
       part = λ four_is. absurd (omega (arith, three));
       memory = λ five_is. absurd (omega (arith, three));
       exact = λ known text tells. inr (inr (inl three));
       untouched = λ not_zero not_four. refl;
       kept = λ not_zero not_four. l.same_contents;
-      unstored = λ why. l.same_store_faults;
+      unstored = λ why. l.same_stores;
       aside = λ no_stream. refl;
       unread = l.unread;
       unreached = foretold_unread task contents by.left input new_input l.unreached;
@@ -194,7 +195,7 @@ stopped_run by task answer_with (load_stop.TooLong load) status files new_files 
       exact = foretold task contents left (Err (MissesLimit need)) (IsStatusFor status) long (λ needs. inl six);
       untouched = λ not_zero not_four. refl;
       kept = λ not_zero not_four. l.same_contents;
-      unstored = λ why. l.same_store_faults;
+      unstored = λ why. l.same_stores;
       aside = λ no_stream. refl;
       unread = l.unread;
       unreached = foretold_unread task contents by.left input new_input l.unreached;
@@ -218,7 +219,7 @@ stopped_run by task answer_with load_stop.Memory status files new_files input ne
       exact = λ known text tells. inr (inl five);
       untouched = λ not_zero not_four. refl;
       kept = λ not_zero not_four. l.same_contents;
-      unstored = λ why. l.same_store_faults;
+      unstored = λ why. l.same_stores;
       aside = λ no_stream. refl;
       unread = l.unread;
       unreached = foretold_unread task (by.contents files) by.left input new_input l.unreached;

@@ -7,7 +7,7 @@ use Rattle.std.proofs.lemmas.Bool.{cases_Bool, not-false, or_parts}
 use Rattle.std.proofs.Math.ListN.{get_or-map}
 use Rattle.std.proofs.lemmas.Option.{slice_get-get_or}
 use Rattle.std.proofs.lemmas.List.{append-nil, length-append, length-map, length-replicate, take-append-drop, take_all, take_more}
-use Rattle.ice_io.specs.Faults.{Rose}
+use Rattle.ice_io.specs.Faults.{Rose, RoseAtLeastBy, RoseBy}
 use Rattle.ice_io.specs.Taken.{TakesAll, TakesCount}
 use Rattle.ice_io.specs.declared.source.TakeFault.{TakeFault}
 use Rattle.ice_io.specs.declared.source.TakeFault.TheVariants as take_fault
@@ -16,7 +16,8 @@ use Rattle.tool_run.specs.declared.load.Load.{Load}
 use Rattle.tool_run.specs.declared.load.LoadStop.{LoadStop}
 use Rattle.tool_run.specs.declared.load.LoadStop.TheVariants.{Failed, TooLong, Memory}
 use Rattle.tool_run.specs.Needs.{IsFile, IsSound, Need, is_stream, need_of, reads_files, reads_input, text_of}
-use Rattle.tool_run.specs.Effects.{SourceRose}
+use Rattle.tool_run.specs.Effects.{SourceGave, SourceRose}
+use Rattle.tool_run.specs.Counts.{Counts, NeverFall}
 use Rattle.tool_run.specs.Loads.{AreTextsOf, HasInput, IsReached, Reaches, StopsLoading}
 
 -- ---- one need
@@ -59,26 +60,26 @@ alone-is contents left need other r = at r.before r.after r.order
     at (first ∷ before) after order = absurd (omega (arith, ap length order, length-append before (other ∷ after)))
 
 -- why a load of a file stopped
-pub file_stops : {I : Type 0} (contents : Option FileMap) (steady : Bool) (left : I → Option (List ℕ)) (input_faults : I → ℕ) (load : Load) (name : List ℕ) (loads new_loads : ℕ) (input : I) (fault : TakeFault) (stop : LoadStop) → text_of load.name ≡ Some name
-    → (fault ≡ take_fault.Failed → Rose loads new_loads) → (fault ≡ take_fault.Failed → steady ≡ true → LacksFile contents name) → (fault ≡ take_fault.TooLong → HasMore contents name load.limit)
+pub file_stops : {I : Type 0} (contents : Option FileMap) (steady : Bool) (left : I → Option (List ℕ)) (reads : I → Counts) (load : Load) (name : List ℕ) (loads new_loads : Counts) (input : I) (fault : TakeFault) (stop : LoadStop) → text_of load.name ≡ Some name
+    → (fault ≡ take_fault.Failed → Rose loads.faults new_loads.faults) → (fault ≡ take_fault.TooLong → RoseBy (load.limit + 1) loads.done new_loads.done) → (fault ≡ take_fault.Failed → steady ≡ true → LacksFile contents name) → (fault ≡ take_fault.TooLong → HasMore contents name load.limit)
     → (fault ≡ take_fault.Failed → stop ≡ Failed load) → (fault ≡ take_fault.TooLong → stop ≡ TooLong load) → ((e : AllocError) → fault ≡ take_fault.Memory e → stop ≡ Memory)
-    → StopsLoading contents steady left input_faults (need_of load ∷ []) loads new_loads input input stop
-file_stops contents steady left input_faults load name loads new_loads input take_fault.Failed stop is rose lacks more failed long memory =
+    → StopsLoading contents steady left reads (need_of load ∷ []) loads new_loads input input stop
+file_stops contents steady left reads load name loads new_loads input take_fault.Failed stop is rose gave lacks more failed long memory =
     rw (failed refl) (record { reached = alone contents (left input) (need_of load); rose = rw is (rose refl); lacks = λ is_steady. rw is (lacks refl is_steady); untried = λ file. refl })
-file_stops contents steady left input_faults load name loads new_loads input take_fault.TooLong stop is rose lacks more failed long memory =
-    rw (long refl) (record { reached = alone contents (left input) (need_of load); longer = rw is (file_longer contents name load.limit (more refl)); untried = λ file. refl })
-file_stops contents steady left input_faults load name loads new_loads input (take_fault.Memory e) stop is rose lacks more failed long memory = rw (memory e refl) tt
+file_stops contents steady left reads load name loads new_loads input take_fault.TooLong stop is rose gave lacks more failed long memory =
+    rw (long refl) (record { reached = alone contents (left input) (need_of load); gave = rw is (gave refl).0; longer = rw is (file_longer contents name load.limit (more refl)); untried = λ file. refl })
+file_stops contents steady left reads load name loads new_loads input (take_fault.Memory e) stop is rose gave lacks more failed long memory = rw (memory e refl) tt
 
 -- why a load of standard input stopped
-pub input_stops : {I : Type 0} (contents : Option FileMap) (steady : Bool) (left : I → Option (List ℕ)) (input_faults : I → ℕ) (load : Load) (loads new_loads : ℕ) (input new_input : I) (fault : TakeFault) (stop : LoadStop) → text_of load.name ≡ None
-    → (fault ≡ take_fault.Failed → Rose (input_faults input) (input_faults new_input)) → (fault ≡ take_fault.TooLong → TakesCount (left input) (left new_input) (load.limit + 1))
+pub input_stops : {I : Type 0} (contents : Option FileMap) (steady : Bool) (left : I → Option (List ℕ)) (reads : I → Counts) (load : Load) (loads new_loads : Counts) (input new_input : I) (fault : TakeFault) (stop : LoadStop) → text_of load.name ≡ None
+    → (fault ≡ take_fault.Failed → Rose (reads input).faults (reads new_input).faults) → (fault ≡ take_fault.TooLong → RoseBy (load.limit + 1) (reads input).done (reads new_input).done) → (fault ≡ take_fault.TooLong → TakesCount (left input) (left new_input) (load.limit + 1))
     → (fault ≡ take_fault.Failed → stop ≡ Failed load) → (fault ≡ take_fault.TooLong → stop ≡ TooLong load) → ((e : AllocError) → fault ≡ take_fault.Memory e → stop ≡ Memory)
-    → StopsLoading contents steady left input_faults (need_of load ∷ []) loads new_loads input new_input stop
-input_stops contents steady left input_faults load loads new_loads input new_input take_fault.Failed stop is rose more failed long memory =
+    → StopsLoading contents steady left reads (need_of load ∷ []) loads new_loads input new_input stop
+input_stops contents steady left reads load loads new_loads input new_input take_fault.Failed stop is rose gave more failed long memory =
     rw (failed refl) (record { reached = alone contents (left input) (need_of load); rose = rw is (rose refl); lacks = λ is_steady. rw is tt; untried = λ file. let both : true ≡ false = sym (ap is_stream is) ∙ file in absurd cc })
-input_stops contents steady left input_faults load loads new_loads input new_input take_fault.TooLong stop is rose more failed long memory =
-    rw (long refl) (record { reached = alone contents (left input) (need_of load); longer = rw is (input_longer (left input) (left new_input) load.limit (more refl)); untried = λ file. let both : true ≡ false = sym (ap is_stream is) ∙ file in absurd cc })
-input_stops contents steady left input_faults load loads new_loads input new_input (take_fault.Memory e) stop is rose more failed long memory = rw (memory e refl) tt
+input_stops contents steady left reads load loads new_loads input new_input take_fault.TooLong stop is rose gave more failed long memory =
+    rw (long refl) (record { reached = alone contents (left input) (need_of load); gave = rw is (gave refl).0; longer = rw is (input_longer (left input) (left new_input) load.limit (more refl)); untried = λ file. let both : true ≡ false = sym (ap is_stream is) ∙ file in absurd cc })
+input_stops contents steady left reads load loads new_loads input new_input (take_fault.Memory e) stop is rose gave more failed long memory = rw (memory e refl) tt
 
 -- ---- one need among others
 
@@ -90,29 +91,38 @@ texts-append contents left (need ∷ needs) others [] more are rest = absurd are
 texts-append contents left (need ∷ needs) others (bytes ∷ texts) more are rest = (are.0, texts-append contents left needs others texts more are.1 rest)
 
 -- a count that rose since later rose since earlier
-pub SourceRose-earlier : (need : Need) (loads earlier_loads new_loads inputs new_inputs : ℕ) → earlier_loads ≤ loads → SourceRose need loads new_loads inputs new_inputs → SourceRose need earlier_loads new_loads inputs new_inputs
+pub SourceRose-earlier : (need : Need) (loads earlier_loads new_loads inputs new_inputs : Counts) → NeverFall earlier_loads loads → SourceRose need loads new_loads inputs new_inputs → SourceRose need earlier_loads new_loads inputs new_inputs
 SourceRose-earlier need loads earlier_loads new_loads inputs new_inputs le rose = by_name need.name rose
   where
-    by_name : (name : Option (List ℕ)) → MatchOption name (Rose inputs new_inputs) (λ n. Rose loads new_loads) → MatchOption name (Rose inputs new_inputs) (λ n. Rose earlier_loads new_loads)
+    by_name : (name : Option (List ℕ)) → MatchOption name (Rose inputs.faults new_inputs.faults) (λ n. Rose loads.faults new_loads.faults) → MatchOption name (Rose inputs.faults new_inputs.faults) (λ n. Rose earlier_loads.faults new_loads.faults)
     by_name None rose = rose
-    by_name (Some name) rose = omega arith
+    by_name (Some name) rose = omega (arith, le.0, rose)
+
+-- what was read since later was read since earlier
+pub SourceGave-earlier : (n : ℕ) (need : Need) (loads earlier_loads new_loads inputs new_inputs : Counts) → NeverFall earlier_loads loads → SourceGave n need loads new_loads inputs new_inputs → SourceGave n need earlier_loads new_loads inputs new_inputs
+SourceGave-earlier n need loads earlier_loads new_loads inputs new_inputs le gave = by_name need.name gave
+  where
+    by_name : (name : Option (List ℕ)) → MatchOption name (RoseAtLeastBy n inputs.done new_inputs.done) (λ name. RoseAtLeastBy n loads.done new_loads.done) → MatchOption name (RoseAtLeastBy n inputs.done new_inputs.done) (λ name. RoseAtLeastBy n earlier_loads.done new_loads.done)
+    by_name None gave = gave
+    by_name (Some name) gave = omega (arith, le.1, gave)
 
 -- it stopped at one after others that have texts
-pub stops_after_others : {I : Type 0} (contents : Option FileMap) (steady : Bool) (left : I → Option (List ℕ)) (input_faults : I → ℕ) (before after : List Need) (need : Need) (texts : List (List ℕ)) (loads loads_now new_loads : ℕ) (input new_input : I) (stop : LoadStop)
-    → AreTextsOf contents (left input) before texts → loads ≤ loads_now
-    → StopsLoading contents steady left input_faults (need ∷ []) loads_now new_loads input new_input stop → StopsLoading contents steady left input_faults (before ++ need ∷ after) loads new_loads input new_input stop
-stops_after_others contents steady left input_faults before after need texts loads loads_now new_loads input new_input (Failed load) are le fails = record {
+pub stops_after_others : {I : Type 0} (contents : Option FileMap) (steady : Bool) (left : I → Option (List ℕ)) (reads : I → Counts) (before after : List Need) (need : Need) (texts : List (List ℕ)) (loads loads_now new_loads : Counts) (input new_input : I) (stop : LoadStop)
+    → AreTextsOf contents (left input) before texts → NeverFall loads loads_now
+    → StopsLoading contents steady left reads (need ∷ []) loads_now new_loads input new_input stop → StopsLoading contents steady left reads (before ++ need ∷ after) loads new_loads input new_input stop
+stops_after_others contents steady left reads before after need texts loads loads_now new_loads input new_input (Failed load) are le fails = record {
   reached = record { before = before; after = after; texts = texts; order = ap (λ (n : Need). before ++ n ∷ after) (sym (alone-is contents (left input) need (need_of load) fails.reached)); read = are };
-  rose = SourceRose-earlier (need_of load) loads_now loads new_loads (input_faults input) (input_faults new_input) le fails.rose;
+  rose = SourceRose-earlier (need_of load) loads_now loads new_loads (reads input) (reads new_input) le fails.rose;
   lacks = fails.lacks;
   untried = fails.untried;
 }
-stops_after_others contents steady left input_faults before after need texts loads loads_now new_loads input new_input (TooLong load) are le passes = record {
+stops_after_others contents steady left reads before after need texts loads loads_now new_loads input new_input (TooLong load) are le passes = record {
   reached = record { before = before; after = after; texts = texts; order = ap (λ (n : Need). before ++ n ∷ after) (sym (alone-is contents (left input) need (need_of load) passes.reached)); read = are };
+  gave = SourceGave-earlier ((need_of load).limit + 1) (need_of load) loads_now loads new_loads (reads input) (reads new_input) le passes.gave;
   longer = passes.longer;
   untried = passes.untried;
 }
-stops_after_others contents steady left input_faults before after need texts loads loads_now new_loads input new_input Memory are le memory = tt
+stops_after_others contents steady left reads before after need texts loads loads_now new_loads input new_input Memory are le memory = tt
 
 -- a need after others that have texts was tried
 pub one-reached : {I : Type 0} (contents : Option FileMap) (left : I → Option (List ℕ)) (before after : List Need) (need : Need) (texts : List (List ℕ)) (input new_input : I) → AreTextsOf contents (left input) before texts
@@ -188,10 +198,10 @@ limit-at loads k default lt sound =
     subst (λ (need : Need). need.limit < 2 ^ 32) (get_or-map need_of loads k default) (sound.limits k (need_of default) (omega (arith, length-map loads need_of)))
 
 -- why loading stopped, over files and an input that are as they were
-pub stops_now : {I : Type 0} (contents now : Option FileMap) (steady steady_now : Bool) (left : I → Option (List ℕ)) (input_faults : I → ℕ) (needs : List Need) (loads new_loads : ℕ) (input input_now new_input : I) (stop : LoadStop)
+pub stops_now : {I : Type 0} (contents now : Option FileMap) (steady steady_now : Bool) (left : I → Option (List ℕ)) (reads : I → Counts) (needs : List Need) (loads new_loads : Counts) (input input_now new_input : I) (stop : LoadStop)
     → now ≡ contents → steady_now ≡ steady → input_now ≡ input
-    → StopsLoading now steady_now left input_faults needs loads new_loads input_now new_input stop → StopsLoading contents steady left input_faults needs loads new_loads input new_input stop
-stops_now {I} contents now steady steady_now left input_faults needs loads new_loads input input_now new_input stop same_contents same_steady same_input stops =
-    subst (λ (c : Option FileMap). StopsLoading c steady left input_faults needs loads new_loads input new_input stop) same_contents
-    (subst (λ (b : Bool). StopsLoading now b left input_faults needs loads new_loads input new_input stop) same_steady
-    (subst (λ (i : I). StopsLoading now steady_now left input_faults needs loads new_loads i new_input stop) same_input stops))
+    → StopsLoading now steady_now left reads needs loads new_loads input_now new_input stop → StopsLoading contents steady left reads needs loads new_loads input new_input stop
+stops_now {I} contents now steady steady_now left reads needs loads new_loads input input_now new_input stop same_contents same_steady same_input stops =
+    subst (λ (c : Option FileMap). StopsLoading c steady left reads needs loads new_loads input new_input stop) same_contents
+    (subst (λ (b : Bool). StopsLoading now b left reads needs loads new_loads input new_input stop) same_steady
+    (subst (λ (i : I). StopsLoading now steady_now left reads needs loads new_loads i new_input stop) same_input stops))

@@ -8,6 +8,7 @@ use Rattle.tool_run.specs.Needs.{Need, is_stream, reads_files, reads_input}
 use Rattle.tool_run.specs.Lines.{line_of, read_failed}
 use Rattle.tool_run.specs.Tasks.{Answer, Both, Refused, Quiet, UsageError, LoadFault, Missing, TooLong, Outcome, Task, answered, bytes_of, ended, loaded, outcome_of, reached, reached_after}
 use Rattle.tool_run.specs.Effects.{Foretells, SourceRose, Tells}
+use Rattle.tool_run.specs.Counts.{Counts}
 use Rattle.tool_run.specs.Loads.{AreTextsOf, FailsToLoad, IsReached}
 use Rattle.tool_run.specs.Stops.{StopsWith}
 use Rattle.tool_run.specs.Answering.{Gives}
@@ -166,21 +167,21 @@ exact-answer task needs answer status concluded done part refused = elim conclud
 ]
 
 -- standard input that failed raised the count of the input
-pub input-rose : (need : Need) (loads new_loads inputs new_inputs : ℕ) → is_stream need.name ≡ true → SourceRose need loads new_loads inputs new_inputs → Rose inputs new_inputs
+pub input-rose : (need : Need) (loads new_loads inputs new_inputs : Counts) → is_stream need.name ≡ true → SourceRose need loads new_loads inputs new_inputs → Rose inputs.faults new_inputs.faults
 input-rose need loads new_loads inputs new_inputs stream rose = by_name need.name stream rose
   where
-    by_name : (name : Option (List ℕ)) → is_stream name ≡ true → MatchOption name (Rose inputs new_inputs) (λ n. Rose loads new_loads) → Rose inputs new_inputs
+    by_name : (name : Option (List ℕ)) → is_stream name ≡ true → MatchOption name (Rose inputs.faults new_inputs.faults) (λ n. Rose loads.faults new_loads.faults) → Rose inputs.faults new_inputs.faults
     by_name None stream rose = rose
     by_name (Some name) stream rose = absurd cc
 
 -- over steady files a failure is the outcome's, unless standard input failed that the outcome reads
-pub foretold_failure : {I : Type 0} (task : Task) (contents : Option FileMap) (steady : Bool) (left : I → Option (List ℕ)) (input_faults : I → ℕ) (loads new_loads : ℕ) (input new_input : I) (need : Need) (S : Option (List ℕ) → Type 0)
-    → FailsToLoad contents steady left input_faults task.needs loads new_loads input new_input need → S (Some (line_of task.tool_name (read_failed need))) → steady ≡ true
-    → Foretells task contents (left input) (λ o. (o.reads_input ≡ true → Rose (input_faults input) (input_faults new_input) → ⊥) → (o.status ≡ 3) × S o.message)
-foretold_failure task contents steady left input_faults loads new_loads input new_input need S fails says is_steady = λ known text tells.
-    let failed : Outcome → Type 0 = λ o. (o.reads_input ≡ true → Rose (input_faults input) (input_faults new_input) → ⊥) → (o.status ≡ 3) × S o.message in
+pub foretold_failure : {I : Type 0} (task : Task) (contents : Option FileMap) (steady : Bool) (left : I → Option (List ℕ)) (reads : I → Counts) (loads new_loads : Counts) (input new_input : I) (need : Need) (S : Option (List ℕ) → Type 0)
+    → FailsToLoad contents steady left reads task.needs loads new_loads input new_input need → S (Some (line_of task.tool_name (read_failed need))) → steady ≡ true
+    → Foretells task contents (left input) (λ o. (o.reads_input ≡ true → Rose (reads input).faults (reads new_input).faults → ⊥) → (o.status ≡ 3) × S o.message)
+foretold_failure task contents steady left reads loads new_loads input new_input need S fails says is_steady = λ known text tells.
+    let failed : Outcome → Type 0 = λ o. (o.reads_input ≡ true → Rose (reads input).faults (reads new_input).faults → ⊥) → (o.status ≡ 3) × S o.message in
     elim (cases_Bool (is_stream need.name)) [
       | inl stream ↦ λ unread. absurd (unread (foretold_input task contents (left input) (input-reached contents (left input) task.needs need fails.reached stream) known text tells)
-          (input-rose need loads new_loads (input_faults input) (input_faults new_input) stream fails.rose))
+          (input-rose need loads new_loads (reads input) (reads new_input) stream fails.rose))
       | inr file ↦ foretold task contents (left input) (Err (Missing need)) failed (missing-loaded contents (left input) task.needs need fails.reached file (fails.lacks is_steady)) (λ needs unread. (refl, says)) known text tells
     ]

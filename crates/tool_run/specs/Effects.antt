@@ -1,9 +1,10 @@
 -- What a run does to the files and the streams, if these tell what they hold.
 use Rattle.std.specs.Prelude.{◌≡◌, ◌⊎◌, ℕ, true, List, Option, None, Some, MatchOption, take}
 use Rattle.std.specs.Io.KnownBytes.{Appends}
-use Rattle.ice_io.specs.Faults.{Rose}
+use Rattle.ice_io.specs.Faults.{Rose, RoseAtLeastBy}
 use Rattle.ice_io.specs.Files.{FileMap, with_file}
 use Rattle.tool_run.specs.Needs.{Need}
+use Rattle.tool_run.specs.Counts.{Counts}
 use Rattle.tool_run.specs.Lines.{write_failed}
 use Rattle.tool_run.specs.Tasks.{Outcome, Task, outcome_of}
 
@@ -32,22 +33,27 @@ abbrev pub Speaks : {E : Type 0} → Option (List ℕ) → (E → Option (List �
 Speaks None said faults errors new_errors = new_errors ≡ errors
 Speaks (Some line) said faults errors new_errors = Writes line (said errors) (said new_errors) (faults errors) (faults new_errors)
 
--- the count of a need's own side rose: of the input, or of the loads
-abbrev pub SourceRose : Need → ℕ → ℕ → ℕ → ℕ → Type 0
-SourceRose need load_faults new_load_faults input_faults new_input_faults =
-    MatchOption need.name (Rose input_faults new_input_faults) (λ name. Rose load_faults new_load_faults)
+-- a need's own side failed once more: standard input, or the files
+abbrev pub SourceRose : Need → Counts → Counts → Counts → Counts → Type 0
+SourceRose need loads new_loads reads new_reads =
+    MatchOption need.name (Rose reads.faults new_reads.faults) (λ name. Rose loads.faults new_loads.faults)
 
--- the count of the target rose: of the stores, or of standard output
-abbrev pub TargetRose : Option (List ℕ) → ℕ → ℕ → ℕ → ℕ → Type 0
-TargetRose None store_faults new_store_faults output_faults new_output_faults = Rose output_faults new_output_faults
-TargetRose (Some name) store_faults new_store_faults output_faults new_output_faults = Rose store_faults new_store_faults
+-- of a need's own side at least so many bytes were read
+abbrev pub SourceGave : ℕ → Need → Counts → Counts → Counts → Counts → Type 0
+SourceGave n need loads new_loads reads new_reads =
+    MatchOption need.name (RoseAtLeastBy n reads.done new_reads.done) (λ name. RoseAtLeastBy n loads.done new_loads.done)
 
-module _ {F O : Type 0} (contents : F → Option FileMap) (store_faults : F → ℕ) (held : O → Option (List ℕ)) (output_faults : O → ℕ)
+-- the target failed once more: the stores, or standard output
+abbrev pub TargetRose : Option (List ℕ) → Counts → Counts → ℕ → ℕ → Type 0
+TargetRose None stores new_stores output_faults new_output_faults = Rose output_faults new_output_faults
+TargetRose (Some name) stores new_stores output_faults new_output_faults = Rose stores.faults new_stores.faults
+
+module _ {F O : Type 0} (contents : F → Option FileMap) (stores : F → Counts) (held : O → Option (List ℕ)) (output_faults : O → ℕ)
     (files new_files : F) (output new_output : O) (S : List ℕ → Type 0) where
   -- over files as they were before, a target took no more than some first ones of these bytes, its count rose, and S holds of what is said
   pub record FailsToTake (before : Option FileMap) (target : Option (List ℕ)) (bytes : List ℕ) : Type 0 where
     pub part : DeliversPart target bytes before (contents new_files) (held output) (held new_output)
-    pub rose : TargetRose target (store_faults files) (store_faults new_files) (output_faults output) (output_faults new_output)
+    pub rose : TargetRose target (stores files) (stores new_files) (output_faults output) (output_faults new_output)
     pub said : S (write_failed target)
 
   -- the file beside the target wasn't stored whole, and the target got nothing

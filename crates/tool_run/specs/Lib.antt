@@ -1,6 +1,7 @@
 pub mod Needs
 pub mod Lines
 pub mod Tasks
+pub mod Counts
 pub mod Effects
 pub mod Loads
 pub mod Keeping

@@ -1,9 +1,10 @@
 -- Loading one need after the other.
-use Rattle.std.specs.Prelude.{◌≡◌, ◌⊎◌, ℕ, ◌<◌, ◌≤◌, Bool, true, false, List, ◌∷◌, ◌++◌, length, Option, None, Some, MatchOption, ⊤}
+use Rattle.std.specs.Prelude.{◌≡◌, ◌⊎◌, ℕ, ◌+◌, ◌<◌, ◌≤◌, Bool, true, false, List, ◌∷◌, ◌++◌, length, Option, None, Some, MatchOption, ⊤}
 use Rattle.std.specs.List.{AllZip}
 use Rattle.ice_io.specs.Files.{FileMap, HasFile, LacksFile}
 use Rattle.tool_run.specs.Needs.{Need, is_stream, need_of}
-use Rattle.tool_run.specs.Effects.{SourceRose}
+use Rattle.tool_run.specs.Counts.{Counts}
+use Rattle.tool_run.specs.Effects.{SourceGave, SourceRose}
 use Rattle.tool_run.specs.declared.load.LoadStop.{LoadStop}
 use Rattle.tool_run.specs.declared.load.LoadStop.TheVariants.{Failed, TooLong, Memory}
 
@@ -35,25 +36,27 @@ pub record Reaches (contents : Option FileMap) (left : Option (List ℕ)) (needs
 
 -- a need failed to be read: it was reached, the count of its side rose, and over steady files there is no such file. If it is
 -- a file, standard input wasn't tried
-pub record FailsToLoad {I : Type 0} (contents : Option FileMap) (steady : Bool) (left : I → Option (List ℕ)) (input_faults : I → ℕ) (needs : List Need) (load_faults new_load_faults : ℕ) (input new_input : I) (need : Need) : Type 0 where
+pub record FailsToLoad {I : Type 0} (contents : Option FileMap) (steady : Bool) (left : I → Option (List ℕ)) (reads : I → Counts) (needs : List Need) (loads new_loads : Counts) (input new_input : I) (need : Need) : Type 0 where
   pub reached : Reaches contents (left input) needs need
-  pub rose : SourceRose need load_faults new_load_faults (input_faults input) (input_faults new_input)
+  pub rose : SourceRose need loads new_loads (reads input) (reads new_input)
   pub lacks : steady ≡ true → MatchOption need.name (Unit {0}) (λ name. LacksFile contents name)
   pub untried : is_stream need.name ≡ false → new_input ≡ input
 
--- a need passes its limit: it was reached, and has more bytes. If it is a file, standard input wasn't tried
-pub record PassesLimit {I : Type 0} (contents : Option FileMap) (left : I → Option (List ℕ)) (needs : List Need) (input new_input : I) (need : Need) : Type 0 where
+-- a need passes its limit: it was reached, has more bytes, and so many were read that one was past the limit. If it is a file, standard
+-- input wasn't tried
+pub record PassesLimit {I : Type 0} (contents : Option FileMap) (left : I → Option (List ℕ)) (reads : I → Counts) (needs : List Need) (loads new_loads : Counts) (input new_input : I) (need : Need) : Type 0 where
   pub reached : Reaches contents (left input) needs need
+  pub gave : SourceGave (need.limit + 1) need loads new_loads (reads input) (reads new_input)
   pub longer : (bytes : List ℕ) × SourceHas contents (left input) need.name bytes × (need.limit < length bytes)
   pub untried : is_stream need.name ≡ false → new_input ≡ input
 
 -- why loading stopped
-abbrev pub StopsLoading : {I : Type 0} → Option FileMap → Bool → (I → Option (List ℕ)) → (I → ℕ) → List Need → ℕ → ℕ → I → I → LoadStop → Type 0
-StopsLoading contents steady left input_faults needs load_faults new_load_faults input new_input (Failed load) =
-    FailsToLoad contents steady left input_faults needs load_faults new_load_faults input new_input (need_of load)
-StopsLoading contents steady left input_faults needs load_faults new_load_faults input new_input (TooLong load) =
-    PassesLimit contents left needs input new_input (need_of load)
-StopsLoading contents steady left input_faults needs load_faults new_load_faults input new_input Memory = Unit {0}
+abbrev pub StopsLoading : {I : Type 0} → Option FileMap → Bool → (I → Option (List ℕ)) → (I → Counts) → List Need → Counts → Counts → I → I → LoadStop → Type 0
+StopsLoading contents steady left reads needs loads new_loads input new_input (Failed load) =
+    FailsToLoad contents steady left reads needs loads new_loads input new_input (need_of load)
+StopsLoading contents steady left reads needs loads new_loads input new_input (TooLong load) =
+    PassesLimit contents left reads needs loads new_loads input new_input (need_of load)
+StopsLoading contents steady left reads needs loads new_loads input new_input Memory = Unit {0}
 
 -- standard input stays as it was, unless it was reached
 abbrev pub IsReached : {I : Type 0} → Option FileMap → (I → Option (List ℕ)) → List Need → I → I → Type 0

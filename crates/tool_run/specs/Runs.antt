@@ -3,33 +3,35 @@ use Rattle.std.specs.Prelude.{◌≡◌, ◌≢◌, ◌⊎◌, ℕ, ◌≤◌, B
 use Rattle.std.specs.Io.KnownBytes.{IsAtEnd}
 use Rattle.ice_io.specs.Faults.{Rose}
 use Rattle.ice_io.specs.Files.{FileMap}
+use Rattle.tool_run.specs.Counts.{Counts}
 use Rattle.tool_run.specs.Needs.{Need, is_stream, reads_files, reads_input}
 use Rattle.tool_run.specs.Lines.{line_of, out_of_memory, read_failed, too_long}
 use Rattle.tool_run.specs.Tasks.{Answer, Both, Refused, Quiet, UsageError, Outcome, Task}
 use Rattle.tool_run.specs.Effects.{Delivers, FailsToDeliver, Foretells, Speaks, Writes, with_beside}
 use Rattle.tool_run.specs.Loads.{AreTextsOf, FailsToLoad, PassesLimit}
 
--- how clauses read the files, the input, the output and the errors of a run
+-- how clauses read the files, the input, the output and the errors of a run. Of loads and of reads of the input are counted those that
+-- failed, and the bytes that were read; of stores those that failed, and those that were begun
 pub record Outside (F I O E : Type 0) : Type 0 where
   pub contents : F → Option FileMap
   pub steady : F → Bool
-  pub load_faults : F → ℕ
-  pub store_faults : F → ℕ
+  pub loads : F → Counts
+  pub stores : F → Counts
   pub left : I → Option (List ℕ)
-  pub input_faults : I → ℕ
+  pub reads : I → Counts
   pub held : O → Option (List ℕ)
   pub output_faults : O → ℕ
   pub said : E → Option (List ℕ)
   pub error_faults : E → ℕ
 
-abbrev pub outside : {F I O E : Type 0} → (F → Option FileMap) → (F → Bool) → (F → ℕ) → (F → ℕ) → (I → Option (List ℕ)) → (I → ℕ) → (O → Option (List ℕ)) → (O → ℕ) → (E → Option (List ℕ)) → (E → ℕ) → Outside F I O E
-outside contents steady load_faults store_faults left input_faults held output_faults said error_faults = record {
+abbrev pub outside : {F I O E : Type 0} → (F → Option FileMap) → (F → Bool) → (F → Counts) → (F → Counts) → (I → Option (List ℕ)) → (I → Counts) → (O → Option (List ℕ)) → (O → ℕ) → (E → Option (List ℕ)) → (E → ℕ) → Outside F I O E
+outside contents steady loads stores left reads held output_faults said error_faults = record {
   contents = contents;
   steady = steady;
-  load_faults = load_faults;
-  store_faults = store_faults;
+  loads = loads;
+  stores = stores;
   left = left;
-  input_faults = input_faults;
+  reads = reads;
   held = held;
   output_faults = output_faults;
   said = said;
@@ -81,7 +83,7 @@ module _ {F I O E : Type 0} where
 
   -- a need of the task failed to be read, and its line is written. It is standard input only if the outcome reads it
   pub record FailsToRead (by : Outside F I O E) (task : Task) (old new : Scene F I O E) (need : Need) : Type 0 where
-    pub fails : FailsToLoad (by.contents old.files) (by.steady old.files) by.left by.input_faults task.needs (by.load_faults old.files) (by.load_faults new.files) old.input new.input need
+    pub fails : FailsToLoad (by.contents old.files) (by.steady old.files) by.left by.reads task.needs (by.loads old.files) (by.loads new.files) old.input new.input need
     pub line : Says by old new (line_of task.tool_name (read_failed need))
     pub input : is_stream need.name ≡ true → Foresees by task old (λ o. o.reads_input ≡ true)
 
@@ -105,18 +107,18 @@ module _ {F I O E : Type 0} where
         ⊎ (Makes by task old Quiet × (new.errors ≡ old.errors))
     -- 2: the tool doesn't take the command line, and its line says so
     pub usage : status ≡ 2 → (said : List ℕ) × Makes by task old (UsageError said) × Says by old new (line_of task.tool_name said)
-    -- 6: a need passes its limit, and its line says so
+    -- 6: a need passes its limit, one byte past it was read, and its line says so
     pub longer : status ≡ 6 → (need : Need)
-        × PassesLimit (by.contents old.files) by.left task.needs old.input new.input need
+        × PassesLimit (by.contents old.files) by.left by.reads task.needs (by.loads old.files) (by.loads new.files) old.input new.input need
         × Says by old new (line_of task.tool_name (too_long need))
     -- 3: a read failed. Over steady files it is the outcome's, unless standard input failed that the outcome reads
     pub read : status ≡ 3 → (need : Need) × FailsToRead by task old new need
     pub steady : status ≡ 3 → by.steady old.files ≡ true → Foresees by task old (λ o.
-        (o.reads_input ≡ true → Rose (by.input_faults old.input) (by.input_faults new.input) → ⊥)
+        (o.reads_input ≡ true → Rose (by.reads old.input).faults (by.reads new.input).faults → ⊥)
         → (o.status ≡ 3) × SaysIfAny by old new o.message)
     -- 4: the file beside the target, or the target after it, took only a part of what was made; its count rose, and its line says so
     pub part : status ≡ 4 → (bytes : List ℕ) × (beside : List ℕ)
-        × FailsToDeliver by.contents by.store_faults by.held by.output_faults old.files new.files old.output new.output
+        × FailsToDeliver by.contents by.stores by.held by.output_faults old.files new.files old.output new.output
         (λ said. Says by old new (line_of task.tool_name said)) task.beside beside task.target bytes
         × Foresees by task old (HasBytes bytes beside)
         × Makes by task old (Both bytes beside)
@@ -124,10 +126,10 @@ module _ {F I O E : Type 0} where
     pub memory : status ≡ 5 → Says by old new (line_of task.tool_name out_of_memory)
     -- whatever it is, it is the outcome's status, or 3, 4 or 5 came in its place
     pub exact : Foresees by task old (IsStatusFor status)
-    -- only 0 and 4 deliver anything, and what isn't asked for stays as it was
+    -- only 0 and 4 deliver anything: with the others nothing was written and no store was begun. What isn't asked for stays as it was
     pub untouched : status ≢ 0 → status ≢ 4 → new.output ≡ old.output
     pub kept : status ≢ 0 → status ≢ 4 → by.contents new.files ≡ by.contents old.files
-    pub unstored : StoresNoFile task ⊎ ((status ≢ 0) × (status ≢ 4)) → by.store_faults new.files ≡ by.store_faults old.files
+    pub unstored : StoresNoFile task ⊎ ((status ≢ 0) × (status ≢ 4)) → by.stores new.files ≡ by.stores old.files
     pub aside : task.target ≢ None → new.output ≡ old.output
     pub unread : reads_input task.needs ≡ false → new.input ≡ old.input
     pub unreached : Foresees by task old (λ o. o.reads_input ≡ false → new.input ≡ old.input)

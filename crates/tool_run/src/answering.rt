@@ -1,5 +1,6 @@
 // What a tool makes of its needs, loaded whole or taken in pieces.
 ghost use Rattle.std.specs.Prelude.{[], ℕ, List, Option, map};
+ghost use Rattle.tool_run.specs.Counts.{counts};
 ghost use Rattle.tool_run.specs.Answering.{Answers, Gives};
 ghost use Rattle.tool_run.specs.Intakes.{TakesOrStops};
 ghost use Rattle.tool_run.specs.Needs.{IsSound, need_of, text_of, with_layout};
@@ -21,7 +22,7 @@ pub(crate) fn answer_whole<'a, T: Tool, F: Files, I: Source>(
     input: &mut I,
 ) -> Result<Result<T::Made, Stop<'a>>, LoadStop<'a>>
     requires { IsSound (map need_of loads.now) }
-    ensures { Answers F.contents F.steady F.load_faults F.store_faults I.left I.faults (map need_of loads.now) (T.answer_of tool.now) (λ made. Done (T.Made.bytes made)) result
+    ensures { Answers F.contents F.steady (counts F.load_faults F.bytes_read) (counts F.store_faults F.stores) I.left (counts I.faults I.bytes_read) (map need_of loads.now) (T.answer_of tool.now) (λ made. Done (T.Made.bytes made)) result
         files.old files.new input.old input.new }
 {
     let mut loaded = Vec::new(alloc);
@@ -56,7 +57,7 @@ fn answer_taken<'a, T: PieceTool, F: Files, I: Source>(
     input: &mut I,
 ) -> Result<Result<T::Made, Stop<'a>>, LoadStop<'a>>
     requires { IsSound (map need_of loads.now) }
-    ensures { Answers F.contents F.steady F.load_faults F.store_faults I.left I.faults (map need_of loads.now) (T.answer_of tool.now (text_of layout.entry))
+    ensures { Answers F.contents F.steady (counts F.load_faults F.bytes_read) (counts F.store_faults F.stores) I.left (counts I.faults I.bytes_read) (map need_of loads.now) (T.answer_of tool.now (text_of layout.entry))
         (λ made. Both (T.Made.bytes made) (T.Made.beside made)) result files.old files.new input.old input.new }
 {
     let intake = tool.begin(alloc, layout);
@@ -79,7 +80,7 @@ pub(crate) fn answer_in_pieces<'a, T: PieceTool, F: Files, I: Source>(
     input: &mut I,
 ) -> Result<Result<T::Made, Stop<'a>>, LoadStop<'a>>
     requires { IsSound (map need_of loads.now) }
-    ensures { Answers F.contents F.steady F.load_faults F.store_faults I.left I.faults (with_layout (text_of layout.entry) (map need_of loads.now))
+    ensures { Answers F.contents F.steady (counts F.load_faults F.bytes_read) (counts F.store_faults F.stores) I.left (counts I.faults I.bytes_read) (with_layout (text_of layout.entry) (map need_of loads.now))
         (layout_first (text_of layout.entry) (T.answer_of tool.now)) (λ made. Both (T.Made.bytes made) (T.Made.beside made)) result files.old files.new input.old input.new }
 {
     match layout {

@@ -1,5 +1,6 @@
 // Tasks that load nothing.
 ghost use Rattle.std.specs.Prelude.{◌≡◌, None};
+ghost use Rattle.tool_run.specs.Counts.{counts};
 ghost use Rattle.tool_run.specs.AtOnce.{at_once_answer};
 ghost use Rattle.tool_run.specs.Runs.{Does, outside, scene};
 ghost use Rattle.tool_run.specs.Tasks.{at_once};
@@ -53,7 +54,7 @@ pub(crate) fn answer_at_once<F: Files, I: Source, O: Sink, E: Sink>(
     output: &mut O,
     errors: &mut E,
 ) -> u8
-    ensures { Does (outside F.contents F.steady F.load_faults F.store_faults I.left I.faults O.held O.faults E.held E.faults)
+    ensures { Does (outside F.contents F.steady (counts F.load_faults F.bytes_read) (counts F.store_faults F.stores) I.left (counts I.faults I.bytes_read) O.held O.faults E.held E.faults)
         (at_once tool_name.now None (at_once_answer answer)) result
         (scene files.old input.old output.old errors.old) (scene files.new input.new output.new errors.new) }
 {

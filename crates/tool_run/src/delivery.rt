@@ -1,6 +1,7 @@
 // What a tool made on its way to the target.
 ghost use Rattle.std.specs.Prelude.{◌≡◌, ◌≢◌, ◌≤◌, None, Option, Some, List, ℕ, OnOk, IsErrOf};
 ghost use Rattle.std.specs.Borrow.{Bor};
+ghost use Rattle.tool_run.specs.Counts.{counts};
 ghost use Rattle.tool_run.specs.Needs.{text_of};
 ghost use Rattle.tool_run.specs.Lines.{write_failed};
 ghost use Rattle.tool_run.specs.Jobs.{IsBesideOutput};
@@ -29,12 +30,12 @@ fn deliver_content<'a, C: Content, F: Files, O: Sink>(
 ) -> Result<(), Undelivered<'a>>
     ensures whole { OnOk result (Delivers (text_of target.entry) (C.bytes content) (F.contents files.old) (F.contents files.new) (O.held output.old) (O.held output.new)) }
     ensures failed { (at : Option (Bor (List ℕ))) → IsErrOf result (Undelivered.Failed at)
-        → FailsToTake F.contents F.store_faults O.held O.faults files.old files.new output.old output.new (λ said. said ≡ write_failed (text_of at))
+        → FailsToTake F.contents (counts F.store_faults F.stores) O.held O.faults files.old files.new output.old output.new (λ said. said ≡ write_failed (text_of at))
         (F.contents files.old) (text_of target.entry) (C.bytes content) }
 
     ensures untouched { IsErrOf result Undelivered.Memory → output.new ≡ output.old }
     ensures kept { IsErrOf result Undelivered.Memory → F.contents files.new ≡ F.contents files.old }
-    ensures unstored { IsErrOf result Undelivered.Memory → F.store_faults files.new ≡ F.store_faults files.old }
+    ensures unstored { IsErrOf result Undelivered.Memory → counts F.store_faults F.stores files.new ≡ counts F.store_faults F.stores files.old }
 
     ensures aside { text_of target.entry ≢ None → output.new ≡ output.old }
     ensures same_files { text_of target.entry ≡ None → files.new ≡ files.old }
@@ -61,7 +62,7 @@ fn deliver_beside<'a, P: Product, F: Files, O: Sink>(
 ) -> Result<(), Undelivered<'a>>
     ensures whole { OnOk result (Delivers None (P.bytes product) (with_beside (F.contents files.old) (Some beside.now) (P.beside product)) (F.contents files.new) (O.held output.old) (O.held output.new)) }
     ensures failed { (at : Option (Bor (List ℕ))) → IsErrOf result (Undelivered.Failed at)
-        → FailsToDeliver F.contents F.store_faults O.held O.faults files.old files.new output.old output.new (λ said. said ≡ write_failed (text_of at))
+        → FailsToDeliver F.contents (counts F.store_faults F.stores) O.held O.faults files.old files.new output.old output.new (λ said. said ≡ write_failed (text_of at))
         (Some beside.now) (P.beside product) None (P.bytes product) }
     ensures memory { IsErrOf result Undelivered.Memory → ⊥ }
 {
@@ -88,12 +89,12 @@ pub(crate) fn deliver<'a, P: Product, F: Files, O: Sink>(
     ensures whole { OnOk result (Delivers (text_of target.entry) (P.bytes product) (with_beside (F.contents files.old) (text_of beside.entry) (P.beside product))
         (F.contents files.new) (O.held output.old) (O.held output.new)) }
     ensures failed { (at : Option (Bor (List ℕ))) → IsErrOf result (Undelivered.Failed at)
-        → FailsToDeliver F.contents F.store_faults O.held O.faults files.old files.new output.old output.new (λ said. said ≡ write_failed (text_of at))
+        → FailsToDeliver F.contents (counts F.store_faults F.stores) O.held O.faults files.old files.new output.old output.new (λ said. said ≡ write_failed (text_of at))
         (text_of beside.entry) (P.beside product) (text_of target.entry) (P.bytes product) }
 
     ensures untouched { IsErrOf result Undelivered.Memory → output.new ≡ output.old }
     ensures kept { IsErrOf result Undelivered.Memory → F.contents files.new ≡ F.contents files.old }
-    ensures unstored { IsErrOf result Undelivered.Memory → F.store_faults files.new ≡ F.store_faults files.old }
+    ensures unstored { IsErrOf result Undelivered.Memory → counts F.store_faults F.stores files.new ≡ counts F.store_faults F.stores files.old }
 
     ensures aside { text_of target.entry ≢ None → output.new ≡ output.old }
     ensures same_files { text_of beside.entry ≡ None → text_of target.entry ≡ None → files.new ≡ files.old }

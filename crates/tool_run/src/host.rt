@@ -89,6 +89,7 @@ pub struct FilesAndStreams<F, I, O, E> {
 }
 
 impl<F: Files, I: Source, O: Sink, E: Sink> Host for FilesAndStreams<F, I, O, E> {
+    ghost use Rattle.tool_run.specs.Counts.{counts};
     ghost use Rattle.tool_run.specs.Runs.{outside, scene};
 
     ghost FilesSeen = { F };
@@ -99,7 +100,7 @@ impl<F: Files, I: Source, O: Sink, E: Sink> Host for FilesAndStreams<F, I, O, E>
 
     ghost ErrorsSeen = { E };
 
-    ghost outside = { outside F.contents F.steady F.load_faults F.store_faults I.left I.faults O.held O.faults E.held E.faults };
+    ghost outside = { outside F.contents F.steady (counts F.load_faults F.bytes_read) (counts F.store_faults F.stores) I.left (counts I.faults I.bytes_read) O.held O.faults E.held E.faults };
 
     ghost scene = { λ host. scene host.files host.input host.output host.errors };
 

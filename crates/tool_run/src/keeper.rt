@@ -1,6 +1,7 @@
 // What keeps the texts of needs.
 ghost use Rattle.std.specs.Prelude.{◌≡◌, ◌∷◌, [], ℕ, List, ◌<◌, ◌≤◌, ◌^◌, true, false, IfErr, OnOk};
 ghost use Rattle.std.specs.Io.KnownBytes.{IsAtEnd};
+ghost use Rattle.tool_run.specs.Counts.{NeverFall, counts};
 ghost use Rattle.tool_run.specs.Needs.{is_stream, need_of};
 ghost use Rattle.tool_run.specs.Keeping.{KeepsTexts};
 ghost use Rattle.tool_run.specs.Loads.{IsTextOf, StopsLoading};
@@ -33,14 +34,14 @@ pub(crate) trait Keeper {
         ensures text { OnOk result ((bytes : List ℕ) × IsTextOf (F.contents files.old) (I.left input.old) (need_of load.entry) bytes
             × KeepsTexts has_kept self.old self.new (bytes ∷ [])) }
         ensures ready { OnOk result (is_ready self.new) }
-        ensures stops { IfErr result (StopsLoading (F.contents files.old) (F.steady files.old) I.left I.faults (need_of load.entry ∷ [])
-            (F.load_faults files.old) (F.load_faults files.new) input.old input.new) }
+        ensures stops { IfErr result (StopsLoading (F.contents files.old) (F.steady files.old) I.left (counts I.faults I.bytes_read) (need_of load.entry ∷ [])
+            (counts F.load_faults F.bytes_read files.old) (counts F.load_faults F.bytes_read files.new) input.old input.new) }
         ensures end { OnOk result (is_stream (need_of load.entry).name ≡ true → IsAtEnd (I.left input.new)) }
 
         ensures same_contents { F.contents files.new ≡ F.contents files.old }
         ensures same_steady { F.steady files.new ≡ F.steady files.old }
-        ensures same_store_faults { F.store_faults files.new ≡ F.store_faults files.old }
-        ensures load_faults { F.load_faults files.old ≤ F.load_faults files.new }
+        ensures same_stores { counts F.store_faults F.stores files.new ≡ counts F.store_faults F.stores files.old }
+        ensures loads { NeverFall (counts F.load_faults F.bytes_read files.old) (counts F.load_faults F.bytes_read files.new) }
         ensures unread { is_stream (need_of load.entry).name ≡ false → input.new ≡ input.old }
         ensures unasked { is_stream (need_of load.entry).name ≡ true → files.new ≡ files.old };
 }

@@ -3,6 +3,7 @@ ghost use Rattle.std.specs.Prelude.{◌≡◌, ◌∷◌, [], ◌+◌, ◌++◌,
 ghost use Rattle.std.specs.declared.alloc.AllocError.{AllocError};
 ghost use Rattle.std.specs.Io.KnownBytes.{IsAtEnd};
 ghost use Rattle.ice_io.specs.Takers.{TakesMore};
+ghost use Rattle.tool_run.specs.Counts.{NeverFall, counts};
 ghost use Rattle.tool_run.specs.Needs.{IsSound, is_stream, layout_need, need_of, reads_files, reads_input};
 ghost use Rattle.tool_run.specs.Keeping.{KeepsTexts};
 ghost use Rattle.tool_run.specs.Loads.{AreTextsOf, IsReached, IsTextOf, StopsLoading};
@@ -75,14 +76,14 @@ pub(crate) fn load_one<'a, F: Files, I: Source>(
 ) -> Result<Vec<u8>, LoadStop<'a>>
     requires { load.limit < 2 ^ 32 }
     ensures text { IfOk result (λ bytes. IsTextOf (F.contents files.old) (I.left input.old) (need_of load.entry) bytes.items) }
-    ensures stops { IfErr result (StopsLoading (F.contents files.old) (F.steady files.old) I.left I.faults (need_of load.entry ∷ [])
-        (F.load_faults files.old) (F.load_faults files.new) input.old input.new) }
+    ensures stops { IfErr result (StopsLoading (F.contents files.old) (F.steady files.old) I.left (counts I.faults I.bytes_read) (need_of load.entry ∷ [])
+        (counts F.load_faults F.bytes_read files.old) (counts F.load_faults F.bytes_read files.new) input.old input.new) }
     ensures end { OnOk result (is_stream (need_of load.entry).name ≡ true → IsAtEnd (I.left input.new)) }
 
     ensures same_contents { F.contents files.new ≡ F.contents files.old }
     ensures same_steady { F.steady files.new ≡ F.steady files.old }
-    ensures same_store_faults { F.store_faults files.new ≡ F.store_faults files.old }
-    ensures load_faults { F.load_faults files.old ≤ F.load_faults files.new }
+    ensures same_stores { counts F.store_faults F.stores files.new ≡ counts F.store_faults F.stores files.old }
+    ensures loads { NeverFall (counts F.load_faults F.bytes_read files.old) (counts F.load_faults F.bytes_read files.new) }
     ensures unread { is_stream (need_of load.entry).name ≡ false → input.new ≡ input.old }
     ensures unasked { is_stream (need_of load.entry).name ≡ true → files.new ≡ files.old }
 {
@@ -110,14 +111,14 @@ pub(crate) fn feed_one<'a, K: Taker, F: Files, I: Source>(
     requires none { K.fed taker.old ≡ 0 }
     ensures text { OnOk result ((bytes : List ℕ) × IsTextOf (F.contents files.old) (I.left input.old) (need_of load.entry) bytes
         × TakesMore K.has_taken taker.old taker.new bytes) }
-    ensures stops { IfErr result (StopsLoading (F.contents files.old) (F.steady files.old) I.left I.faults (need_of load.entry ∷ [])
-        (F.load_faults files.old) (F.load_faults files.new) input.old input.new) }
+    ensures stops { IfErr result (StopsLoading (F.contents files.old) (F.steady files.old) I.left (counts I.faults I.bytes_read) (need_of load.entry ∷ [])
+        (counts F.load_faults F.bytes_read files.old) (counts F.load_faults F.bytes_read files.new) input.old input.new) }
     ensures end { OnOk result (is_stream (need_of load.entry).name ≡ true → IsAtEnd (I.left input.new)) }
 
     ensures same_contents { F.contents files.new ≡ F.contents files.old }
     ensures same_steady { F.steady files.new ≡ F.steady files.old }
-    ensures same_store_faults { F.store_faults files.new ≡ F.store_faults files.old }
-    ensures load_faults { F.load_faults files.old ≤ F.load_faults files.new }
+    ensures same_stores { counts F.store_faults F.stores files.new ≡ counts F.store_faults F.stores files.old }
+    ensures loads { NeverFall (counts F.load_faults F.bytes_read files.old) (counts F.load_faults F.bytes_read files.new) }
     ensures unread { is_stream (need_of load.entry).name ≡ false → input.new ≡ input.old }
     ensures unasked { is_stream (need_of load.entry).name ≡ true → files.new ≡ files.old }
 {
@@ -145,12 +146,12 @@ pub(crate) fn load_all<'a, K: Keeper, F: Files, I: Source>(
     requires ready { K.is_ready keeper.old }
     ensures texts { OnOk result ((texts : List (List ℕ)) × AreTextsOf (F.contents files.old) (I.left input.old) (map need_of loads.now) texts
         × KeepsTexts K.has_kept keeper.old keeper.new texts) }
-    ensures stops { IfErr result (StopsLoading (F.contents files.old) (F.steady files.old) I.left I.faults (map need_of loads.now)
-        (F.load_faults files.old) (F.load_faults files.new) input.old input.new) }
+    ensures stops { IfErr result (StopsLoading (F.contents files.old) (F.steady files.old) I.left (counts I.faults I.bytes_read) (map need_of loads.now)
+        (counts F.load_faults F.bytes_read files.old) (counts F.load_faults F.bytes_read files.new) input.old input.new) }
     ensures end { OnOk result (reads_input (map need_of loads.now) ≡ true → IsAtEnd (I.left input.new)) }
 
     ensures same_contents { F.contents files.new ≡ F.contents files.old }
-    ensures same_store_faults { F.store_faults files.new ≡ F.store_faults files.old }
+    ensures same_stores { counts F.store_faults F.stores files.new ≡ counts F.store_faults F.stores files.old }
     ensures unread { reads_input (map need_of loads.now) ≡ false → input.new ≡ input.old }
     ensures unreached { IsReached (F.contents files.old) I.left (map need_of loads.now) input.old input.new }
     ensures unasked { reads_files (map need_of loads.now) ≡ false → files.new ≡ files.old }

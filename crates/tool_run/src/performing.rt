@@ -1,5 +1,6 @@
 // A task from its loads to its target.
 ghost use Rattle.std.specs.Prelude.{◌≡◌, None, map};
+ghost use Rattle.tool_run.specs.Counts.{counts};
 ghost use Rattle.tool_run.specs.Needs.{IsSound, need_of, text_of};
 ghost use Rattle.tool_run.specs.Lines.{line_of, out_of_memory, source_name, target_name};
 ghost use Rattle.tool_run.specs.Tasks.{Task, beside_task};
@@ -67,7 +68,7 @@ fn conclude<P: Product, F: Files, O: Sink, E: Sink>(
     errors: &mut E,
 ) -> u8
     requires { IsBesideOutput (text_of beside) (text_of job.now.target) }
-    ensures { Concludes F.contents F.store_faults O.held O.faults E.held E.faults job.now.tool_name.now (text_of beside.entry) (text_of job.now.target)
+    ensures { Concludes F.contents (counts F.store_faults F.stores) O.held O.faults E.held E.faults job.now.tool_name.now (text_of beside.entry) (text_of job.now.target)
         P.beside P.bytes made.entry result
         files.old files.new output.old output.new errors.old errors.new }
 {
@@ -136,7 +137,7 @@ pub(crate) fn perform<T: Tool, F: Files, I: Source, O: Sink, E: Sink>(
     errors: &mut E,
 ) -> u8
     requires { IsSound (map need_of job.now.loads.now) }
-    ensures { Does (outside F.contents F.steady F.load_faults F.store_faults I.left I.faults O.held O.faults E.held E.faults)
+    ensures { Does (outside F.contents F.steady (counts F.load_faults F.bytes_read) (counts F.store_faults F.stores) I.left (counts I.faults I.bytes_read) O.held O.faults E.held E.faults)
         (task_of job.now (T.answer_of tool.now)) result
         (scene files.old input.old output.old errors.old) (scene files.new input.new output.new errors.new) }
 {
@@ -163,7 +164,7 @@ pub(crate) fn perform_in_pieces<T: PieceTool, F: Files, I: Source, O: Sink, E: S
 ) -> u8
     requires sound { IsSound (map need_of job.now.loads.now) }
     requires output { IsBesideOutput (text_of beside) (text_of job.now.target) }
-    ensures { Does (outside F.contents F.steady F.load_faults F.store_faults I.left I.faults O.held O.faults E.held E.faults)
+    ensures { Does (outside F.contents F.steady (counts F.load_faults F.bytes_read) (counts F.store_faults F.stores) I.left (counts I.faults I.bytes_read) O.held O.faults E.held E.faults)
         (beside_task (text_of beside.entry) (task_under (text_of layout.entry) job.now (T.answer_of tool.now))) result
         (scene files.old input.old output.old errors.old) (scene files.new input.new output.new errors.new) }
 {
@@ -183,7 +184,7 @@ pub(crate) fn give_up<F: Files, I: Source, O: Sink, E: Sink>(
 ) -> u8
     ensures status { result ≡ 5 }
     ensures does { (task : Task) → task.tool_name ≡ tool_name.now
-        → Does (outside F.contents F.steady F.load_faults F.store_faults I.left I.faults O.held O.faults E.held E.faults) task result
+        → Does (outside F.contents F.steady (counts F.load_faults F.bytes_read) (counts F.store_faults F.stores) I.left (counts I.faults I.bytes_read) O.held O.faults E.held E.faults) task result
         (scene files.old input.old output.old errors.old) (scene files.new input.new output.new errors.new) }
 {
     write_out_of_memory(errors, tool_name);

@@ -37,6 +37,8 @@ impl<F: Files> Files for Watched<F> {
 
     ghost bytes_read = { λ watched. F.bytes_read watched.files };
 
+    ghost stores = { λ watched. F.stores watched.files };
+
     fn load(&mut self, alloc: Global, name: &str, limit: usize) -> Result<Vec<u8>, TakeFault> {
         self.note(" l ", name);
         self.files.load(alloc, name, limit)

@@ -1,7 +1,7 @@
 use Rattle.std.proofs.Common.{◌≡◌, List, ℕ, [], ◌++◌, append_assoc, append-nil, subst}
 use Rattle.std.specs.Prelude.{codes}
 use Rattle.tool_run.specs.Effects.{Writes}
-use Rattle.tool_run.specs.Lines.{line_of, number_text, parts_text, phrase_text, phrases_text}
+use Rattle.tool_run.specs.Lines.{number_text, phrases_text}
 use Rattle.tool_run.specs.declared.line.Phrase.{Phrase}
 use Rattle.tool_run.specs.declared.line.Refusal.{Refusal}
 use Rattle.tool_run.proofs.line.write_phrases.Goals as goal

@@ -4,6 +4,7 @@ use Rattle.std.specs.Io.KnownBytes.{IsAtEnd}
 use Rattle.std.proofs.lemmas.List.Folds.{list_any-append}
 use Rattle.tool_run.specs.declared.load.Load.{Load}
 use Rattle.tool_run.specs.Needs.{Need, is_stream, need_of, reads_input}
+use Rattle.tool_run.specs.Counts.{counts}
 use Rattle.tool_run.specs.Loads.{AreTextsOf, IsReached, IsTextOf, StopsLoading}
 use Rattle.std.proofs.Math.Bool.{or-false}
 use Rattle.std.proofs.lemmas.Bool.{or_parts}
@@ -53,10 +54,10 @@ returns-in-Err-clause-stops g c =
     let old = c.loop-load in
     let new = c.keep_text.new in
     let i = c.loop-load.invariant in
-    let stops : List Need → Type 0 = λ all. StopsLoading (F.contents c.args.files.now) (F.steady c.args.files.now) I.left I.faults all (F.load_faults c.args.files.now) (F.load_faults new.files) c.args.input.now new.input c.in-Err.stop in
+    let stops : List Need → Type 0 = λ all. StopsLoading (F.contents c.args.files.now) (F.steady c.args.files.now) I.left (counts I.faults I.bytes_read) all (counts F.load_faults F.bytes_read c.args.files.now) (counts F.load_faults F.bytes_read new.files) c.args.input.now new.input c.in-Err.stop in
     subst stops (sym (split-need c.args.loads.now k none c.loop-load-test.true))
-    (stops_after_others (F.contents c.args.files.now) (F.steady c.args.files.now) I.left I.faults (take k needs) (drop (k + 1) needs) need i.texts.0 (F.load_faults c.args.files.now) (F.load_faults old.files) (F.load_faults new.files) c.args.input.now new.input c.in-Err.stop i.texts.1 i.load_faults
-    (stops_now (F.contents c.args.files.now) (F.contents old.files) (F.steady c.args.files.now) (F.steady old.files) I.left I.faults (need ∷ []) (F.load_faults old.files) (F.load_faults new.files) c.args.input.now old.input new.input c.in-Err.stop
+    (stops_after_others (F.contents c.args.files.now) (F.steady c.args.files.now) I.left (counts I.faults I.bytes_read) (take k needs) (drop (k + 1) needs) need i.texts.0 (counts F.load_faults F.bytes_read c.args.files.now) (counts F.load_faults F.bytes_read old.files) (counts F.load_faults F.bytes_read new.files) c.args.input.now new.input c.in-Err.stop i.texts.1 i.loads
+    (stops_now (F.contents c.args.files.now) (F.contents old.files) (F.steady c.args.files.now) (F.steady old.files) I.left (counts I.faults I.bytes_read) (need ∷ []) (counts F.load_faults F.bytes_read old.files) (counts F.load_faults F.bytes_read new.files) c.args.input.now old.input new.input c.in-Err.stop
     i.same_contents i.same_steady (i.untried c.loop-load-test.true) c.in-Err.ensures.stops))
 
 pub loop-load-preserved : goal.loop-load-preserved
@@ -97,8 +98,8 @@ loop-load-preserved g c =
           (sym (ap reads_input (take-need loads k none lt) ∙ list_any-append (λ (n : Need). is_stream n.name) before (need ∷ [])) ∙ reads);
       same_contents = e.same_contents ∙ i.same_contents;
       same_steady = e.same_steady ∙ i.same_steady;
-      same_store_faults = e.same_store_faults ∙ i.same_store_faults;
-      load_faults = omega (arith, i.load_faults, e.load_faults);
+      same_stores = e.same_stores ∙ i.same_stores;
+      loads = (omega (arith, i.loads.0, e.loads.0), omega (arith, i.loads.1, e.loads.1));
     }
 
 pub returns-clause-texts : goal.returns-clause-texts

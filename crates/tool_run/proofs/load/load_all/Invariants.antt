@@ -1,8 +1,9 @@
-use Rattle.std.proofs.Common.{◌≡◌, ◌<◌, ◌≤◌, length, ℕ, List, true, false, take}
+use Rattle.std.proofs.Common.{◌≡◌, ◌<◌, length, ℕ, List, true, false, take}
 use Rattle.std.specs.Prelude.{map}
 use Rattle.std.specs.Io.KnownBytes.{IsAtEnd}
 use Rattle.tool_run.specs.Needs.{need_of, reads_input, reads_files}
 use Rattle.tool_run.specs.Keeping.{KeepsTexts}
+use Rattle.tool_run.specs.Counts.{NeverFall, counts}
 use Rattle.tool_run.specs.Loads.{AreTextsOf, IsReached}
 use Rattle.tool_run.proofs.load.load_all.Given as goal
 
@@ -23,6 +24,6 @@ invariant-loop-load g l =
       end : reads_input before ≡ true → IsAtEnd (I.left l.input);
       same_contents : F.contents l.files ≡ F.contents l.fn.files;
       same_steady : F.steady l.files ≡ F.steady l.fn.files;
-      same_store_faults : F.store_faults l.files ≡ F.store_faults l.fn.files;
-      load_faults : F.load_faults l.fn.files ≤ F.load_faults l.files;
+      same_stores : counts F.store_faults F.stores l.files ≡ counts F.store_faults F.stores l.fn.files;
+      loads : NeverFall (counts F.load_faults F.bytes_read l.fn.files) (counts F.load_faults F.bytes_read l.files);
     }

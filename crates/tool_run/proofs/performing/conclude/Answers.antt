@@ -1,5 +1,6 @@
 use Rattle.std.proofs.Common.{◌≡◌, ◌++◌, ◌∙◌, ℕ, List, codes, ap, subst, sym, refl, inl, inr, arith}
 use Rattle.std.proofs.lemmas.List.{append-nil}
+use Rattle.tool_run.specs.Counts.{counts}
 use Rattle.tool_run.specs.Lines.{line_of, phrase_text, write_failed}
 use Rattle.tool_run.specs.Needs.{text_of}
 use Rattle.tool_run.specs.Effects.{Writes}
@@ -25,7 +26,7 @@ returns-in-Err-Failed g c =
       silent = λ zero_is. absurd (omega arith);
       refused = λ refusal. absurd (grind arith);
       part = λ four_is. rw c.in-Ok.is
-          (delivery_says F.contents F.store_faults O.held O.faults c.args.files.now new.files c.args.output.now new.output (λ text. text ≡ write_failed (text_of at)) writes
+          (delivery_says F.contents (counts F.store_faults F.stores) O.held O.faults c.args.files.now new.files c.args.output.now new.output (λ text. text ≡ write_failed (text_of at)) writes
           (text_of c.args.beside) (g.P.Product.beside c.in-Ok.product) (text_of c.args.job.now.target) (g.P.Product.bytes c.in-Ok.product)
           (λ text is. subst writes (sym is) line) (e.failed at failed));
       memory = λ five_is. absurd (omega arith);

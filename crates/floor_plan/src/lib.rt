@@ -13,5 +13,7 @@ mod plans;
 mod plls;
 mod tiles;
 
-pub use law::{marks_are_counted, links_are_counted, parts_stand_once, tiles_are_those_of_the_device};
+pub use law::{
+    links_are_counted, marks_are_counted, parts_stand_once, tiles_are_those_of_the_device,
+};
 pub use plans::floor_plan;

@@ -40,7 +40,7 @@ right half of the top and bottom row, and contents of RAMs in the top half. For
 chips give layouts/silicon.layout, which the installed icepack does by
 itself.
 
-Example: icepack blink.asc blink.bin
+Example: icepack --layout silicon.layout blink.asc blink.bin
 
 Limits: a text has at most 16777216 bytes, a bitstream 4194304, FILE 65536.
 

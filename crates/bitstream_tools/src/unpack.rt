@@ -35,7 +35,7 @@ right half of the top and bottom row, and contents of RAMs in the top half. For
 chips give layouts/silicon.layout, which the installed iceunpack does by
 itself.
 
-Example: iceunpack blink.bin blink.asc
+Example: iceunpack --layout silicon.layout blink.bin blink.asc
 
 Limits: a bitstream has at most 4194304 bytes, FILE 65536.
 

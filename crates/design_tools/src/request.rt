@@ -99,7 +99,7 @@ that is one or more printable characters without spaces, that the module doesn't
 declare and that no other wire has. A bitstream has no such lines, so its list
 is empty.
 
-Examples: icebox_vlog -n blink chipdb-1k.txt blink.asc >blink.v
+Examples: icebox_vlog --used-inputs -n blink chipdb-1k.txt blink.asc >blink.v
           icebox_vlog --names blink.names chipdb-1k.txt blink.asc >blink.v
 
 Limits: a database has at most 268435456 bytes, an image 16777216, a layout file

@@ -57,7 +57,7 @@ only A has, and + before one that only B has, icebox_diff writes:
 
 Comments and names of nets aren't compared.
 
-Example: icebox_diff chipdb-1k.txt blink.asc blink.bin
+Example: icebox_diff --layout silicon.layout chipdb-1k.txt blink.asc blink.bin
 
 Limits: a database has at most 268435456 bytes, an image 16777216, FILE 65536.
 

@@ -65,7 +65,11 @@ Tools:
 With --explain the program tells what the cause in a message means, with an
 example and what to do about it; without CAUSE it lists all causes.
 
-Examples: icestorm icepack blink.asc blink.bin
+./icestorm is the program alone, with what its arguments name and no more. The
+installed icestorm TOOL is the installed TOOL: it has the layout of chips, the
+chip database and some options by itself.
+
+Examples: icestorm icepack --layout silicon.layout blink.asc blink.bin
           icestorm --explain TwoDrivers
 
 Exit status: 0 done; 1 the input is refused; 2 the command line isn't taken;

@@ -4,9 +4,12 @@
 Usage: check/installed.py [-q]     -q leaves out what runs the program over the chip databases of real devices
 
 - Each installed script runs the program with the arguments that it should, and hands on standard input as it came: the layout of real
-  chips, the chip database of the image's device, the options that are always passed. Here a script stands in the place of the program, which
-  tells what it gets. This is done in each shell of SHELLS that is there.
+  chips, the chip database of the image's device, the options that are always passed. So does `icestorm` with the tool's name. Here a script
+  stands in the place of the program, which tells what it gets. This is done in each shell of SHELLS that is there.
 - Where there is no database, or the input can't be copied, a script says so and ends with exit status 3. No temporary file is left.
+- Images come from pipes, two as well. At a terminal, and nowhere else, a line after a refusal names its cause.
+- The examples of helps make and read files as chips have them. What an installed tool always has is said once in its help.
+- The tools are installed over older ones.
 - Each tool has a manual page, which groff shows without a warning, and which has each option of the help.
 - bash completes the tools' names and options, and the causes behind `icestorm --explain`.
 - The stock tools' calls work over an HX1K and an HX8K, and `make` over stock.mk, a Makefile as those of IceStorm's examples.
@@ -20,6 +23,8 @@ aren't taken; 127: there is no program.
 import os
 import pathlib
 import pty
+import re
+import shlex
 import shutil
 import subprocess
 import sys
@@ -40,6 +45,9 @@ esac
 printf '%%s\\n' "$@"
 exec cat
 """
+# the options that an installed tool always has, as its help names them
+ALWAYS = {"icebram": "--by-mode", "icebox_stat": "--all-pins", "icebox_plan": "--all-pins",
+          "icebox_vlog": "--used-inputs, --all-pins and --register-clocks"}
 TEXT_1K = text_of(TILES).encode()
 TEXT_8K = b".comment of a router\nwith words\n.device 8k\r\n.sym 5 .device 1k\n"
 BEHIND_PIPE = TEXT_1K + b"x" * 200000 + b"\0\xff"
@@ -84,20 +92,20 @@ class Installed(Tries):
         return {"PATH": "%s:%s" % (prefix / "bin", os.environ["PATH"]), "TMPDIR": str(self.copies), "LC_ALL": "C.UTF-8", **variables}
 
     def run_script(self, prefix, words, source=b"", variables=None, shell=(), **more):
-        """Runs an installed script."""
+        """Runs an installed script. Its standard error may be taken elsewhere."""
         given = {"input": source, **more} if "stdin" not in more and "preexec_fn" not in more else more
-        return subprocess.run([*shell, prefix / "bin" / words[0], *words[1:]], capture_output=True, cwd=self.work,
-                              env=self.environment(prefix, variables or {}), **given)
+        given = {"stdout": subprocess.PIPE, "stderr": subprocess.PIPE, **given}
+        return subprocess.run([*shell, prefix / "bin" / words[0], *words[1:]], cwd=self.work, env=self.environment(prefix, variables or {}), **given)
 
     def gets(self, prefix, words, wanted, source=b"", variables=None, **more):
-        """Looks that the program gets these arguments, and standard input as it came."""
+        """Looks that the program gets these arguments, and standard input as it came, by the tool's script and by icestorm."""
         output = "".join(word + "\n" for word in [words[0]] + wanted).encode() + source
         variables = {"ICEBOX_CHIPDB": str(self.databases)} if variables is None else variables
-        for shell in self.shells:
-            run = self.run_script(prefix, words, source, variables, shell, **more)
+        for shell, called in [(shell, words) for shell in self.shells] + [(self.shells[0], ["icestorm", *words])]:
+            run = self.run_script(prefix, called, source, variables, shell, **more)
             fault = "" if (run.returncode, run.stdout, run.stderr) == (0, output, b"") else (
                 "status %d, it gets: %s, it says: %s" % (run.returncode, first_lines(run.stdout), first_lines(run.stderr)))
-            self.tell("%s: %s" % (" ".join(shell), " ".join(words)), fault, fault)
+            self.tell("%s: %s" % (" ".join(shell), " ".join(called)), fault, fault)
 
     def stops(self, prefix, words, said, source=b"", variables=None, **more):
         """Looks that a script ends with exit status 3 and a last line with these words, and that nothing was written."""
@@ -118,6 +126,11 @@ def make_images(tries):
         run = subprocess.run([tries.program, "icepack", name + ".asc", name + ".bin"], cwd=tries.work, capture_output=True)
         if run.returncode != 0:
             sys.exit("check/installed.py: no bitstream of %s.asc: %s" % (name, first_lines(run.stderr)))
+    (tries.work / "wrong.asc").write_bytes(b".device 2k\n")
+    (tries.work / "pins.asc").write_text(text_of(TILES[:2]))
+    run = subprocess.run([tries.program, "icebox_vlog", tries.databases / "chipdb-1k.txt", "a.asc"], cwd=tries.work, capture_output=True)
+    (tries.work / "a.v").write_bytes(run.stdout)
+    (tries.work / "c: d.events").write_bytes(b"x 1\n")
 
 
 def layout_of(prefix):
@@ -150,7 +163,32 @@ def try_arguments(tries):
     gets(["icebram", "--by-mode", "from", "to"], ["--by-mode", "from", "to"])
     gets(["icebram", "--", "--by-mode", "to"], ["--by-mode", "--", "--by-mode", "to"])
     gets(["icemulti", "-p0", "a.bin", "b b.bin"], ["-p0", "a.bin", "b b.bin"])
+    gets(["icesplit", "-x", "1", "a.boot"], ["-x", "1", "a.boot"])
     gets(["vlogrun", "-s", ""], ["-s", ""], source=b"clk 1\n")
+
+    # the word for the standard layout, which is no option of the program
+    gets(["icepack", "--layout", "standard", "a.asc"], ["a.asc"])
+    gets(["iceunpack", "a.bin", "--layout=standard"], ["a.bin"])
+    gets(["icebox_diff", "--layout", "standard", "a.asc", "b.asc"], [small, "a.asc", "b.asc"])
+    gets(["icebox_stat", "--layout=standard"], ["--all-pins", small], source=TEXT_1K)
+    gets(["icepack", "--layout", "./standard", "a.asc"], ["--layout", "./standard", "a.asc"])
+    gets(["icepack", "--layout", "x", "--layout", "standard"], ["--layout", "x", "--layout", "standard"])
+    gets(["icepack", "--layout", "standard", "--layout", "x"], ["--layout", "standard", "--layout", "x"])
+    gets(["icepack", "--layout=standard", "--layout=standard"], ["--layout", "standard", "--layout=standard"])
+    gets(["icepack", "--layout"], ["--layout"])
+    gets(["icepack", "--", "--layout=standard"], layout + ["--", "--layout=standard"])
+    gets(["icebox_vlog", "-n", "--layout=standard", "a.asc"], vlog + [small, "-n", "--layout=standard", "a.asc"])
+    gets(["icemulti", "--layout=standard"], ["--layout=standard"])
+
+    # -v of the stock tools
+    gets(["icepack", "-v", "a.asc"], layout + ["a.asc"])
+    gets(["iceunpack", "-vv", "a.bin", "-v"], layout + ["a.bin"])
+    gets(["icemulti", "-o", "-v", "-v", "a.bin"], ["-o", "-v", "a.bin"])
+    gets(["icemulti", "-v", "-p0", "--", "-v"], ["-p0", "--", "-v"])
+    gets(["icebram", "-v", "-g", "16", "256"], ["--by-mode", "-g", "16", "256"])
+    gets(["icebram", "-g", "-s", "-v", "16", "256"], ["--by-mode", "-g", "-s", "-v", "16", "256"])
+    gets(["icebox_vlog", "-v", "a.asc"], vlog + [small, "-v", "a.asc"])
+    gets(["vlogrun", "-v"], ["-v"])
 
     # one image, of each device and kind
     gets(["icebox_explain", "a.asc"], layout + [small, "a.asc"])
@@ -169,6 +207,9 @@ def try_arguments(tries):
     gets(["icebox_diff", "-q", "with a space.asc", "a.asc"], layout + [large, "-q", "with a space.asc", "a.asc"])
     gets(["icebox_diff", "/dev/null", "b.asc", "-q"], layout + [large, "/dev/null", "b.asc", "-q"])
     gets(["icebox_diff", "missing.asc", "b.asc"], layout + [large, "missing.asc", "b.asc"])
+    gets(["icebox_diff", "missing.asc", "missing.bin"], layout + [small, "missing.asc", "missing.bin"])
+    gets(["icebox_diff", "/dev/stdin", "a.asc"], layout + [small, "/dev/stdin", "a.asc"], source=TEXT_8K)
+    gets(["icebox_diff", "/dev/stdin", "missing.asc"], layout + [large, "/dev/stdin", "missing.asc"], source=TEXT_8K)
     gets(["icebox_diff", "--", "-n", "a.asc"], layout + [large, "--", "-n", "a.asc"])
     gets(["icebox_diff", "a.asc"], layout + ["a.asc"], source=TEXT_1K)
     gets(["icebox_diff"], layout, source=TEXT_1K)
@@ -214,7 +255,7 @@ def try_arguments(tries):
     gets(["icebox_stat", "/"], stat + ["/"])
     gets(["icebox_vlog", "--version"], ["--version"])
     try_places(tries, prefix)
-    try_pipe(tries, prefix)
+    try_pipes(tries, prefix)
     try_terminal(tries, prefix)
 
 
@@ -235,27 +276,151 @@ def try_places(tries, prefix):
     tries.tell("no temporary file is left", ", ".join(path.name for path in tries.copies.iterdir()))
 
 
-def try_pipe(tries, prefix):
-    """A name that is a pipe, while standard input is something else."""
+def pipe_with(content):
+    """The end to read of a pipe that this was written to."""
+    reading, writing = os.pipe()
+    os.write(writing, content)
+    os.close(writing)
+    return reading
+
+
+def try_pipes(tries, prefix):
+    """Names that are pipes, while standard input is something else or a pipe among them."""
+    large = str(tries.databases / "chipdb-8k.txt")
+
+    def gets(shell, words, wanted, contents, source):
+        """Looks at a run in which each word PIPE is the name of a pipe with the next of these contents."""
+        pipes = [pipe_with(content) for content in contents]
+        names = ["/dev/fd/%d" % pipe for pipe in pipes]
+
+        def named(words):
+            rest = iter(names)
+            return [next(rest) if word == "PIPE" else word for word in words]
+
+        run = tries.run_script(prefix, named(words), source, {"ICEBOX_CHIPDB": str(tries.databases)}, shell, pass_fds=pipes)
+        for pipe in pipes:
+            os.close(pipe)
+        lines, taken = wanted
+        # a name that a copy takes the place of isn't passed on
+        names[:] = names[len(names) - lines.count("PIPE"):]
+        output = "".join(word + "\n" for word in [words[0], *named(lines)]).encode() + taken
+        fault = "" if run.stdout == output else "it gets: " + first_lines(run.stdout + run.stderr)
+        tries.tell("%s: %s, pipes" % (" ".join(shell), " ".join(words)), fault, fault)
+
     for shell in tries.shells:
-        reading, writing = os.pipe()
-        os.write(writing, TEXT_8K)
-        os.close(writing)
-        run = tries.run_script(prefix, ["icebox_stat", "/dev/fd/%d" % reading], b"not read", {"ICEBOX_CHIPDB": str(tries.databases)}, shell,
-                               pass_fds=[reading])
-        os.close(reading)
-        words = ["icebox_stat", *stat_of(prefix), str(tries.databases / "chipdb-8k.txt")]
-        wanted = "".join(word + "\n" for word in words).encode() + TEXT_8K
-        tries.tell("%s: icebox_stat of a pipe" % " ".join(shell), "" if run.stdout == wanted else "it gets: " + first_lines(run.stdout + run.stderr))
+        gets(shell, ["icebox_stat", "PIPE"], (stat_of(prefix) + [large], TEXT_8K), [TEXT_8K], b"not read")
+        start = layout_of(prefix) + [large]
+        gets(shell, ["icebox_diff", "PIPE", "PIPE"], (start + ["/dev/stdin", "PIPE"], TEXT_8K), [TEXT_8K, TEXT_1K], b"not read")
+        gets(shell, ["icebox_diff", "PIPE", "b.asc"], (start + ["PIPE", "b.asc"], b"not read"), [TEXT_1K], b"not read")
+        gets(shell, ["icebox_diff", "-q", "PIPE", "/dev/stdin"], (start + ["-q", "PIPE", "/dev/stdin"], TEXT_8K), [TEXT_1K], TEXT_8K)
+        gets(shell, ["icebox_diff", "/dev/stdin", "PIPE"], (start + ["/dev/stdin", "PIPE"], TEXT_8K), [TEXT_1K], TEXT_8K)
+        gets(shell, ["icebox_diff", large, "PIPE", "PIPE"], (start + ["PIPE", "PIPE"], b""), [TEXT_1K, TEXT_1K], b"")
 
 
 def try_terminal(tries, prefix):
     """At a terminal a script waits for no image: the program says its usage."""
     ours, theirs = pty.openpty()
-    os.write(ours, b"\4" * len(tries.shells))
+    os.write(ours, b"\4" * (len(tries.shells) + 1))
     tries.gets(prefix, ["icebox_stat"], stat_of(prefix), stdin=theirs)
     os.close(ours)
     os.close(theirs)
+
+
+def said_at_terminal(tries, prefix, words, shell):
+    """The exit status of a run whose standard error is a terminal, what it writes, and the lines that it says."""
+    ours, theirs = pty.openpty()
+    run = tries.run_script(prefix, words, b"", {"ICEBOX_CHIPDB": str(tries.databases)}, shell, stderr=theirs)
+    os.write(theirs, b".\n") # so that there is something to read
+    said = b""
+    while not said.endswith(b".\r\n"):
+        said += os.read(ours, 4096)
+    os.close(ours)
+    os.close(theirs)
+    return run.returncode, run.stdout, said.decode().splitlines()[:-1]
+
+
+def try_refusals(tries, prefix):
+    """What is said of refusals, at a terminal and elsewhere: real runs."""
+    for words, status, lines in (
+        (["icepack", "wrong.asc"], 1, ["icepack: line 1: Device", "icestorm --explain Device tells more"]),
+        (["icestorm", "icepack", "wrong.asc"], 1, ["icepack: line 1: Device", "icestorm --explain Device tells more"]),
+        (["icesplit", "a.bin"], 1, ["icesplit: header 0: offset 4", "icestorm --explain header tells more"]),
+        (["vlogsweep", "a.v", "c: d.events"], 1, ["vlogsweep: c: d.events line 1: Pin", "icestorm --explain Pin tells more"]),
+        (["icebram", "-g", "16", "255"], 2, ["icebram: usage: icebram [--by-mode] FROM TO | icebram -g [-s SEED] WIDTH DEPTH"]),
+        (["icebox_diff", "-q", "a.asc", "pins.asc"], 1, []),
+        (["icebox_diff", "-q", "a.asc", "a.asc"], 0, []),
+        (["iceunpack", "missing.bin"], 3, ["iceunpack: read failed: missing.bin"]),
+        (["icestorm", "--explain", "loop"], 1, ["icestorm: no message has this cause: icestorm --explain lists all"]),
+    ):
+        for shell in tries.shells:
+            got = said_at_terminal(tries, prefix, words, shell)
+            fault = "" if got == (status, b"", lines) else "status %d, it says: %s" % (got[0], " / ".join(got[2]))
+            tries.tell("%s: at a terminal: %s" % (" ".join(shell), " ".join(words)), fault, fault)
+        run = tries.run_script(prefix, words, variables={"ICEBOX_CHIPDB": str(tries.databases)})
+        fault = "" if (run.returncode, run.stderr.decode().splitlines()) == (status, lines[:1]) else "it says: " + first_lines(run.stderr)
+        tries.tell("elsewhere: %s" % " ".join(words), fault)
+
+
+def help_of(command):
+    """The help that a command writes."""
+    return subprocess.run([*command, "--help"], capture_output=True, check=True).stdout.decode()
+
+
+def examples_of(text):
+    """The command lines that a help has as examples."""
+    part = re.search(r"^Examples?: +(.*(?:\n  .*)*)", text, re.M)
+    return [shlex.split(line) for line in part.group(1).splitlines()]
+
+
+def try_helps(tries, prefix):
+    """The helps: what the installed tool always has is said once, and its examples are for chips."""
+    image, layout = tries.folder / "image", TOP / "layouts/silicon.layout"
+    image.mkdir()
+    shutil.copy(TOP / "examples/player_1k/player.asc", image / "blink.asc")
+    shutil.copy(layout, image)
+    subprocess.run([tries.program, "icepack", "--layout", layout, "blink.asc", "blink.bin"], cwd=image, check=True)
+    chip = (image / "blink.bin").read_bytes()
+    text = subprocess.run([tries.program, "iceunpack", "--layout", layout, "blink.bin"], cwd=image, check=True, capture_output=True).stdout
+    for tool in TOOLS:
+        told = help_of([prefix / "bin" / tool])
+        long = [line for line in told.splitlines() if len(line) > 80]
+        tries.tell("the lines of %s --help" % tool, "longer than 80 columns: " + long[0] if long else "")
+        tries.tell("icestorm %s --help" % tool, "" if help_of([prefix / "bin/icestorm", tool]) == told else "it is another one")
+        always = re.findall(r"always has (.*?)\. ", told.replace("\n", " "))
+        wanted = ALWAYS.get(tool)
+        tries.tell("what %s always has" % tool, "" if always == ([wanted] if wanted else []) else "the help says: " + " / ".join(always))
+    for command, instead in (((tries.program,), tries.program), *(((tries.program, tool), tries.program) for tool in TOOLS),
+                             *(((prefix / "bin" / tool,), prefix / "bin/icestorm") for tool in TOOLS)):
+        for words in examples_of(help_of(command)):
+            line = " ".join(words)
+            words = words[1:] if words[0] == "icestorm" else words
+            fault = ""
+            if words[0] in ("icepack", "iceunpack"):
+                (image / "blink.bin").write_bytes(chip)
+                ended = subprocess.run([instead, *words], cwd=image, capture_output=True)
+                right = (image / "blink.bin").read_bytes() == chip and (words[0] == "icepack" or (image / "blink.asc").read_bytes() == text)
+                fault = "" if ended.returncode == 0 and right else "status %d, it isn't the file of a chip" % ended.returncode
+            elif words[0].startswith("icebox") and any(word.endswith(".bin") for word in words):
+                is_right = ("--layout" in words) == (instead == tries.program)
+                fault = "" if is_right else "it has the layout of chips twice, or not at all"
+            tries.tell("the example: " + line, fault)
+
+
+def try_older(tries, prefix):
+    """The tools put in the place of older ones, where icestorm was the program."""
+    older = tries.folder / "older"
+    (older / "bin").mkdir(parents=True)
+    shutil.copy(tries.program, older / "bin/icestorm")
+    (older / "bin/icemulti").write_text('#!/bin/sh\nexec "$(dirname "$0")/icestorm" icemulti "$@"\n')
+    for program in (older / "bin/icestorm", tries.program, older / "bin/icestorm"):
+        tries.install("older", program)
+        for words in (["icestorm", "icepack", "a.asc"], ["icestorm", "--version"], ["icemulti", "a.bin"]):
+            got, wanted = (tries.run_script(place, words) for place in (older, prefix))
+            is_same = (got.returncode, got.stdout, got.stderr) == (0, wanted.stdout, b"")
+            fault = "" if is_same else "it says: " + first_lines(got.stderr)
+            tries.tell("installed again, by %s: %s" % (pathlib.Path(program).name, " ".join(words)), fault)
+    is_whole = (older / "libexec/icestorm/icestorm").read_bytes() == pathlib.Path(tries.program).read_bytes()
+    tries.tell("the program that is installed again", "" if is_whole else "it isn't the one of before")
 
 
 def try_pages(tries, prefix):
@@ -361,6 +526,9 @@ def main(words):
         make_images(tries)
         try_arguments(tries)
         prefix = tries.install("real", tries.program)
+        try_refusals(tries, prefix)
+        try_helps(tries, prefix)
+        try_older(tries, prefix)
         try_part(tries, prefix, try_pages, "groff")
         try_part(tries, prefix, try_completions, "bash")
         if not words:

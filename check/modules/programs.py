@@ -17,7 +17,8 @@ STOCK_TOOLS = "icepack", "iceunpack", "icemulti", "icebram"
 
 @functools.cache
 def program():
-    """The path of the program that is checked. Ends the script with status 127 if there is none."""
+    """The path of the program that is checked; of an installed icestorm, which is a script, that of its program. Ends the script with status
+    127 if there is none."""
     named = os.environ.get("ICESTORM")
     if not named:
         chosen = subprocess.run([TOP / "dist/choose"], stdout=subprocess.PIPE, text=True)
@@ -26,7 +27,9 @@ def program():
         what = " " + named if named else " of these sources; ./build proves and builds it"
         print("%s: there is no program%s" % (sys.argv[0], what), file=sys.stderr)
         sys.exit(127)
-    return pathlib.Path(named).resolve()
+    path = pathlib.Path(named).resolve()
+    installed = path.parent.parent / "libexec/icestorm/icestorm"
+    return installed if installed.exists() else path
 
 
 def stock(name):

@@ -1,6 +1,6 @@
 #!/usr/bin/env bash
 # Runs the program over files and streams that aren't plain files: named pipes, full devices, folders, files of exactly a limit and of one
-# byte more, a file that is its own target. It looks at statuses, lines and what was written.
+# byte more, a file that is its own target, long names, a database past 128 MiB. It looks at statuses, lines and what was written.
 #
 # Usage: check/streams.sh
 #
@@ -57,6 +57,22 @@ cat pipe >got & expect 0 "" icepack in.asc pipe; wait; same "to a named pipe" go
 : >pipe & expect 1 "iceunpack: offset 0: NoPreamble" iceunpack pipe; wait
 expect 1 "iceunpack: offset 0: NoPreamble" iceunpack empty
 expect 1 "iceunpack: offset 0: NoPreamble" iceunpack </dev/null
+
+# names of more than 300 bytes, of a file, a named pipe and a target, and of as many bytes as the system opens, and one more
+deep=$(printf 'd%.0s' {1..200})/$(printf 'e%.0s' {1..100})
+mkdir -p "$deep"
+cp in.asc "$deep/in.asc"
+mkfifo "$deep/pipe"
+expect 0 "" icepack "$deep/in.asc"; same "from a long name" out
+slowly in.asc >"$deep/pipe" & expect 0 "" icepack "$deep/pipe"; wait; same "from a named pipe with a long name" out
+expect 0 "" icepack in.asc "$deep/out"; same "to a long name" "$deep/out"
+front=$(printf './%.0s' {1..2044})
+expect 0 "" icepack "$front/in.asc"; same "from a name of 4,095 bytes" out
+expect 3 "icepack: read failed: $front//in.asc" icepack "$front//in.asc"
+
+# a database that goes on past 128 MiB, through a named pipe
+{ head -c 140000000 /dev/zero | tr '\0' '\n'; echo .device 1k; } >"$deep/pipe" &
+expect 1 "icebox_stat: database line 140000001: Device" icebox_stat "$deep/pipe" want.bin; wait
 
 # what can't be read or written
 expect 3 "icepack: read failed: missing" icepack missing

@@ -1,8 +1,8 @@
 // From the program's arguments to a status.
-ghost use Rattle.std.specs.Prelude.{◌≡◌, ◌≢◌, IfErr, IfOk, map, string_bytes};
+ghost use Rattle.std.specs.Prelude.{◌≡◌, ◌≢◌, IfErr, IfOk, drop, map, string_bytes};
 ghost use Rattle.std.specs.IoError.{error_kind};
 ghost use Rattle.std.specs.Vec.Iter.{into_iter_items};
-ghost use Rattle.icestorm_cli.specs.Starts.{DoesArgs, Starts};
+ghost use Rattle.icestorm_cli.specs.Starts.{Keeps, Starts};
 
 use crate::running::run;
 use std::alloc::{AllocError, Global};
@@ -40,7 +40,7 @@ fn listed(alloc: Global, args: Args) -> Result<Vec<String>, AllocError>
 
 /// Does what the arguments after the first one ask for.
 fn run_args<H: Host>(alloc: Global, args: &[String], host: &mut H) -> u8
-    ensures { DoesArgs H.outside (map string_bytes args.now) result (H.scene host.old) (H.scene host.new) }
+    ensures { Keeps H.outside (drop 1 (map string_bytes args.now)) result (H.scene host.old) (H.scene host.new) }
 {
     match args {
         [] => run(alloc, args, host),

@@ -89,7 +89,8 @@ pub record WritesFabric (options : FabricOptions) (package_name : Option (List �
   pub faultless : HasNoPinFault package_name texts
   pub spells : SpellsFabric (names_given package_name texts (fabric_meant options db image).pins) (fabric_meant options db image) bytes
 
--- These bytes are the module, and a list of names for its wires, which was made with it, has no fault. So `vlogrun` takes both together.
+-- These bytes are the module, and a list of names for its wires, which was made with it, has no fault. So `vlogrun` takes both together, if
+-- each is within its limit.
 abbrev pub NamesWires : List ℕ → List ℕ → Type 0
 NamesWires bytes list = (m : Parts) → IsSpelling bytes m → names_fault_of m list ≡ None
 

@@ -67,7 +67,8 @@ fn own_answer(args: &[String]) -> AtOnce
 /// Does what the arguments ask for, the first of which is the tool, and answers the exit status: 0 if all was done, 1 if the tool
 /// refuses what it was given, 2 if the command line isn't taken, 3 if reading failed, 4 if writing failed, 5 if memory is out, and 6
 /// if an input has more bytes than its limit. The first of these decides, in this order: the arguments; what is loaded, that is, a layout
-/// file, then the others in the order of the arguments, standard input last; the tool; the target.
+/// file, then a pin file, then the others in the order of the arguments, but the list of names of `vlogrun` after its module, and standard
+/// input last; the tool; the file for a list of names; the target.
 pub fn run<H: Host>(alloc: Global, args: &[String], host: &mut H) -> u8
     ensures does { (task : Task) → IsOutcome (map string_bytes args.now) task
         → Does H.outside task result (H.scene host.old) (H.scene host.new) }

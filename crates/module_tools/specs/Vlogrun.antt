@@ -39,7 +39,7 @@ events_limit = 1048576
 
 -- the most bytes that a list of names may have
 abbrev pub names_limit : ℕ
-names_limit = 4194304
+names_limit = 16777216
 
 -- the text of a module's run over events: its lines that are shown, or its waves with these names of wires, a value change dump (IEEE Std
 -- 1364-2005, clause 18). Lines and waves that may have more bytes than 64 bits count are refused.

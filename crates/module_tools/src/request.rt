@@ -72,7 +72,7 @@ Examples: vlogrun counter.v counter.events
           vlogrun --vcd --names counter.names counter.v counter.events
           vlogrun --long --changes --head counter.v counter.long
 
-Limits: a module has at most 67108864 bytes, a list of names 4194304, a list of
+Limits: a module has at most 67108864 bytes, a list of names 16777216, a list of
 events 1048576.
 
 Exit status: 0 done; 1 the module is refused, with the offset of its first

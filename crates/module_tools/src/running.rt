@@ -31,7 +31,7 @@ pub(crate) const MODULE_LIMIT: usize = 67_108_864;
 const EVENTS_LIMIT: usize = 1_048_576;
 
 /// The most bytes that a list of names may have.
-const NAMES_LIMIT: usize = 4_194_304;
+const NAMES_LIMIT: usize = 16_777_216;
 
 /// Loads a module and a list of events, runs the module over the events, and tells the lines of the run.
 #[derive(Clone, Copy, Debug, PartialEq, Eq)]

@@ -1,8 +1,25 @@
-use Rattle.std.proofs.Common.{◌∙◌, ℕ, List, ◌++◌, ap, arith, sym}
+use Rattle.std.proofs.Common.{◌∙◌, ℕ, List, ◌++◌, ap, arith, length, sym}
 use Rattle.vlog_semantics.specs.Run.{start}
 use Rattle.long_runs.specs.inside.Printing.{start_text}
 use Rattle.long_runs.proofs.Kept.{start-names}
 use Rattle.long_runs.proofs.printer.Printer.new.Goals as goal
+
+pub put_start-requires : goal.put_start-requires
+put_start-requires c =
+    let m = c.args.module.now in
+    let shows = c.in_ok-runner.ensures in
+    record {
+      m = m;
+      entry = start m;
+      shows = shows;
+      fits = omega (
+        arith,
+        c.in_ok-line_room.ensures m (start m) shows,
+        c.in_ok-text.ensures.room,
+        ap (λ (items : List ℕ). length items) c.in_ok-text.ensures.empty,
+        c.in_ok-text.text.ok.0,
+      );
+    }
 
 pub returns-clause-prints : goal.returns-clause-prints
 returns-clause-prints c =

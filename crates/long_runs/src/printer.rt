@@ -146,6 +146,7 @@ fn empty_piece(alloc: Global, line_room: usize) -> Result<Vec<u8>, AllocError>
 }
 
 impl Printer {
+    ghost use Rattle.std.specs.Prelude.{true};
     ghost use Rattle.long_runs.specs.inside.Printing.{IsPrinting, Makes, Prints, StaysFormed, event_text, start_text};
 
     /// The run of a module at its start, over so many events. The piece is what is shown of the start.
@@ -181,6 +182,7 @@ impl Printer {
         requires inputs { All (λ event. event.pin < input_count self.old.runner) (events_left events.old) }
         requires counted { length (events_left events.old) ≤ self.old.count }
         ensures makes { (m : Parts) (entry : Entry) → Prints self.old m entry → Makes self.old self.new m entry (events_left events.old) (events_left events.new) result }
+        ensures full { result ≡ true → 65536 ≤ vec_len self.new.text }
         ensures inputs { All (λ event. event.pin < input_count self.new.runner) (events_left events.new) }
         ensures counted { length (events_left events.new) ≤ self.new.count }
         ensures formed { StaysFormed self.old self.new }

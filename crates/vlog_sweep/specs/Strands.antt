@@ -1,5 +1,5 @@
 -- Lists of events that are being run, each in its lane (strands), and the text with room for each of their lines.
-use Rattle.std.specs.Prelude.{◌≡◌, ℕ, ◌+◌, ◌-◌, ◌<◌, ◌≤◌, Bool, false, true, ◌==◌, List, [], ◌∷◌, ◌++◌, Option, None, Some, drop, flat_map, fold, get_or, if◌then◌else◌, length, map, slice_get, take}
+use Rattle.std.specs.Prelude.{◌≡◌, ℕ, ◌+◌, ◌-◌, ◌*◌, ◌<◌, ◌≤◌, Bool, false, true, ◌==◌, List, [], ◌∷◌, ◌++◌, Option, None, Some, drop, flat_map, fold, get_or, if◌then◌else◌, length, map, slice_get, take}
 use Rattle.vlog_module.specs.Parts.{Parts}
 use Rattle.vlog_semantics.specs.declared.event.Event.{Event}
 use Rattle.vlog_semantics.specs.Entries.{Entry}
@@ -93,3 +93,7 @@ pub record Stands (m : Parts) (line : List ℕ) (strands : List Strand) (text : 
 -- the text of a list before the first event: the line of the start in place of each of its lines
 abbrev pub begun_text : List ℕ → EventList → List ℕ
 begun_text line list = list.heading.items ++ (line ++ flat_map (λ event. line) list.events.items)
+
+-- how many bytes it has, if each line has `width` bytes
+abbrev pub list_size : ℕ → EventList → ℕ
+list_size width list = length list.heading.items + (width + length list.events.items * width)

@@ -1,10 +1,10 @@
 // The lists in their lanes, and their text, before the first event. In the text each list has its heading, and the line of the start in place
 // of each of its lines.
-ghost use Rattle.std.specs.Prelude.{◌≡◌, ◌+◌, ◌++◌, [], All, IfOk, OnOk, false, flat_map, length, map};
+ghost use Rattle.std.specs.Prelude.{◌≡◌, ◌+◌, ◌++◌, ◌^◌, ◌≤◌, [], All, IfNone, IfOk, IfSome, OnOk, false, flat_map, length, map, sum_by, vec_capacity};
 ghost use Rattle.vlog_run.specs.Text.{entry_line};
 ghost use Rattle.vlog_module.specs.Parts.{Parts};
 ghost use Rattle.vlog_semantics.specs.Run.{start};
-ghost use Rattle.vlog_sweep.specs.Strands.{Stands, begun_text};
+ghost use Rattle.vlog_sweep.specs.Strands.{Stands, begun_text, list_size};
 
 use crate::list::EventList;
 use crate::strand::{Strand, first_strand};
@@ -12,13 +12,20 @@ use std::alloc::{AllocError, Global};
 use vlog_semantics::Event;
 
 /// How many bytes the part of a list has, if each line has `width` bytes. None if the number doesn't fit.
-fn list_size(list: &EventList, width: usize) -> Option<usize> {
-    let lines = list.events.len().checked_add(1)?;
-    lines.checked_mul(width)?.checked_add(list.heading.len())
+fn list_size(list: &EventList, width: usize) -> Option<usize>
+    ensures some { IfSome result (λ size. size ≡ list_size width list.now) }
+    ensures none { IfNone result (2 ^ 64 ≤ list_size width list.now) }
+{
+    let later_lines = list.events.len().checked_mul(width)?;
+    let lines = later_lines.checked_add(width)?;
+    lines.checked_add(list.heading.len())
 }
 
 /// How many bytes the parts of all lists have. None if the number doesn't fit.
-fn whole_size(lists: &[EventList], width: usize) -> Option<usize> {
+fn whole_size(lists: &[EventList], width: usize) -> Option<usize>
+    ensures some { IfSome result (λ size. size ≡ sum_by (list_size width) lists.now) }
+    ensures none { IfNone result (2 ^ 64 ≤ sum_by (list_size width) lists.now) }
+{
     let mut size: usize = 0;
     for list in lists {
         size = size.checked_add(list_size(list, width)?)?;
@@ -28,7 +35,8 @@ fn whole_size(lists: &[EventList], width: usize) -> Option<usize> {
 
 /// An empty text, with room for the parts of all lists.
 fn room_for(alloc: Global, lists: &[EventList], width: usize) -> Result<Vec<u8>, AllocError>
-    ensures { IfOk result (λ text. text.items ≡ []) }
+    ensures empty { IfOk result (λ text. text.items ≡ []) }
+    ensures room { IfOk result (λ text. sum_by (list_size width) lists.now ≤ vec_capacity text) }
 {
     match whole_size(lists, width) {
         Some(size) => Vec::with_capacity(alloc, size),

@@ -10,7 +10,8 @@ Usage: check/examples.py [TEXT...]     without names: the examples; else the las
 - icebram puts the steps of steps.hex in place of those of random.hex into player.asc. Each line but those of RAMs stays.
 - Four of the examples become boot files, with several options, and icesplit takes the images out again.
 - icepack, iceunpack, icebram and icemulti write what the stock tools write, byte for byte. Of the stock iceunpack the tiles, contents of RAMs
-  and extra bits count: its text has other comments.
+  and extra bits count: its text has other comments. Boot files are those of four images; with --as-stock also those of fewer images, and of
+  images that are named again.
 
 What needs the chip databases of Debian's package fpga-icestorm-chipdb, or the stock tools of fpga-icestorm, is skipped if these aren't there.
 
@@ -30,7 +31,8 @@ from modules.tries import Tally
 EXAMPLES = TOP / "examples"
 PLAYER = EXAMPLES / "player_1k"
 LOOPS = {"blink": "icebox_vlog: net 23567: Loop\n", "lights": "icebox_vlog: net 32759: Loop\n"}
-BOOT_OPTIONS = "", "-p0", "-p3", "-c", "-a16", "-A16", "-p2 -A 12", "-c -a 20"
+BOOT_OPTIONS = "", "-p0", "-p1", "-p3", "-c", "-a16", "-A16", "-p2 -A 12", "-c -a 20"
+BOOT_LISTS = (0,), (0, 1), (0, 1, 2), (0, 1, 2, 3), (0, 0), (0, 1, 0), (0, 0, 1), (0, 1, 1, 2), (3, 1, 2, 3), (0, 0, 0, 0)
 
 
 def output_of(words, source=None):
@@ -129,6 +131,18 @@ def try_stock_boot_files(tally, folder):
     for options in BOOT_OPTIONS:
         subprocess.run([stock("icemulti"), *options.split(), "-o", folder / "stock.boot", *images], check=True)
         tell_same(tally, "the stock icemulti %s writes the same" % options, (folder / "stock.boot").read_bytes(), folder / ("%s.boot" % options))
+    for numbers in BOOT_LISTS:
+        for options in BOOT_OPTIONS:
+            if image_at_power_on(options) < len(numbers):
+                words = [*options.split(), *(images[number] for number in numbers)]
+                subprocess.run([stock("icemulti"), "-o", folder / "stock.boot", *words], check=True)
+                what = "icemulti --as-stock %s of images %s" % (options, " ".join(map(str, numbers)))
+                tell_same(tally, what, output_of(["icemulti", "--as-stock", *words]), folder / "stock.boot")
+
+
+def image_at_power_on(options):
+    """The image that options of icemulti choose for power-on."""
+    return next((int(word[2:]) for word in options.split() if word.startswith("-p")), 0)
 
 
 # ---- bitstreams

@@ -6,3 +6,9 @@ mod FirstText
 mod Packed
 -- A stop that tells the fault of a boot file
 mod SplitStops
+-- The names of the images that are stored, each once
+mod StoredNames
+-- The headers of `icemulti --as-stock` boot the stored images in their order
+mod StoredOrder
+-- The definitions of stored images, worked out by hand
+mod WorkedStored

@@ -1,15 +1,14 @@
 -- Laws of the command lines of the tools: each command is simple, as `clap`'s statement needs it, and each task has the name of its tool.
-use Rattle.std.specs.Prelude.{◌≡◌, ℕ, Bool, true, false, ◌&&◌, if◌then◌else◌, List, codes, length, map, refl, Option, None, Some}
+use Rattle.std.specs.Prelude.{◌≡◌, ℕ, Bool, true, false, ◌&&◌, if◌then◌else◌, List, codes, length, refl, Option, None, Some}
 use Rattle.clap.specs.Words.{Row, Text, first_of, is_simple_and_free}
 use Rattle.clap.proofs.OnLiterals.{clap_on_literals}
 use Rattle.boot_file.specs.declared.options.Options.{Options}
 use Rattle.boot_file.specs.declared.multi_fault.MultiFault.{MultiFault}
 use Rattle.boot_file.specs.Refusals.{check_fault}
 use Rattle.random_words.specs.Draws.{is_depth, is_width}
-use Rattle.tool_run.specs.Needs.{Need}
 use Rattle.tool_inputs.specs.Commands.{has_flag, values_of}
 use Rattle.bitstream_tools.specs.Bram.{generate_task, generate_task_of, icebram_command, icebram_name, icebram_task_by, icebram_task_of, not_taken, number_in, replace_task_of, seed_given}
-use Rattle.bitstream_tools.specs.Multi.{icemulti_command, icemulti_name, icemulti_task_by, icemulti_task_of, image_need, join_task, options_in}
+use Rattle.bitstream_tools.specs.Multi.{icemulti_command, icemulti_name, icemulti_task_by, icemulti_task_of, join_task, options_in}
 use Rattle.bitstream_tools.specs.Pack.{icepack_command, icepack_name, icepack_task_by, icepack_task_of}
 use Rattle.bitstream_tools.specs.Unpack.{iceunpack_command, iceunpack_name, iceunpack_task_by}
 
@@ -43,16 +42,19 @@ pub icemulti-simple : is_simple_and_free icemulti_command ≡ true
 unfolding clap_on_literals
 icemulti-simple = refl
 
-checked-speaks : (images : List Need) (options : Options) (output : Option Text) (fault : Option MultiFault) → (join_task images options output fault).tool_name ≡ icemulti_name
-checked-speaks images options output None = refl
-checked-speaks images options output (Some fault) = refl
+checked-speaks : (as_stock : Bool) (names : List Text) (options : Options) (output : Option Text) (fault : Option MultiFault)
+    → (join_task as_stock names options output fault).tool_name ≡ icemulti_name
+checked-speaks as_stock names options output None = refl
+checked-speaks as_stock names options output (Some fault) = refl
 
-multi-speaks : (images : List Need) (output : Option Text) (options : Option Options) → (icemulti_task_of images output options).tool_name ≡ icemulti_name
-multi-speaks images output None = refl
-multi-speaks images output (Some options) = checked-speaks images options output (check_fault (length images) options)
+-- each task of `icemulti` has its name
+pub multi-speaks : (as_stock : Bool) (names : List Text) (output : Option Text) (options : Option Options)
+    → (icemulti_task_of as_stock names output options).tool_name ≡ icemulti_name
+multi-speaks as_stock names output None = refl
+multi-speaks as_stock names output (Some options) = checked-speaks as_stock names options output (check_fault (length names) options)
 
 pub icemulti-speaks : (rows : List Row) → (icemulti_task_by rows).tool_name ≡ icemulti_name
-icemulti-speaks rows = multi-speaks (map image_need (values_of (codes "image") rows)) (first_of (codes "output") rows) (options_in rows)
+icemulti-speaks rows = multi-speaks (has_flag (codes "as-stock") rows) (values_of (codes "image") rows) (first_of (codes "output") rows) (options_in rows)
 
 -- ---- icebram
 

@@ -7,4 +7,5 @@ pub mod Reading
 pub mod Split
 pub mod SplitFaults
 pub mod SplitLaws
+pub mod Stored
 pub mod Unpack

@@ -6,24 +6,25 @@ use Rattle.boot_file.specs.declared.options.Options.{Options}
 use Rattle.boot_file.specs.declared.multi_fault.MultiFault.{MultiFault}
 use Rattle.boot_file.specs.BootFile.{boot_file}
 use Rattle.boot_file.specs.Refusals.{check_fault, join_fault}
-use Rattle.tool_run.specs.Needs.{IsSound, Need, need_of, text_of}
+use Rattle.tool_run.specs.Needs.{Need, text_of}
 use Rattle.tool_run.specs.Tasks.{Answer, Done, Refused, Task, at_once, plain_task, usage_error}
 use Rattle.tool_inputs.specs.Outcomes.{Manual, outcome}
-use Rattle.tool_inputs.specs.Commands.{command, flag, has_flag, several, short_option, values_of}
+use Rattle.tool_inputs.specs.Commands.{command, flag, has_flag, long_flag, several, short_option, values_of}
 use Rattle.bitstream_tools.specs.declared.multi.MultiRequest.{MultiRequest}
 use Rattle.bitstream_tools.specs.declared.multi.TheConstants.{ICEMULTI_HELP}
 use Rattle.bitstream_tools.specs.Faults.{multi_fault_text}
 use Rattle.bitstream_tools.specs.Pack.{text_limit}
+use Rattle.bitstream_tools.specs.Stored.{names_stored, options_for}
 
 abbrev pub icemulti_name : List ℕ
 icemulti_name = codes "icemulti"
 
 abbrev pub icemulti_usage : List ℕ
-icemulti_usage = codes "icemulti [-c] [-p N] [-a N] [-A N] [-o OUTPUT] [IMAGE ...]"
+icemulti_usage = codes "icemulti [--as-stock] [-c] [-p N] [-a N] [-A N] [-o OUTPUT] [IMAGE ...]"
 
 abbrev pub icemulti_command : App
 icemulti_command = command icemulti_name (
-    flag (codes "cold") 99 ∷ short_option (codes "power_on") 112 ∷ short_option (codes "align") 97 ∷ short_option (codes "align_all") 65
+    long_flag (codes "as-stock") ∷ flag (codes "cold") 99 ∷ short_option (codes "power_on") 112 ∷ short_option (codes "align") 97 ∷ short_option (codes "align_all") 65
     ∷ short_option (codes "output") 111 ∷ several (codes "image") ∷ []
     )
 
@@ -47,11 +48,15 @@ aligned_by options (Some (Some m)) (Some (Some n)) = None
 aligned_by options None all = None
 aligned_by options (Some align) None = None
 
+-- the options without alignment: each image has its own header, in their order
+abbrev pub unaligned : Bool → ℕ → Options
+unaligned cold power_on = record { cold = cold; power_on = power_on; entries = 0 ∷ 1 ∷ 2 ∷ 3 ∷ []; align = None; align_first = false }
+
 -- `-p` chooses the image at power-on; with `-c` the pins choose it, and `-p` may only be 0
 abbrev pub powered_by : Bool → Option (Option ℕ) → Option Options
 powered_by cold None = None
-powered_by cold (Some None) = Some (record { cold = cold; power_on = 0; align = None; align_first = false })
-powered_by cold (Some (Some n)) = if cold && not (n == 0) then None else Some (record { cold = cold; power_on = n; align = None; align_first = false })
+powered_by cold (Some None) = Some (unaligned cold 0)
+powered_by cold (Some (Some n)) = if cold && not (n == 0) then None else Some (unaligned cold n)
 
 abbrev pub options_by : Option Options → Option (Option ℕ) → Option (Option ℕ) → Option Options
 options_by None align all = None
@@ -74,16 +79,18 @@ abbrev pub image_need : Text → Need
 image_need name = record { name = Some name; limit = text_limit }
 
 -- if the number of images or the options alone are a fault, it is refused before anything is read
-abbrev pub join_task : List Need → Options → Option Text → Option MultiFault → Task
-join_task images options output None = plain_task icemulti_name images output (join_answer options)
-join_task images options output (Some fault) = at_once icemulti_name None (Refused (multi_fault_text fault))
+abbrev pub join_task : Bool → List Text → Options → Option Text → Option MultiFault → Task
+join_task as_stock names options output None =
+    plain_task icemulti_name (map image_need (names_stored as_stock names)) output (join_answer (options_for as_stock names options))
+join_task as_stock names options output (Some fault) = at_once icemulti_name None (Refused (multi_fault_text fault))
 
-abbrev pub icemulti_task_of : List Need → Option Text → Option Options → Task
-icemulti_task_of images output None = usage_error icemulti_name icemulti_usage
-icemulti_task_of images output (Some options) = join_task images options output (check_fault (length images) options)
+abbrev pub icemulti_task_of : Bool → List Text → Option Text → Option Options → Task
+icemulti_task_of as_stock names output None = usage_error icemulti_name icemulti_usage
+icemulti_task_of as_stock names output (Some options) = join_task as_stock names options output (check_fault (length names) options)
 
 abbrev pub icemulti_task_by : List Row → Task
-icemulti_task_by rows = icemulti_task_of (map image_need (values_of (codes "image") rows)) (first_of (codes "output") rows) (options_in rows)
+icemulti_task_by rows =
+    icemulti_task_of (has_flag (codes "as-stock") rows) (values_of (codes "image") rows) (first_of (codes "output") rows) (options_in rows)
 
 -- the tool
 abbrev pub icemulti : Manual
@@ -96,9 +103,4 @@ icemulti_outcome args = outcome icemulti args
 -- the task of the request that was found in the arguments
 abbrev pub icemulti_task_for : Option MultiRequest → Task
 icemulti_task_for None = usage_error icemulti_name icemulti_usage
-icemulti_task_for (Some request) = icemulti_task_of (map need_of request.loads.items) (text_of request.output) (Some request.options)
-
--- the images of a request are files that may be loaded
-abbrev pub LoadsFiles : Option MultiRequest → Type 0
-LoadsFiles None = Unit {0}
-LoadsFiles (Some request) = IsSound (map need_of request.loads.items)
+icemulti_task_for (Some request) = icemulti_task_of request.as_stock (map (λ name. name.now) request.names.now) (text_of request.output) (Some request.options)

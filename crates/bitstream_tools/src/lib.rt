@@ -7,6 +7,7 @@
 mod boot_lines;
 mod bram;
 mod faults;
+mod law;
 mod multi;
 mod pack;
 mod packing;
@@ -14,10 +15,12 @@ mod random;
 mod reading;
 mod split;
 mod split_faults;
+mod stored;
 mod unpack;
 mod unpacking;
 
 pub use bram::{ICEBRAM_HELP, ICEBRAM_USAGE, run_icebram};
+pub use law::stored_images_are_in_order;
 pub use multi::{ICEMULTI_HELP, ICEMULTI_USAGE, run_icemulti};
 pub use pack::{ICEPACK_HELP, ICEPACK_USAGE, run_icepack};
 pub use split::{ICESPLIT_HELP, ICESPLIT_USAGE, run_icesplit};

@@ -1,31 +1,37 @@
 // `icemulti`: joins several bitstreams to one boot file.
-ghost use Rattle.std.specs.Prelude.{◌≡◌, [], Some, map, option_map, string_bytes, unwrap_or, IfOk};
+ghost use Rattle.std.specs.Prelude.{◌≡◌, ◌<◌, ◌≤◌, None, Some, codes, length, map, string_bytes, IfOk};
 ghost use Rattle.clap.specs.Words.{app_of, found_of, rows_of};
-ghost use Rattle.tool_run.specs.Needs.{IsSound, need_of, text_of};
+ghost use Rattle.boot_file.specs.Refusals.{check_fault};
+ghost use Rattle.tool_run.specs.Needs.{text_of};
 ghost use Rattle.tool_run.specs.Runs.{Does};
-ghost use Rattle.bitstream_tools.specs.Multi.{LoadsFiles, aligned_by, icemulti_command, icemulti_outcome, icemulti_task_by, icemulti_task_for, image_need, number_given, options_by, options_in, powered_by, short_number};
+ghost use Rattle.tool_inputs.specs.Commands.{values_of};
+ghost use Rattle.bitstream_tools.specs.Multi.{aligned_by, icemulti_command, icemulti_outcome, icemulti_task_by, icemulti_task_for, number_given, options_by, options_in, powered_by, short_number};
 
 use crate::faults::multi_refusal;
-use crate::pack::TEXT_LIMIT;
+use crate::stored::planned;
 use boot_file::{MultiFault, Options, check, join};
 use clap::{ArgMatches, Command};
 use std::alloc::{AllocError, Global};
 use text_lines::number;
 use tool_inputs::{
-    CommandLine, Words, flag, has_flag, run_tool, several, short_option, value, values, with,
+    CommandLine, Words, flag, has_flag, long_flag, run_tool, several, short_option, value, values,
+    with,
 };
-use tool_run::{AtOnce, Host, Job, Load, Stop, Tool};
+use tool_run::{AtOnce, Host, Job, Stop, Tool};
 
 /// The command line of `icemulti`.
-pub const ICEMULTI_USAGE: &str = "icemulti [-c] [-p N] [-a N] [-A N] [-o OUTPUT] [IMAGE ...]";
+pub const ICEMULTI_USAGE: &str =
+    "icemulti [--as-stock] [-c] [-p N] [-a N] [-A N] [-o OUTPUT] [IMAGE ...]";
 
 /// The help of `icemulti`, at most 80 columns wide.
 pub const ICEMULTI_HELP: &str = "\
 icemulti: joins up to four bitstreams (.bin) to one boot file.
 
-Usage: icemulti [-c] [-p N] [-a N] [-A N] [-o OUTPUT] [IMAGE ...]
+Usage: icemulti [--as-stock] [-c] [-p N] [-a N] [-A N] [-o OUTPUT] [IMAGE ...]
 
   IMAGE      a bitstream; one to four of them, in the order of their headers
+  --as-stock the stock tool's file: a header without an image boots the one of
+             power-on, not image 0, and a file named again is stored once
   -c         at a cold boot the pins choose the image
   -p N       the image that is booted at power-on, from 0; 0 if it is missing;
              with -c it may only be 0
@@ -92,7 +98,8 @@ pub(crate) fn number_given(text: Option<&str>) -> Option<Option<u32>>
     }
 }
 
-// The options except the alignment. `-p` chooses the image at power-on; with `-c` the pins choose it, and `-p` may only be 0.
+// The options except the alignment. `-p` chooses the image at power-on; with `-c` the pins choose it, and `-p` may only be 0. Each image
+// has its own header, in their order.
 fn powered_by(cold: bool, power_on: Option<Option<u32>>) -> Option<Options>
     ensures { result ≡ powered_by cold power_on }
 {
@@ -109,6 +116,7 @@ fn powered_by(cold: bool, power_on: Option<Option<u32>>) -> Option<Options>
     Some(Options {
         cold,
         power_on,
+        entries: [0, 1, 2, 3],
         align: None,
         align_first: false,
     })
@@ -151,35 +159,12 @@ fn options_by(
     }
 }
 
-// The loads of the images.
-fn loads_of<'a>(alloc: Global, images: &[&'a str]) -> Result<Vec<Load<'a>>, AllocError>
-    ensures { IfOk result (λ loads. map need_of loads.items ≡ map image_need (map (λ name. name.now) images.now)) }
-{
-    let mut loads = Vec::new(alloc);
-    for name in images {
-        loads.push(Load {
-            name: Some(*name),
-            limit: TEXT_LIMIT,
-        })?;
-    }
-    Ok(loads)
-}
-
-// The loads of the images that were found, if there were any.
-fn loads_found<'a>(alloc: Global, images: Option<&[&'a str]>) -> Result<Vec<Load<'a>>, AllocError>
-    ensures { IfOk result (λ loads. map need_of loads.items ≡ map image_need (unwrap_or (option_map (λ names. map (λ name. name.now) names.now) images.entry) [])) }
-{
-    match images {
-        Some(images) => loads_of(alloc, images),
-        None => Ok(Vec::new(alloc)),
-    }
-}
-
 // What the arguments ask for.
-#[derive(Drop)]
-pub(crate) struct MultiRequest<'a> {
+#[derive(Clone, Copy)]
+pub(crate) struct MultiRequest<'m, 'a> {
+    as_stock: bool,
+    names: &'m [&'a str],
     options: Options,
-    loads: Vec<Load<'a>>,
     output: Option<&'a str>,
 }
 
@@ -188,6 +173,7 @@ fn command<'a>(alloc: Global) -> Result<Command<'a>, AllocError>
     ensures { IfOk result (λ command. app_of command ≡ icemulti_command) }
 {
     let command = Command::new(alloc, "icemulti");
+    let command = with(command, long_flag(alloc, "as-stock"))?;
     let command = with(command, flag(alloc, "cold", 'c'))?;
     let command = with(command, short_option(alloc, "power_on", 'p'))?;
     let command = with(command, short_option(alloc, "align", 'a'))?;
@@ -209,48 +195,65 @@ fn options_in(matches: &ArgMatches<'_>) -> Option<Options>
     options_by(powered, align, all)
 }
 
-// The request of the arguments, or `None` if they aren't taken.
-fn request_in<'a>(
-    alloc: Global,
-    matches: &ArgMatches<'a>,
-) -> Result<Option<MultiRequest<'a>>, AllocError>
-    ensures task { IfOk result (λ request. icemulti_task_for request ≡ icemulti_task_by (rows_of (found_of matches.now))) }
-    ensures files { IfOk result LoadsFiles }
+// The names of the images that were found.
+fn names_in<'m, 'a>(matches: &'m ArgMatches<'a>) -> &'m [&'a str]
+    ensures { map (λ name. name.now) result.now ≡ values_of (codes "image") (rows_of (found_of matches.now)) }
 {
-    let loads = loads_found(alloc, values(matches, "image"))?;
+    values(matches, "image").unwrap_or_default()
+}
+
+// The request of the arguments, or `None` if they aren't taken.
+fn request_in<'m, 'a>(matches: &'m ArgMatches<'a>) -> Option<MultiRequest<'m, 'a>>
+    ensures { icemulti_task_for result ≡ icemulti_task_by (rows_of (found_of matches.now)) }
+{
+    let as_stock = has_flag(matches, "as-stock");
+    let names = names_in(matches);
+    let output = value(matches, "output");
     match options_in(matches) {
-        Some(options) => Ok(Some(MultiRequest {
+        Some(options) => Some(MultiRequest {
+            as_stock,
+            names,
             options,
-            loads,
-            output: value(matches, "output"),
-        })),
-        None => Ok(None),
+            output,
+        }),
+        None => None,
     }
 }
 
 // Does a request. If the number of images or the options alone are a fault, it is refused before anything is loaded.
-fn join_images<H: Host>(alloc: Global, request: &MultiRequest<'_>, host: &mut H) -> u8
-    requires { IsSound (map need_of request.now.loads.items) }
-    ensures { Does H.outside (icemulti_task_for (Some request.now)) result (H.scene host.old) (H.scene host.new) }
+fn join_images<H: Host>(alloc: Global, request: MultiRequest<'_, '_>, host: &mut H) -> u8
+    ensures { Does H.outside (icemulti_task_for (Some request.entry)) result (H.scene host.old) (H.scene host.new) }
+{
+    match check(request.names.len(), request.options) {
+        Ok(()) => join_checked(alloc, request, host),
+        Err(fault) => {
+            let answer = AtOnce::Refuses(multi_refusal(fault));
+            host.answer_at_once(alloc, "icemulti", answer)
+        }
+    }
+}
+
+// Does a request in whose number of images and options is no fault.
+fn join_checked<H: Host>(alloc: Global, request: MultiRequest<'_, '_>, host: &mut H) -> u8
+    requires accepted { check_fault (length request.names.now) request.options ≡ None }
+    requires few { length request.names.now ≤ 4 }
+    requires power_on { request.options.power_on < length request.names.now }
+    ensures { Does H.outside (icemulti_task_for (Some request.entry)) result (H.scene host.old) (H.scene host.new) }
 {
     let tool_name = "icemulti";
-    let loads = request.loads.as_slice();
-    match check(loads.len(), request.options) {
-        Ok(()) => {
+    match planned(alloc, request.as_stock, request.names, request.options) {
+        Ok(plan) => {
             let tool = Joining {
-                options: request.options,
+                options: plan.options,
             };
             let job = Job {
                 tool_name,
-                loads,
+                loads: plan.loads.as_slice(),
                 target: request.output,
             };
             host.perform(alloc, &tool, &job)
         }
-        Err(fault) => {
-            let answer = AtOnce::Refuses(multi_refusal(fault));
-            host.answer_at_once(alloc, tool_name, answer)
-        }
+        Err(AllocError) => host.give_up(tool_name),
     }
 }
 
@@ -282,11 +285,8 @@ impl CommandLine for Icemulti {
         matches: &ArgMatches<'_>,
         host: &mut H,
     ) -> Option<u8> {
-        match request_in(alloc, matches) {
-            Ok(Some(request)) => Some(join_images(alloc, &request, host)),
-            Ok(None) => None,
-            Err(AllocError) => Some(host.give_up("icemulti")),
-        }
+        let request = request_in(matches)?;
+        Some(join_images(alloc, request, host))
     }
 
     ghost simple = { icemulti-simple };

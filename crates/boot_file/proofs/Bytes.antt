@@ -101,7 +101,7 @@ HasBytes-image images options index place file image at within e has =
     sym (boot_byte-image images options (place + k) index within (omega arith) (omega (arith, ap length e)) ∙ rw (here, e) refl))
 
 -- a header boots an image that is there
-image_booted-within : (count : ℕ) (options : Options) (index : ℕ) → options.power_on < count → image_booted count options index < count
+pub image_booted-within : (count : ℕ) (options : Options) (index : ℕ) → options.power_on < count → image_booted count options index < count
 image_booted-within count options index power_on = grind (arith, nat_tests)
 
 -- the headers, from the places of the images

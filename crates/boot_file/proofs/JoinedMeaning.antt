@@ -1,20 +1,22 @@
 -- A joined file means its images.
-use Rattle.std.proofs.Common.{◌≡◌, ℕ, zero, suc, ◌+◌, ◌-◌, ◌<◌, ◌≤◌, true, false, ◌==◌, List, [], ◌∷◌, ◌++◌, length, get_or, take, drop, refl, sym, ap, ap₂, ◌∙◌, subst, inl, inr, arith, append_assoc, length-append}
-use Rattle.std.specs.Prelude.{nat_lt, nat_le, map, position, if◌then◌else◌, Some, All}
+use Rattle.std.proofs.Common.{◌≡◌, ℕ, zero, suc, ◌+◌, ◌-◌, ◌<◌, ◌≤◌, Bool, true, false, ◌==◌, List, [], ◌∷◌, ◌++◌, length, get_or, take, drop, refl, sym, ap, ap₂, ◌∙◌, subst, inl, inr, arith, append_assoc, length-append}
+use Rattle.std.specs.Prelude.{nat_lt, map, position, if◌then◌else◌, Some, All}
 use Rattle.std.specs.List.{AllZip, enumerate_from, position_or_len, range_with_len}
 use Rattle.std.proofs.Math.Seq.{take-append-add}
-use Rattle.std.proofs.lemmas.Bool.{cases_lt, le-leb, lt-leb, lt-ltb, ne_eqb, eq-eqb}
-use Rattle.std.proofs.lemmas.List.{append-nil, get_or-map, length-map}
+use Rattle.std.proofs.lemmas.Bool.{cases_lt, le-leb, lt-ltb, ne_eqb, eq-eqb}
+use Rattle.std.proofs.lemmas.List.{get_or-map, length-map}
 use Rattle.std.proofs.lemmas.List.FromFn.{get_or-enumerate_from, get_or-map-range_with_len, length-enumerate_from, length-map-range_with_len}
 use Rattle.std.proofs.lemmas.List.Sums.{position_or_len_is}
 use Rattle.std.proofs.lemmas.Slice.Zip.{AllZip-long}
-use Rattle.index_search.specs.Places.{gathered_below}
-use Rattle.index_search.proofs.Places.{any_below-at, any_below-none, gathered_below-none, gathered_below-same, gathered_below-sum}
+use Rattle.index_search.specs.Places.{any_below, gathered_below}
+use Rattle.index_search.proofs.Places.{any_below-same, gathered_below-same}
+use Rattle.index_search.proofs.Gathered.{map-gathered_below}
 use Rattle.ice_image.specs.Configuration.{Configuration}
 use Rattle.layout_file.specs.declared.layouts.Layouts.{Layouts}
 use Rattle.layout_file.specs.Layouts.{standard_layouts}
 use Rattle.boot_file.specs.declared.options.Options.{Options}
-use Rattle.boot_file.specs.BootFile.{boot_file, end_of, image_at, image_booted, place_of}
+use Rattle.boot_file.specs.BootFile.{boot_file, end_of, image_at, place_of}
+use Rattle.boot_file.proofs.Bytes.{image_booted-within}
 use Rattle.boot_file.proofs.Order.{place-later, place-start}
 use Rattle.bin_stream.specs.Front.{preamble}
 use Rattle.bin_stream.specs.Commands.{spelled as spelled_commands}
@@ -23,7 +25,7 @@ use Rattle.bin_stream.proofs.FrontGrown.{preamble_offset-grown}
 use Rattle.boot_file.specs.Headers.{entry_address, is_within}
 use Rattle.boot_file.specs.Parts.{first_named, image_addresses, image_index, is_named_before, part_end, part_of}
 use Rattle.boot_file.specs.Meaning.{Means, PlacedImage}
-use Rattle.boot_file.specs.Joined.{JoinedMeans, joined_boot, placed}
+use Rattle.boot_file.specs.Joined.{AreInOrder, JoinedMeans, entry_booted, first_booted, is_booted_before, joined_boot, own_entries, placed}
 use Rattle.boot_file.proofs.Ends.{part_end-beyond}
 use Rattle.boot_file.proofs.JoinedBytes.{MayJoin, may_join, end-within, file-address, file-cold, file-formed, file-long, image-drop, place-after}
 
@@ -71,19 +73,6 @@ enumerated : {A : Type 0} (f : ℕ → ℕ) (from : ℕ) (xs : List A) → map (
 enumerated f from [] = refl
 enumerated f from (x ∷ xs) = ap (λ more. f from ∷ more) (enumerated f (from + 1) xs)
 
--- one number for each place
-gathered-range : (f : ℕ → ℕ) (from n : ℕ) → gathered_below n (λ k. f (from + k) ∷ []) ≡ map f (range_with_len from n)
-unfolding gathered_below
-gathered-range f from zero = refl
-gathered-range f from (suc n) =
-    let e : suc n ≡ 1 + n = omega arith in
-    let first : from + 0 ≡ from = omega arith in
-    ap (λ m. gathered_below m (λ k. f (from + k) ∷ [])) e
-    ∙ gathered_below-sum 1 n (λ k. f (from + k) ∷ [])
-    ∙ ap₂ (λ (a : ℕ) (more : List ℕ). f a ∷ more) first
-    (gathered_below-same n (λ k. f (from + (1 + k)) ∷ []) (λ k. f (from + 1 + k) ∷ []) (λ k below. let same : from + (1 + k) ≡ from + 1 + k = omega arith in ap (λ j. f j ∷ []) same)
-    ∙ gathered-range f (from + 1) n)
-
 -- the place of a number among those that a function gives, if no earlier one is equal
 position-given : (f : ℕ → ℕ) (n k : ℕ) → k < n → ((j : ℕ) → j < k → f j < f k) → position (λ y. y == f k) (map f (range_with_len 0 n)) ≡ Some k
 position-given f n k below rises =
@@ -100,7 +89,7 @@ position-given f n k below rises =
 -- ---- the images of a joined file
 
 module _ (images : List (List ℕ)) (options : Options) (spelled : List Configuration)
-    (each : AllZip (Spells standard_layouts) images spelled) (may : MayJoin images options) where
+    (each : AllZip (Spells standard_layouts) images spelled) (may : MayJoin images options) (in_order : AreInOrder (length images) options) where
   abbrev count : ℕ
   count = length images
 
@@ -115,25 +104,10 @@ module _ (images : List (List ℕ)) (options : Options) (spelled : List Configur
 
   -- the image that an entry boots
   abbrev booted : ℕ → ℕ
-  booted entry = image_booted count options (entry + 1)
-
-  booted-is : (entry : ℕ) → booted entry ≡ (if nat_le (entry + 1) count then entry else 0)
-  booted-is entry =
-      let some : ((entry + 1) == 0) ≡ false = ne_eqb (entry + 1) 0 (λ zero. absurd (omega (arith, zero))) in
-      let same : entry + 1 - 1 ≡ entry = omega arith in
-      rw (some, same) refl
-
-  booted-there : (entry : ℕ) → entry < count → booted entry ≡ entry
-  booted-there entry below = booted-is entry ∙ rw (le-leb (entry + 1) count (omega arith)) refl
-
-  booted-missing : (entry : ℕ) → count ≤ entry → booted entry ≡ 0
-  booted-missing entry beyond = booted-is entry ∙ rw (lt-leb (entry + 1) count (omega arith)) refl
+  booted entry = entry_booted count options entry
 
   booted-within : (entry : ℕ) → booted entry < count
-  booted-within entry = elim (cases_lt entry count) [
-    | inl below ↦ omega (arith, booted-there entry below)
-    | inr beyond ↦ omega (arith, booted-missing entry beyond, may.some)
-  ]
+  booted-within entry = image_booted-within count options (entry + 1) may.boots
 
   entry-is : (entry : ℕ) → entry < 4 → entry_address file entry ≡ place (booted entry)
   entry-is entry below = file-address images options may (entry + 1) (omega arith) (booted-within entry)
@@ -153,40 +127,45 @@ module _ (images : List (List ℕ)) (options : Options) (spelled : List Configur
   place-above : (earlier later : ℕ) → earlier < later → later < count → place earlier < place later
   place-above earlier later less below = omega (arith, place-rises earlier later less below, image-some earlier (omega arith))
 
-  -- an entry is the first to name its address if there is an image for it
-  named-once : (entry : ℕ) → entry < count → is_named_before file entry ≡ false
-  named-once entry below = any_below-none entry (λ earlier. entry_address file earlier == entry_address file entry)
-      (λ earlier less. ne_eqb (entry_address file earlier) (entry_address file entry) (λ same. absurd (omega (
-        arith,
-        same,
-        place-above earlier entry less below,
-        entry-is earlier (omega (arith, may.few)),
-        ap place (booted-there earlier (omega arith)),
-        entry-is entry (omega (arith, may.few)),
-        ap place (booted-there entry below),
-      ))))
+  -- addresses are equal where images are
+  same-image : (one other : ℕ) → one < count → other < count → (place one == place other) ≡ (one == other)
+  same-image one other inside within = elim (cases_lt one other) [
+    | inl less ↦
+        rw (ne_eqb one other (λ same. absurd (omega (arith, same))))
+        (ne_eqb (place one) (place other) (λ same. absurd (omega (arith, same, place-above one other less within))))
+    | inr upto ↦ elim (cases_lt other one) [
+      | inl less ↦
+          rw (ne_eqb one other (λ same. absurd (omega (arith, same))))
+          (ne_eqb (place one) (place other) (λ same. absurd (omega (arith, same, place-above other one less inside))))
+      | inr more ↦
+          let same : one ≡ other = omega arith in
+          rw (eq-eqb one other same) (eq-eqb (place one) (place other) (ap place same))
+    ]
+  ]
 
-  named-again : (entry : ℕ) → count ≤ entry → entry < 4 → is_named_before file entry ≡ true
-  named-again entry beyond below = any_below-at entry 0 (λ earlier. entry_address file earlier == entry_address file entry) (omega (arith, may.some))
-      (eq-eqb (entry_address file 0) (entry_address file entry)
-      (entry-is 0 (omega arith) ∙ ap place (booted-there 0 may.some) ∙ sym (entry-is entry below ∙ ap place (booted-missing entry beyond))))
+  named-before : (entry : ℕ) → entry < 4 → is_named_before file entry ≡ is_booted_before count options entry
+  named-before entry few =
+      any_below-same entry (λ earlier. entry_address file earlier == entry_address file entry) (λ earlier. booted earlier == booted entry)
+      (λ earlier less.
+      ap₂ (λ (a : ℕ) (b : ℕ). a == b) (entry-is earlier (omega arith)) (entry-is entry few)
+      ∙ same-image (booted earlier) (booted entry) (booted-within earlier) (booted-within entry))
+
+  -- an entry is the first to name its address if it is the first to boot its image
+  first-is : (entry : ℕ) → entry < 4 → first_named file entry ≡ map place (first_booted count options entry)
+  first-is entry few =
+      ap₂ (λ (before : Bool) (address : ℕ). if before then [] else address ∷ []) (named-before entry few) (entry-is entry few)
+      ∙ mapped (is_booted_before count options entry) (booted entry)
+    where
+      mapped : (before : Bool) (image : ℕ) → (if before then [] else place image ∷ []) ≡ map place (if before then [] else image ∷ [])
+      mapped true image = refl
+      mapped false image = refl
 
   pub addresses-are : image_addresses file ≡ map place (range_with_len 0 count)
   unfolding image_addresses
   addresses-are =
-      let all : 4 ≡ count + (4 - count) = omega (arith, may.few) in
-      ap (λ n. gathered_below n (first_named file)) all
-      ∙ gathered_below-sum count (4 - count) (first_named file)
-      ∙ ap₂ (λ (one other : List ℕ). one ++ other)
-      (gathered_below-same count (first_named file) (λ k. place (0 + k) ∷ []) (λ k below. first-is k below) ∙ gathered-range place 0 count)
-      (gathered_below-none (4 - count) (λ k. first_named file (count + k)) (λ k below. ap (λ b. if b then [] else entry_address file (count + k) ∷ []) (named-again (count + k) (omega arith) (omega arith))))
-      ∙ append-nil (map place (range_with_len 0 count))
-    where
-      first-is : (k : ℕ) → k < count → first_named file k ≡ place (0 + k) ∷ []
-      first-is k below =
-          let same : k ≡ 0 + k = omega arith in
-          ap (λ b. if b then [] else entry_address file k ∷ []) (named-once k below)
-          ∙ ap (λ a. a ∷ []) (entry-is k (omega (arith, may.few)) ∙ ap place (booted-there k below ∙ same))
+      gathered_below-same 4 (first_named file) (λ entry. map place (first_booted count options entry)) first-is
+      ∙ sym (map-gathered_below place 4 (first_booted count options))
+      ∙ ap (map place) in_order
 
   index-is : (index : ℕ) → index < count → image_index file (place index) ≡ Some index
   index-is index below =
@@ -273,4 +252,17 @@ module _ (images : List (List ℕ)) (options : Options) (spelled : List Configur
 
 -- a joined file means its images
 pub joined_means : (images : List (List ℕ)) (options : Options) (spelled : List Configuration) → JoinedMeans images options spelled
-joined_means images options spelled each none = joined images options spelled each (may_join images options none)
+joined_means images options spelled each none in_order = joined images options spelled each (may_join images options none) in_order
+
+-- images are in order if each has its own header, in their order
+in_own_order : (count : ℕ) (options : Options) → 0 < count → count ≤ 4 → AreInOrder count (record options { entries = own_entries })
+unfolding gathered_below any_below
+in_own_order zero options some few = absurd (omega arith)
+in_own_order (suc zero) options some few = refl
+in_own_order (suc (suc zero)) options some few = refl
+in_own_order (suc (suc (suc zero))) options some few = refl
+in_own_order (suc (suc (suc (suc zero)))) options some few = refl
+in_own_order (suc (suc (suc (suc (suc n))))) options some few = absurd (omega arith)
+
+pub own_in_order : (count : ℕ) (options : Options) → 0 < count → count ≤ 4 → options.entries ≡ own_entries → AreInOrder count options
+own_in_order count options some few own = subst (λ entries. AreInOrder count (record options { entries = entries })) (sym own) (in_own_order count options some few)

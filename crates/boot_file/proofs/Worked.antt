@@ -11,9 +11,9 @@ use Rattle.boot_file.specs.Refusals.{check_fault, join_fault}
 abbrev two : List (List ℕ)
 two = (1 ∷ 2 ∷ 3 ∷ []) ∷ (4 ∷ []) ∷ []
 
--- a cold boot by the pins, the second image at power-on, and images at multiples of 256
+-- a cold boot by the pins, the second image at power-on, a header for each image, and images at multiples of 256
 abbrev options : Options
-options = record { cold = true; power_on = 1; align = Some 8; align_first = false }
+options = record { cold = true; power_on = 1; entries = 0 ∷ 1 ∷ 2 ∷ 3 ∷ []; align = Some 8; align_first = false }
 
 -- ---- places
 
@@ -68,6 +68,11 @@ addresses_high = refl
 addresses_low : map (λ index. boot_byte two options (32 * index + 11)) (range_with_len 0 5) ≡ 0 ∷ 160 ∷ 0 ∷ 160 ∷ 160 ∷ []
 unfolding place_of boot_byte
 addresses_low = refl
+
+-- other entries: the first image, the second twice, and the first
+entries_low : map (λ index. boot_byte two (record options { entries = 0 ∷ 1 ∷ 1 ∷ 0 ∷ [] }) (32 * index + 11)) (range_with_len 0 5) ≡ 0 ∷ 160 ∷ 0 ∷ 0 ∷ 160 ∷ []
+unfolding place_of boot_byte
+entries_low = refl
 
 -- after the headers the first image, FF up to the second one, and the second
 after_headers : drop 160 (boot_file two options) ≡ 1 ∷ 2 ∷ 3 ∷ replicate 93 0xFF ++ 4 ∷ []

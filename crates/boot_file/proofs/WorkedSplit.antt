@@ -14,7 +14,7 @@ use Rattle.boot_file.specs.Faults.{headers_fault, images_fault, split_fault}
 
 -- the second image at power-on, and images at multiples of 256
 abbrev options : Options
-options = record { cold = false; power_on = 1; align = Some 8; align_first = false }
+options = record { cold = false; power_on = 1; entries = 0 ∷ 1 ∷ 2 ∷ 3 ∷ []; align = Some 8; align_first = false }
 
 abbrev file : List ℕ
 file = boot_file ((1 ∷ 2 ∷ 3 ∷ []) ∷ (4 ∷ []) ∷ []) options

@@ -45,12 +45,12 @@ header cold address =
     ∷ 0x82 ∷ 0x00 ∷ 0x00 ∷ 0x01 ∷ 0x08
     ∷ 0 ∷ 0 ∷ 0 ∷ 0 ∷ 0 ∷ 0 ∷ 0 ∷ 0 ∷ 0 ∷ 0 ∷ 0 ∷ 0 ∷ 0 ∷ 0 ∷ 0 ∷ []
 
--- Of `count` images, the one that a header boots: the first header boots the image of power-on, and each further header the next image
--- in order. If there is no such image, it boots the first one, which is this project's choice.
+-- Of `count` images, the one that a header boots: the first header boots the image of power-on, and each further header the image that its
+-- entry names. If there is no image of that index, it boots the first one, which is this project's choice.
 abbrev pub image_booted : ℕ → Options → ℕ → ℕ
 image_booted count options index =
     if index == 0 then options.power_on
-    else if nat_le index count then index - 1
+    else if nat_lt (get_or options.entries (index - 1) 0) count then get_or options.entries (index - 1) 0
     else 0
 
 -- a header by its index, from the offset of each image; only the first one may have the mode of cold boot

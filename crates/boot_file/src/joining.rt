@@ -26,7 +26,9 @@ const MOST_ALIGNMENT: u32 = 24;
 /// The first cause in the order of [`MultiFault`] among `NoImage`, `TooMany`, `Align` and `PowerOn`.
 #[tactic(auto, unfolding(crate::specs::Refusals::check_fault))]
 pub fn check(count: usize, options: Options) -> Result<(), MultiFault>
-    ensures { result_err result ≡ check_fault count options }
+    ensures is { result_err result ≡ check_fault count options }
+    ensures few { OnOk result (count ≤ 4) }
+    ensures power_on { OnOk result (options.power_on < count) }
 {
     if count == 0 {
         return Err(MultiFault::NoImage);
@@ -59,7 +61,7 @@ pub fn check(count: usize, options: Options) -> Result<(), MultiFault>
 /// let mut images = Vec::new(alloc);
 /// images.push(first)?;
 /// images.push(second)?;
-/// let options = Options { cold: false, power_on: 0, align: Some(8), align_first: false };
+/// let options = Options { cold: false, power_on: 0, entries: [0, 1, 2, 3], align: Some(8), align_first: false };
 /// let file = join(alloc, &images, options)?;
 /// ```
 pub fn join(alloc: Global, images: &Vec<Vec<u8>>, options: Options) -> Result<Vec<u8>, MultiFault>
@@ -113,18 +115,16 @@ fn headers(
 
 /// The index of the image that a header boots.
 fn image_booted(count: usize, options: Options, header: usize) -> usize
-    requires { options.power_on < count }
+    requires power_on { options.power_on < count }
+    requires header { header < 5 }
     ensures is { result ≡ image_booted count options header }
     ensures within { result < count }
 {
-    let power_on = options.power_on as usize;
     if header == 0 {
-        power_on
-    } else if header <= count {
-        header - 1
-    } else {
-        0
+        return options.power_on as usize;
     }
+    let image = options.entries[header - 1] as usize;
+    if image < count { image } else { 0 }
 }
 
 /// Whether a header has the mode in which the pins choose the image at a cold boot: only the first one may.

@@ -9,6 +9,7 @@ use std::alloc::{AllocError, Global};
 const OPTIONS: Options = Options {
     cold: false,
     power_on: 0,
+    entries: [0, 1, 2, 3],
     align: Some(8),
     align_first: false,
 };

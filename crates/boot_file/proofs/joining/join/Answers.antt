@@ -5,11 +5,11 @@ use Rattle.boot_file.proofs.Placing.{checked}
 use Rattle.boot_file.proofs.joining.join.Goals as goal
 
 pub places-requires : goal.places-requires
-places-requires c = (checked c.len.result c.args.options (sym c.in_ok-check.ensures)).aligns
+places-requires c = (checked c.len.result c.args.options (sym c.in_ok-check.ensures.is)).aligns
 
 pub headers-requires-clause-power_on : goal.headers-requires-clause-power_on
 headers-requires-clause-power_on c =
-    omega (arith, (checked c.len.result c.args.options (sym c.in_ok-check.ensures)).boots, ap length c.as_slice-places.ensures.value, c.in_ok-found.ensures.count)
+    omega (arith, c.in_ok-check.ensures.power_on, ap length c.as_slice-places.ensures.value, c.in_ok-found.ensures.count)
 
 pub loop-index-init : goal.loop-index-init
 loop-index-init c =
@@ -18,7 +18,7 @@ loop-index-init c =
     let count : length places ≡ length c.args.images.now.items = ap length c.as_slice-places.ensures.value ∙ c.in_ok-found.ensures.count in
     HasBytes-headers images c.args.options (length places) (λ index. get_or places index 0) c.in_ok-file.file.items (omega (arith, count, length-bytes_of c.args.images.now))
     (λ index within. ap (λ xs. get_or xs index 0) c.as_slice-places.ensures.value ∙ c.in_ok-found.ensures.found index (omega (arith, count)))
-    (omega (arith, (checked c.len.result c.args.options (sym c.in_ok-check.ensures)).boots, count))
+    (omega (arith, c.in_ok-check.ensures.power_on, count))
     c.in_ok-file.ensures
 
 pub loop-index-preserved : goal.loop-index-preserved
@@ -44,6 +44,6 @@ returns-clause-joined c =
     let options = c.args.options in
     let count = c.loop-index.index in
     let all : count ≡ length images = omega (arith, ap length c.deref-image-items.ensures.value, length-bytes_of c.args.images.now) in
-    let some = (checked c.len.result options (sym c.in_ok-check.ensures)).some in
+    let some = (checked c.len.result options (sym c.in_ok-check.ensures.is)).some in
     boot_file-is images options c.loop-index.file.items
     (subst (λ size. HasBytes (boot_byte images options) size c.loop-index.file.items) (start-all images options count all (omega (arith, some, length-bytes_of c.args.images.now))) c.loop-index.invariant)

@@ -46,7 +46,7 @@ printf '%%s\\n' "$@"
 exec cat
 """
 # the options that an installed tool always has, as its help names them
-ALWAYS = {"icebram": "--by-mode", "icebox_stat": "--all-pins", "icebox_plan": "--all-pins",
+ALWAYS = {"icemulti": "--as-stock", "icebram": "--by-mode", "icebox_stat": "--all-pins", "icebox_plan": "--all-pins",
           "icebox_vlog": "--used-inputs, --all-pins and --register-clocks"}
 TEXT_1K = text_of(TILES).encode()
 TEXT_8K = b".comment of a router\nwith words\n.device 8k\r\n.sym 5 .device 1k\n"
@@ -162,7 +162,9 @@ def try_arguments(tries):
     gets(["icebram", "from", "to"], ["--by-mode", "from", "to"], source=TEXT_1K)
     gets(["icebram", "--by-mode", "from", "to"], ["--by-mode", "from", "to"])
     gets(["icebram", "--", "--by-mode", "to"], ["--by-mode", "--", "--by-mode", "to"])
-    gets(["icemulti", "-p0", "a.bin", "b b.bin"], ["-p0", "a.bin", "b b.bin"])
+    gets(["icemulti", "-p0", "a.bin", "b b.bin"], ["--as-stock", "-p0", "a.bin", "b b.bin"])
+    gets(["icemulti", "a.bin", "--as-stock"], ["a.bin", "--as-stock"])
+    gets(["icemulti", "-o", "--as-stock", "a.bin"], ["--as-stock", "-o", "--as-stock", "a.bin"])
     gets(["icesplit", "-x", "1", "a.boot"], ["-x", "1", "a.boot"])
     gets(["vlogrun", "-s", ""], ["-s", ""], source=b"clk 1\n")
 
@@ -178,13 +180,13 @@ def try_arguments(tries):
     gets(["icepack", "--layout"], ["--layout"])
     gets(["icepack", "--", "--layout=standard"], layout + ["--", "--layout=standard"])
     gets(["icebox_vlog", "-n", "--layout=standard", "a.asc"], vlog + [small, "-n", "--layout=standard", "a.asc"])
-    gets(["icemulti", "--layout=standard"], ["--layout=standard"])
+    gets(["icemulti", "--layout=standard"], ["--as-stock", "--layout=standard"])
 
     # -v of the stock tools
     gets(["icepack", "-v", "a.asc"], layout + ["a.asc"])
     gets(["iceunpack", "-vv", "a.bin", "-v"], layout + ["a.bin"])
-    gets(["icemulti", "-o", "-v", "-v", "a.bin"], ["-o", "-v", "a.bin"])
-    gets(["icemulti", "-v", "-p0", "--", "-v"], ["-p0", "--", "-v"])
+    gets(["icemulti", "-o", "-v", "-v", "a.bin"], ["--as-stock", "-o", "-v", "a.bin"])
+    gets(["icemulti", "-v", "-p0", "--", "-v"], ["--as-stock", "-p0", "--", "-v"])
     gets(["icebram", "-v", "-g", "16", "256"], ["--by-mode", "-g", "16", "256"])
     gets(["icebram", "-g", "-s", "-v", "16", "256"], ["--by-mode", "-g", "-s", "-v", "16", "256"])
     gets(["icebox_vlog", "-v", "a.asc"], vlog + [small, "-v", "a.asc"])

@@ -18,7 +18,7 @@ know() {
   values='' special=''
   case $1 in
   icepack | iceunpack) special='layout verbose' ;;
-  icemulti) values='-p -a -A -o' special=verbose ;;
+  icemulti) values='-p -a -A -o' special='--as-stock verbose' ;;
   icebram) values=-s special='--by-mode verbose' ;;
   icebox_explain) values=-t special='layout database' ;;
   icebox_diff) special='layout database images' ;;

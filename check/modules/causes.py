@@ -139,8 +139,8 @@ def items_of(lines):
 # ---- examples
 
 def typed(command):
-    """A command as it is typed with the program on the PATH."""
-    return "$ " + command.replace("./icestorm ", "icestorm ").strip()
+    """A command as it is typed in a checkout, where its files are too: the installed icestorm gives options of its own."""
+    return "$ " + command.strip()
 
 
 def given(pattern, words):

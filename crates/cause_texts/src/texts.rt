@@ -9,7 +9,7 @@ Address, where icemulti joins images:
   Image i is the first that would stand at 2^24 or later. An address has three
   bytes.
   Example:
-    $ icestorm icemulti -a 24 one.bin one.bin
+    $ ./icestorm icemulti -a 24 one.bin one.bin
     icemulti: Address 1
   What to do:
     Give a smaller alignment, or fewer or shorter images.
@@ -19,7 +19,7 @@ Address, in a boot file that icesplit reads:
   Header h is the first of the headers 1 to 4 whose address is below 160, or not
   below the length of the file.
   Example:
-    $ head -c 32500 both.boot | icestorm icesplit /dev/stdin
+    $ head -c 32500 both.boot | ./icestorm icesplit /dev/stdin
     icesplit: Address 2
   What to do:
     Take the whole file, from the first header to the end of the last image.
@@ -31,7 +31,7 @@ Align, where icemulti joins images:
   Message: Align n
   The alignment n of -a or -A is above 24.
   Example:
-    $ icestorm icemulti -a 25 one.bin one.bin
+    $ ./icestorm icemulti -a 25 one.bin one.bin
     icemulti: Align 25
   What to do:
     Give at most 24. Images stand at multiples of 2^n bytes, so 16 means 64 KiB.
@@ -141,7 +141,7 @@ Cascade, in a design (icebox_vlog, icebox_stat, icebox_plan):
   A function whose name begins with RamCascade. is on in one of the two tiles of
   a block RAM that is read: the RAM passes its address on to the next one.
   Example, a block RAM that is read and passes its address on:
-    $ icestorm icebox_vlog ram.chipdb ram.asc
+    $ ./icestorm icebox_vlog ram.chipdb ram.asc
     icebox_vlog: tile 3 1: Cascade
   What to do:
     Use single block RAMs.
@@ -193,7 +193,7 @@ Clock, in a design (icebox_vlog):
   clocks from a register.
   Example, a ripple counter, whose second flip-flop has the first one as its
   clock, without --register-clocks:
-    $ icestorm icebox_vlog ripple.chipdb ripple.asc
+    $ ./icestorm icebox_vlog ripple.chipdb ripple.asc
     icebox_vlog: tile 2 1 cell 0: Clock net 7
   What to do:
     If a register makes the clock, as in a divider, give --register-clocks. If a
@@ -271,7 +271,7 @@ Device, in a layout file:
 Device, of the two images that icebox_diff compares:
   The database is for another device than A.
   Example, the database of a 1k and two images of an 8k:
-    $ icestorm icebox_diff empty.chipdb large.asc large.asc
+    $ ./icestorm icebox_diff empty.chipdb large.asc large.asc
     icebox_diff: Device
   What to do:
     Take the database of the images' device: chipdb-1k.txt or chipdb-8k.txt.
@@ -290,7 +290,7 @@ Device, in a chip database:
 Device, in a design (icebox_vlog, icebox_stat, icebox_plan, icebox_explain):
   The database is for another device than the image.
   Example, the database of a 1k and an image of an 8k:
-    $ icestorm icebox_vlog small.chipdb examples/lights_8k/lights.asc
+    $ ./icestorm icebox_vlog small.chipdb examples/lights_8k/lights.asc
     icebox_vlog: Device
   What to do:
     Take the database of the image's device: chipdb-1k.txt or chipdb-8k.txt.
@@ -330,7 +330,7 @@ Form, in a list of events of vlogrun or vlogsweep:
   repeat N or end either, or N isn't from 1 to 4294967295. Blanks at its end
   don't count. A name is a letter or _, followed by letters, digits and _.
   Example, an equals sign in place of the space:
-    $ printf 'a 1\\na=0\\n' | icestorm vlogrun m.v
+    $ printf 'a 1\\na=0\\n' | ./icestorm vlogrun m.v
     vlogrun: line 2: Form
   What to do:
     Write NAME 0 or NAME 1, or with --long also NAME ~ N, with one space on each
@@ -354,7 +354,7 @@ header, in a boot file that icesplit reads:
   The byte at the offset n is none that a header has there. It is the first such
   byte, and h is the number of its header, from 0.
   Example, a single bitstream in place of a boot file:
-    $ icestorm icesplit one.bin
+    $ ./icestorm icesplit one.bin
     icesplit: header 0: offset 4
   What to do:
     Check that the file is a boot file, and begins with the first header. If it
@@ -380,7 +380,7 @@ image, in a boot file that icesplit reads:
   Image i is the first that is no bitstream. CAUSE is the cause of a bitstream,
   and n its offset in the boot file.
   Example:
-    $ head -c 40000 both.boot | icestorm icesplit /dev/stdin
+    $ head -c 40000 both.boot | ./icestorm icesplit /dev/stdin
     icesplit: image 1: offset 40000: Truncated
   What to do:
     Look up that cause. Pack the image and join the images anew, or copy the
@@ -391,7 +391,7 @@ pub const IMAGES: &str = "\
 Images, of the two images that icebox_diff compares:
   B is for another device than A.
   Example, an image of a 1k and one of an 8k:
-    $ icestorm icebox_diff empty.chipdb examples/one_bit.asc large.asc
+    $ ./icestorm icebox_diff empty.chipdb examples/one_bit.asc large.asc
     icebox_diff: Images
   What to do:
     Give two images of one device. The line .device of a text names it, and
@@ -418,7 +418,7 @@ Long, in a list of events of vlogrun or vlogsweep:
   more, or what vlogrun writes may have 2^64 bytes or more. No line is told.
   Example, a list in which an input gets the other bit 4294967295 times
   4294967295 times:
-    $ icestorm vlogrun --long m.v m.endless
+    $ ./icestorm vlogrun --long m.v m.endless
     vlogrun: Long
   What to do:
     Take lower counts. If it is only the lines of vlogrun that are too many,
@@ -445,7 +445,7 @@ Loop, in a design (icebox_vlog):
   as well, such as a register that is its own clock; they count only if there is
   no other loop.
   Example, an inverter whose input is its own output:
-    $ icestorm icebox_vlog small.chipdb ring.asc
+    $ ./icestorm icebox_vlog small.chipdb ring.asc
     icebox_vlog: net 1: Loop
   What to do:
     Give --used-inputs, if it isn't given: a router may make a loop at an input
@@ -539,7 +539,7 @@ pub const NO_IMAGE: &str = "\
 NoImage, where icemulti joins images:
   No image is named.
   Example:
-    $ icestorm icemulti
+    $ ./icestorm icemulti
     icemulti: NoImage
   What to do:
     Name one to four bitstreams.
@@ -548,7 +548,7 @@ NoImage, in a boot file that icesplit reads:
   Message: NoImage n
   -x n asks for an image that isn't there.
   Example, the third of two images:
-    $ icestorm icesplit -x 2 both.boot
+    $ ./icestorm icesplit -x 2 both.boot
     icesplit: NoImage 2
   What to do:
     Run icesplit without -x, which lists the images. They count from 0, and
@@ -572,7 +572,7 @@ NoTile, of the option -t of icebox_explain:
   Message: tile X Y: NoTile
   No tile stands at X and Y: that is a corner of the grid, or outside of it.
   Example, the left bottom corner:
-    $ icestorm icebox_explain -t \"0 0\" empty.chipdb examples/one_bit.asc
+    $ ./icestorm icebox_explain -t \"0 0\" empty.chipdb examples/one_bit.asc
     icebox_explain: tile 0 0: NoTile
   What to do:
     Correct X and Y: the column from the left and the row from the bottom, both
@@ -615,7 +615,7 @@ Package, in a pin file (.pcf):
   The database doesn't have the package of -d. This is told only at a line with
   set_io.
   Example, one that the database doesn't have:
-    $ icestorm icebox_vlog -p led.pcf -d tq144 small.chipdb inverter.asc
+    $ ./icestorm icebox_vlog -p led.pcf -d tq144 small.chipdb inverter.asc
     icebox_vlog: pin file line 1: Package
   What to do:
     Give -d a package of the device, such as tq144 of a 1k or ct256 of an 8k:
@@ -626,7 +626,7 @@ pub const PIN: &str = "\
 Pin, in a list of events of vlogrun or vlogsweep:
   The name is no input of the module. A reserved word is none either.
   Example, an output of the module:
-    $ printf 'a 1\\ny 0\\n' | icestorm vlogrun m.v
+    $ printf 'a 1\\ny 0\\n' | ./icestorm vlogrun m.v
     vlogrun: line 2: Pin
   What to do:
     Take a name that the module declares as input: io_X_Y_N for a pin, or the
@@ -649,7 +649,7 @@ PinMode, in a design (icebox_vlog, icebox_stat, icebox_plan):
   The type of a pin isn't taken, or the way in which the design uses the pin.
   BITS are the six bits of its type, PIN_TYPE of SB_IO, the highest first.
   Example, a bus, whose pin is read and can be switched off, without --all-pins:
-    $ icestorm icebox_vlog bus.chipdb bus.asc
+    $ ./icestorm icebox_vlog bus.chipdb bus.asc
     icebox_vlog: tile 0 1 pin 0: PinMode 101001
   What to do:
     Give --all-pins, if it isn't given. With --all-pins there are four cases.
@@ -686,7 +686,7 @@ Pll, in a design (icebox_vlog, icebox_stat, icebox_plan):
   Message: tile X Y: Pll
   The design uses a PLL that isn't taken.
   Example, a flip-flop that a PLL clocks, without --all-pins:
-    $ icestorm icebox_vlog pll.chipdb pll.asc
+    $ ./icestorm icebox_vlog pll.chipdb pll.asc
     icebox_vlog: tile 0 2: Pll
   What to do:
     Give --all-pins, if it isn't given. With it, take a database that describes
@@ -698,7 +698,7 @@ PowerOn, where icemulti joins images:
   Message: PowerOn i
   There is no image i, which -p asks for.
   Example:
-    $ icestorm icemulti -p 2 one.bin one.bin
+    $ ./icestorm icemulti -p 2 one.bin one.bin
     icemulti: PowerOn 2
   What to do:
     Give -p the number of an image. They count from 0.
@@ -706,7 +706,7 @@ PowerOn, where icemulti joins images:
 PowerOn, in a boot file that icesplit reads:
   No other header has the address of header 0.
   Example, another byte in the address of header 0:
-    $ icestorm icesplit moved.boot
+    $ ./icestorm icesplit moved.boot
     icesplit: PowerOn
   What to do:
     Join the images anew with icemulti. Header 0 has the address of the image
@@ -718,7 +718,7 @@ Repeat, in a list of events of vlogrun or vlogsweep:
   With --long: the line is an end without a repeat, or a repeat inside eight
   others. If no line is faulty, it is the outermost repeat without an end.
   Example, an end too many:
-    $ printf 'repeat 2\\na ~ 1\\nend\\nend\\n' | icestorm vlogrun --long m.v
+    $ printf 'repeat 2\\na ~ 1\\nend\\nend\\n' | ./icestorm vlogrun --long m.v
     vlogrun: line 4: Repeat
   What to do:
     Give each repeat its end, and put at most eight inside one another.
@@ -768,7 +768,7 @@ SameColumns, in the two files of words that icebram reads:
   SECOND the least such later one. With words of w bits, column s * w + b is bit
   b of the words 256s to 256s + 255.
   Example, 256 words of two digits that are all 0:
-    $ icestorm icebram zeros.hex zeros.hex </dev/null
+    $ ./icestorm icebram zeros.hex zeros.hex </dev/null
     icebram: SameColumns 0 1
   What to do:
     Fill FROM with random words, and make the design with them anew. In a RAM
@@ -791,7 +791,7 @@ pub const SHAPE: &str = "\
 Shape, in the two files of words that icebram reads:
   The two files differ in the number of words, or of digits in a word.
   Example, words of two digits and words of eight:
-    $ icestorm icebram zeros.hex examples/player_1k/steps.hex </dev/null
+    $ ./icestorm icebram zeros.hex examples/player_1k/steps.hex </dev/null
     icebram: Shape
   What to do:
     Give both files as many words, with as many digits.
@@ -802,7 +802,7 @@ Short, in a boot file that icesplit reads:
   Message: Short n
   The file has n bytes, and the five headers alone have 160.
   Example:
-    $ head -c 100 both.boot | icestorm icesplit /dev/stdin
+    $ head -c 100 both.boot | ./icestorm icesplit /dev/stdin
     icesplit: Short 100
   What to do:
     Check that the file is a boot file, and that it is whole.
@@ -893,7 +893,7 @@ TooMany, where icemulti joins images:
   Message: TooMany n
   There are n images, more than 4.
   Example:
-    $ icestorm icemulti one.bin one.bin one.bin one.bin one.bin
+    $ ./icestorm icemulti one.bin one.bin one.bin one.bin one.bin
     icemulti: TooMany 5
   What to do:
     Leave some out, or make two boot files.
@@ -918,7 +918,7 @@ TwoDrivers, in a design (icebox_vlog):
   Two drivers or more drive net N, or nets that are joined with it: two outputs
   would work against each other.
   Example, two buffers that lead to one net, both on:
-    $ icestorm icebox_vlog ripple.chipdb twice.asc
+    $ ./icestorm icebox_vlog ripple.chipdb twice.asc
     icebox_vlog: net 3: TwoDrivers
   What to do:
     Check that the database, the image and the layout belong together: no router

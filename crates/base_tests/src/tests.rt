@@ -1,9 +1,4 @@
-mod beside;
-mod files;
-mod lines;
 mod names;
-mod narrow;
 mod orders;
-mod pieces;
-mod planes;
 mod real;
+mod streams;

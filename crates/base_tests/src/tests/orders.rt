@@ -5,7 +5,6 @@ ghost use Rattle.tool_run.specs.Stops.{StopsWith};
 
 use ice_io::{Failed, Files, MemFiles, MemSink, MemSource, NamedFile, StoreFault, TakeFault};
 use std::alloc::{AllocError, Global};
-use std::test::Fail;
 use tool_run::{FilesAndStreams, Host, Job, Load, PieceTool, Refusal, Stop, Tool, text};
 
 /// Files that log each call: `l` for a load, `p` for the first part of a load in pieces and `s` for a store, each with the name. They have
@@ -122,12 +121,14 @@ impl PieceTool for Stamp {
     }
 }
 
-/// A file with this name, of 24 bytes.
+/// What each file has: 24 bytes.
+const CONTENT: &[u8] = b"twenty-four bytes in all";
+
+/// A file with this name.
 fn file(alloc: Global, name: &str) -> Result<NamedFile, AllocError> {
-    Ok(NamedFile {
-        name: String::from_str(alloc, name)?,
-        bytes: b"twenty-four bytes in all".to_vec(alloc)?,
-    })
+    let name = String::from_str(alloc, name)?;
+    let bytes = CONTENT.to_vec(alloc)?;
+    Ok(NamedFile { name, bytes })
 }
 
 /// The files `a` and `b`, and room for a file `out`.
@@ -151,6 +152,16 @@ struct Run {
     refuses: bool,
     room: usize,
 }
+
+/// A run over `a` and `b` that is done.
+const DONE: Run = Run {
+    first: "a",
+    second: "b",
+    limit: 99,
+    target: "out",
+    refuses: false,
+    room: 99,
+};
 
 /// Whether the run has this status, and makes exactly these calls.
 fn calls_are(
@@ -192,55 +203,60 @@ fn calls_are(
     Ok(done == status && host.files.calls.as_slice() == calls.as_bytes())
 }
 
-#[test]
-fn files_are_loaded_in_their_order_and_stored_once(rt: HostRuntime) -> Result<(), Fail> {
-    for (first, second, limit, refuses, room, status, whole, in_pieces) in [
-        (
-            "a",
-            "b",
-            99,
-            false,
-            99,
-            0,
-            " l a l b s out",
-            " p a p b s out",
-        ),
-        (
-            "a",
-            "a",
-            99,
-            false,
-            99,
-            0,
-            " l a l a s out",
-            " p a p a s out",
-        ),
-        ("a", "x", 99, false, 99, 3, " l a l x", " p a p x"),
-        ("a", "b", 1, false, 99, 6, " l a l b", " p a p b"),
-        ("a", "b", 99, true, 99, 1, " l a l b", " p a p b"),
-        (
-            "a",
-            "b",
-            99,
-            false,
-            0,
-            4,
-            " l a l b s out",
-            " p a p b s out",
-        ),
-    ] {
-        let run = Run {
-            first,
-            second,
-            limit,
-            target: "out",
-            refuses,
-            room,
-        };
-        let are = calls_are(rt.alloc(), run, false, status, whole);
-        assert_eq!(rt; are, Ok(true), "{whole}");
-        let are = calls_are(rt.alloc(), run, true, status, in_pieces);
-        assert_eq!(rt; are, Ok(true), "{in_pieces}");
+/// A run, its status, and its calls if files are loaded whole, and if they are taken in pieces.
+type Case = (Run, u8, &'static str, &'static str);
+
+static CASES: [Case; 6] = [
+    (DONE, 0, " l a l b s out", " p a p b s out"),
+    (
+        Run {
+            second: "a",
+            ..DONE
+        },
+        0,
+        " l a l a s out",
+        " p a p a s out",
+    ),
+    (
+        Run {
+            second: "x",
+            ..DONE
+        },
+        3,
+        " l a l x",
+        " p a p x",
+    ),
+    (Run { limit: 1, ..DONE }, 6, " l a l b", " p a p b"),
+    (
+        Run {
+            refuses: true,
+            ..DONE
+        },
+        1,
+        " l a l b",
+        " p a p b",
+    ),
+    (
+        Run { room: 0, ..DONE },
+        4,
+        " l a l b s out",
+        " p a p b s out",
+    ),
+];
+
+/// The calls of the first run that has another status or makes other calls, or `None`.
+fn first_that_differs(alloc: Global, in_pieces: bool) -> Result<Option<&'static str>, AllocError> {
+    for (run, status, whole, parts) in &CASES {
+        let calls = if in_pieces { *parts } else { *whole };
+        if !calls_are(alloc, *run, in_pieces, *status, calls)? {
+            return Ok(Some(calls));
+        }
     }
-    Ok(())
+    Ok(None)
+}
+
+#[test]
+fn files_are_loaded_in_their_order_and_stored_once(rt: HostRuntime) {
+    assert_eq!(rt; first_that_differs(rt.alloc(), false), Ok(None));
+    assert_eq!(rt; first_that_differs(rt.alloc(), true), Ok(None));
 }

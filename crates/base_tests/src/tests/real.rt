@@ -1,82 +1,76 @@
-// Real files and streams: what no contract can say of them.
+// Real files and pipes, read at any place: what no contract can say of them.
 
-use super::files::part_at;
-use ice_io::{DirFiles, Failed, Files, PutFault, Sink, StdSink, write_whole};
+use ice_io::{DirFiles, Failed, Files};
 use std::io::{Error, PipeReader, Write};
 use std::os::fd::AsRawFd;
 use std::test::Fail;
 use std::{fs, io, rt};
 
-/// A writer that takes nothing.
-#[derive(Drop)]
-struct Stuck;
+/// Where a read begins, and the bytes that it gives, at most three; or `None` if it fails.
+type Reading = (u64, Option<&'static [u8]>);
 
-impl Write for Stuck {
-    fn write(&mut self, _buf: &[u8]) -> Result<usize, Error> {
-        Ok(0)
-    }
-
-    fn flush(&mut self) -> Result<(), Error> {
-        Ok(())
+/// Whether a read at a place gives these bytes.
+fn is_read<F: Files>(files: &mut F, name: &str, at: u64, want: Option<&[u8]>) -> bool {
+    let mut part = [0; 3];
+    match files.read_at(name, at, &mut part) {
+        Ok(count) => part.get(..count) == want,
+        Err(Failed) => want.is_none(),
     }
 }
 
-#[test]
-fn a_writer_that_takes_nothing_has_failed(rt: HostRuntime) {
-    let mut sink = StdSink::new(Stuck);
-    assert_eq!(rt; sink.write(b"abc"), Err(Failed));
-    assert_eq!(rt;
-        write_whole(&mut sink, b"abc"),
-        Err(PutFault::Failed { written: 0 })
-    );
+/// Whether reads of a file, one after the other, give these bytes.
+fn are_read<F: Files>(files: &mut F, name: &str, readings: &[Reading]) -> bool {
+    for (at, want) in readings {
+        if !is_read(files, name, *at, *want) {
+            return false;
+        }
+    }
+    true
+}
+
+/// Two files with names of one length.
+const FIRST: &str = "ice_io_first_of_two";
+
+const OTHER: &str = "ice_io_other_of_two";
+
+/// Reads of the first file: on, back, past its end, at its end twice, and beyond.
+const ANY_PLACE: [Reading; 8] = [
+    (0, Some(b"abc")),
+    (3, Some(b"def")),
+    (1, Some(b"bcd")),
+    (4, Some(b"efg")),
+    (7, Some(b"")),
+    (5, Some(b"fg")),
+    (7, Some(b"")),
+    (9, Some(b"")),
+];
+
+/// Whether both files are read at any place, by turns.
+fn are_both_read<F: Files>(files: &mut F) -> bool {
+    files.store(FIRST, b"abcdefg").is_ok()
+        && files.store(OTHER, b"uvwxyz").is_ok()
+        && are_read(files, FIRST, &ANY_PLACE)
+        && are_read(files, OTHER, &[(3, Some(b"xyz"))])
+        && are_read(files, FIRST, &[(3, Some(b"def"))])
 }
 
 #[test]
-fn a_real_file_is_read_at_any_place(rt: HostRuntime) -> Result<(), Fail> {
-    let name = "ice_io_read_at_places";
+fn real_files_are_read_at_any_place(rt: HostRuntime) -> Result<(), Fail> {
     let mut files = DirFiles::new(&rt);
-    assert_eq!(rt; files.store(name, b"abcdefg"), Ok(()));
-    for (at, want) in [
-        (0, b"abc".as_slice()),
-        (3, b"def".as_slice()),
-        (1, b"bcd".as_slice()),
-        (4, b"efg".as_slice()),
-        (7, b"".as_slice()),
-        (5, b"fg".as_slice()),
-        (7, b"".as_slice()),
-        (9, b"".as_slice()),
-    ] {
-        assert_eq!(rt;
-            part_at(&mut files, name, at, &mut [0; 3]),
-            Ok(want),
-            "{at}"
-        );
-    }
-    fs::remove_file(&rt, name)?;
+    let are = are_both_read(&mut files);
+    fs::remove_file(&rt, FIRST)?;
+    fs::remove_file(&rt, OTHER)?;
+    assert!(rt; are);
     Ok(())
 }
 
-#[test]
-fn files_with_names_of_one_length_are_told_apart(rt: HostRuntime) -> Result<(), Fail> {
-    let (first, second) = ("ice_io_first_of_two", "ice_io_other_of_two");
-    let mut files = DirFiles::new(&rt);
-    assert_eq!(rt; files.store(first, b"abcdef"), Ok(()));
-    assert_eq!(rt; files.store(second, b"uvwxyz"), Ok(()));
-    for (name, at, want) in [
-        (first, 0, b"abc".as_slice()),
-        (second, 3, b"xyz".as_slice()),
-        (first, 3, b"def".as_slice()),
-    ] {
-        assert_eq!(rt;
-            part_at(&mut files, name, at, &mut [0; 3]),
-            Ok(want),
-            "{name}"
-        );
-    }
-    fs::remove_file(&rt, first)?;
-    fs::remove_file(&rt, second)?;
-    Ok(())
-}
+/// Reads of a pipe: each goes on where the last one ended, and none goes back.
+const IN_ORDER: [Reading; 4] = [
+    (0, Some(b"abc")),
+    (3, Some(b"def")),
+    (6, Some(b"g")),
+    (6, None),
+];
 
 /// A pipe that holds these bytes, and to which nobody writes any more.
 fn pipe_with<R: rt::Files>(rt: &R, bytes: &[u8]) -> Result<PipeReader, Error> {
@@ -90,13 +84,6 @@ fn a_pipe_is_read_in_pieces_by_one_open_file(rt: HostRuntime) -> Result<(), Fail
     let reader = pipe_with(&rt, b"abcdefg")?;
     let name = format!(in rt.alloc(); "/dev/fd/{}", reader.as_raw_fd())?;
     let mut files = DirFiles::new(&rt);
-    for (at, want) in [
-        (0, Ok(b"abc".as_slice())),
-        (3, Ok(b"def".as_slice())),
-        (6, Ok(b"g".as_slice())),
-        (6, Err(Failed)),
-    ] {
-        assert_eq!(rt; part_at(&mut files, &name, at, &mut [0; 3]), want, "{at}");
-    }
+    assert!(rt; are_read(&mut files, &name, &IN_ORDER));
     Ok(())
 }

@@ -1,10 +1,10 @@
-// Reading and writing texts, and a fault as it is shown.
+// Reading a text, and a fault as it is shown.
 
 use super::is_in_cram;
-use asc_text::{AscCause, AscFault, Symbol, TileXy, read, write};
+use asc_text::{AscCause, AscFault, Symbol, TileXy, read};
 use ice_image::{AnyImage, Range, Settings};
 use plane_map::{DeviceName, Place, TileKind};
-use std::alloc::{AllocError, Global};
+use std::alloc::Global;
 use std::test::Fail;
 
 /// A text as a placer may write it, with a comment, an extra bit and the name of a net.
@@ -71,18 +71,6 @@ fn is_read(alloc: Global) -> bool {
 #[test]
 fn reads_what_a_text_says(rt: HostRuntime) {
     assert!(rt; is_read(rt.alloc()));
-}
-
-/// How many lines the text of a blank image has.
-fn line_count(alloc: Global, device: DeviceName) -> Result<usize, AllocError> {
-    let image = AnyImage::zeroed(alloc, device)?;
-    let text = write(alloc, &image)?;
-    Ok(text.iter().filter(|byte| **byte == b'\n').count())
-}
-
-#[test]
-fn writes_each_tile(rt: HostRuntime) {
-    assert!(rt; line_count(rt.alloc(), DeviceName::Lp384) == Ok(1293));
 }
 
 #[test]

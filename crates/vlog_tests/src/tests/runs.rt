@@ -1,72 +1,11 @@
-// Runs of a module with a memory, and of registers with asynchronous set and reset.
+// The lines of a run of registers with asynchronous set and reset.
 
 ghost use Rattle.std.specs.Prelude.{◌<◌, All, length};
 ghost use Rattle.vlog_semantics.specs.Run.{input_names};
 
-use super::MEMORY;
 use std::alloc::{AllocError, Global};
 use vlog_parser::{Module, parse};
-use vlog_run::{Event, Runner, read_events, run_text};
-
-/// Gives the runner the rising edge, if there is an input.
-fn take_edge(runner: &mut Runner) {
-    if runner.inputs() > 0 {
-        runner.run(&[Event { pin: 0, bit: true }]);
-    }
-}
-
-/// Gives the runner the falling edge, if there is an input.
-fn take_end(runner: &mut Runner) {
-    if runner.inputs() > 0 {
-        runner.event(0, false);
-    }
-}
-
-/// The runner of the module after the edges.
-fn runner_after(alloc: Global) -> Option<Runner> {
-    let module = parse(alloc, MEMORY).ok()?;
-    let mut runner = Runner::new(alloc, &module).ok()?;
-    take_edge(&mut runner);
-    take_end(&mut runner);
-    Some(runner)
-}
-
-/// Whether the values by name are those after the edges: of registers, of a word and of a memory.
-fn has_names(runner: &Runner) -> bool {
-    runner.register(b"r") == Some(true)
-        && runner.register_word(b"w") == Some(0x1234)
-        && runner.word(b"m", 5) == Some(0xab34)
-        && runner.register(b"q").is_none()
-}
-
-/// Whether the lists of values are those after the edges.
-fn has_values(runner: &Runner) -> bool {
-    runner.input_bits() == [false].as_slice()
-        && runner.outputs() == [true].as_slice()
-        && runner.registers() == [true].as_slice()
-        && runner.words() == [0x1234_u16].as_slice()
-}
-
-/// The values of the wires.
-fn wires_of(runner: &Runner) -> [bool; 2] {
-    let mut wires = [false; 2];
-    runner.copy_wires(&mut wires);
-    wires
-}
-
-fn is_edge_taken(alloc: Global) -> bool {
-    match runner_after(alloc) {
-        Some(runner) => {
-            has_names(&runner) && has_values(&runner) && wires_of(&runner) == [false, true]
-        }
-        None => false,
-    }
-}
-
-#[test]
-fn shows_what_an_edge_gives(rt: HostRuntime) {
-    assert!(rt; is_edge_taken(rt.alloc()));
-}
+use vlog_run::{Event, read_events, run_text};
 
 /// One register toggles at falling edges of `c`, and `s` sets it asynchronously; another has no clock, and `s` resets it asynchronously.
 const AT_ONCE: &[u8] = b"module m (c, s, q, p);

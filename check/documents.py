@@ -18,7 +18,7 @@ import sys
 from modules import cause_sources, causes
 
 TOP = pathlib.Path(__file__).resolve().parent.parent
-TESTS = ("base_tests", "format_tests", "fabric_tests", "vlog_tests", "sample_images")
+TESTS = ("base_tests", "format_tests", "fabric_tests", "vlog_tests")
 # crates that write messages, and a cause in a literal of theirs
 SPEAKERS = re.compile(r"\w+_tools?|tool_inputs|design_answers")
 SPOKEN = re.compile(r'"(?:: )?([A-Z][a-z][A-Za-z]*)(?: expected \w+| net)? ?"')

@@ -1,2 +1,0 @@
--- bits that are set one after the other
-mod Gained

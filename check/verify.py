@@ -1,5 +1,5 @@
 #!/usr/bin/env python3
-"""Tries iceverify: designs that are equal to their files, files, netlists and modules that are wrong, bits that can't matter, and bad input.
+"""Tries iceverify: designs that are equal to their files, files, netlists and modules that are wrong, bits that can't matter, bad and odd input.
 
 Usage: check/verify.py [--short] [-k FOLDER] [NAME ...]
 
@@ -20,6 +20,7 @@ import os
 import pathlib
 import re
 import shutil
+import signal
 import subprocess
 import sys
 import tempfile
@@ -29,10 +30,11 @@ from modules.programs import TOP, install, missing, program
 
 sys.path.insert(0, str(TOP / "check" / "verify"))
 
+import odd  # noqa: E402
 from device import ENTRIES, Database, Text  # noqa: E402
 from ram_forms import bench  # noqa: E402
 from routes import EQUAL, PACKAGES, Refused, database_path, output_of, package_pins, routed, synthesized  # noqa: E402
-from wrong import MODULES, NETLISTS, TEXTS  # noqa: E402
+from wrong import MODULES, NETLISTS, TEXTS, entry  # noqa: E402
 
 NEEDED = "yosys", "yosys-abc", "nextpnr-ice40", "chipdb"
 DEVICES, SEEDS = ("1k", "8k"), (1, 2, 3)
@@ -42,6 +44,8 @@ SHORT_WRONG = ("a bit of a LUT", "a table of zeros", "a link to a LUT", "an edge
                "a RAM's write mode", "a pin that can't be switched off", "a clock", "a start at 1", "a port more", "data that aren't inverted",
                "an enable of the other edge", "what comes to two buses", "the edge of a divided clock",
                "the other edge of a register")
+SHORT_ODD = "an init that isn't bits", "a bit with a point", "a table that isn't bits", "a parameter more", "a port of a RAM more", \
+    "two bits at a port of one"
 WORKERS = min(4, os.cpu_count() or 1)
 
 
@@ -257,6 +261,154 @@ def check_bad(checks, words, status, said, files=None):
             raise Failure("status %d, it says: %s" % (run.returncode, (run.stdout + run.stderr)[:300]))
 
 
+def check_still(checks, files, words=(), path=None):
+    """A design whose files are changed in what doesn't matter is equal still. path: a folder of programs, in place of the PATH."""
+    work = checks.folder_of("crc", "1k", 1)
+    with tempfile.TemporaryDirectory(dir=checks.folder) as folder:
+        for name in ("top.json", "top.asc", "top.pcf"):
+            change = files.get(name, str)
+            pathlib.Path(folder, name).write_text(change((work / name).read_text()))
+        around = {**os.environ, "PATH": str(path(pathlib.Path(folder, "programs")))} if path else None
+        run = checks.tool("iceverify", ["-p", "top.pcf", "top.json", "top.asc", *words], folder, env=around)
+        expect(run, 0, "equal: ")
+        if run.stderr:
+            raise Failure("it says: %s" % run.stderr[:300])
+
+
+def check_compat(checks, design, wrong=None):
+    """Numbers as `write_json -compat-int` writes them mean what the bits mean. wrong: a change of that netlist, and what is to be told of it."""
+    work = checks.folder_of(design, "1k", 1)
+    with tempfile.TemporaryDirectory(dir=checks.folder) as folder:
+        netlist = pathlib.Path(folder, "compat.json")
+        output_of(["yosys", "-q", "-p", "read_json top.json; write_json -compat-int %s" % netlist], work)
+        if not re.search(r'"(LUT_INIT|PIN_TYPE|READ_MODE)": [0-9]', netlist.read_text()):
+            raise Failure("yosys wrote no numbers")
+        change, said = wrong or (str, ("equal: ",))
+        netlist.write_text(change(netlist.read_text()))
+        expect(checks.tool("iceverify", ["-p", "top.pcf", netlist, "top.asc"], work), 1 if wrong else 0, *said)
+
+
+def check_pipes(checks):
+    """Each input may be standard input, and a pipe, which can be read only once, even where other programs read it too."""
+    work = checks.folder_of("crc", "1k", 1)
+    checks.tool("icepack", ["top.asc", "piped.bin"], work)
+    for words in (["top.pcf", "top.json", "-"], ["top.pcf", "top.json", "top.asc", "-"], ["top.pcf", "-", "top.asc"], ["-", "top.json", "top.asc"]):
+        name = ("top.pcf", "top.json", "top.asc", "piped.bin")[words.index("-")]
+        command = [checks.prefix / "bin/iceverify", "-p", *(word.replace("-", "/dev/stdin") for word in words)]
+        run = subprocess.run(command, cwd=work, capture_output=True, input=(work / name).read_bytes())
+        if run.returncode or not run.stdout.startswith(b"equal: "):
+            raise Failure("%s from a pipe: %s" % (name, (run.stdout + run.stderr).decode(errors="replace")[:300]))
+    with open(work / "top.asc") as file:
+        expect(checks.tool("iceverify", ["-p", "top.pcf", "top.json", "/dev/stdin"], work, stdin=file), 0, "equal: ")
+
+
+def check_signals(checks):
+    """A signal ends it at once, without a line and without its folder, and what it has begun ends too."""
+    work = checks.folder_of("crc", "1k", 1)
+    for number in (signal.SIGHUP, signal.SIGINT, signal.SIGQUIT, signal.SIGTERM):
+        with tempfile.TemporaryDirectory(dir=checks.folder) as folder:
+            place = pathlib.Path(folder)
+            path = odd.programs(place / "programs", yosys="sleep 600 & echo $! >%s/part; mv %s/part %s/sleeper; wait\n" % ((folder,) * 3))
+            (place / "temporary").mkdir()
+            around = {**os.environ, "PATH": "%s:%s" % (path, os.environ["PATH"]), "TMPDIR": str(place / "temporary")}
+            unignored = "import os, signal, sys; signal.signal(%d, signal.SIG_DFL); os.execv(sys.argv[1], sys.argv[1:])" % number
+            run = subprocess.Popen([sys.executable, "-c", unignored, str(checks.prefix / "bin/iceverify"), "top.json", "top.asc"], cwd=work,
+                                   env=around, stdout=subprocess.PIPE, stderr=subprocess.PIPE)
+            try:
+                wait_for((place / "sleeper").exists)
+                run.send_signal(number)
+                said = b"".join(run.communicate(timeout=60))
+            except (Failure, subprocess.TimeoutExpired) as error:
+                run.kill()
+                raise Failure("%s: %s" % (number.name, error)) from None
+            sleeper = pathlib.Path("/proc", (place / "sleeper").read_text().strip(), "status")
+            if run.returncode != -number or said or os.listdir(place / "temporary"):
+                raise Failure("%s: status %d, it says: %s, it leaves: %s" % (number.name, run.returncode, said[:300].decode(errors="replace"),
+                                                                             os.listdir(place / "temporary")))
+            wait_for(lambda: not sleeper.exists() or "State:\tZ" in sleeper.read_text())
+
+
+def wait_for(is_so, seconds=60):
+    """Waits until something is so."""
+    end = time.monotonic() + seconds
+    while not is_so():
+        if time.monotonic() > end:
+            raise Failure("nothing happens")
+        time.sleep(0.02)
+
+
+def check_log(checks):
+    """The folder of --log keeps what iceverify didn't write, and may be that of an earlier run."""
+    work = checks.folder_of("crc", "1k", 1)
+    with tempfile.TemporaryDirectory(dir=checks.folder) as folder:
+        words = ["top.json", "top.asc", "--log", folder]
+        for name in ("iceverify.files", "ports.json", "module.v"):
+            mine = pathlib.Path(folder, name)
+            mine.write_text("mine\n")
+            expect(checks.tool("iceverify", words, work), 4, "iceverify: write failed: %s is there, and no earlier run wrote it" % mine)
+            if mine.read_text() != "mine\n":
+                raise Failure("%s is overwritten" % name)
+            shutil.rmtree(folder)
+            os.mkdir(folder)
+        other = pathlib.Path(folder, "other.v")
+        other.write_text("mine\n")
+        for _ in range(2):
+            expect(checks.tool("iceverify", words, work), 0, "equal: ")
+        if other.read_text() != "mine\n" or "cec.log" not in os.listdir(folder):
+            raise Failure("there are: %s" % " ".join(os.listdir(folder)))
+
+
+def check_names(checks):
+    """Names with odd numbers are names; those with characters that end a line, or move in it, make no line of their own."""
+    work = checks.folder_of("crc", "1k", 1)
+    forged, seen = "\u00b2\u2028\nequal: 24 registers\r\x1b[2J", "\\u2028\\nequal: 24 registers\\r\\x1b[2J"
+    with tempfile.TemporaryDirectory(dir=checks.folder) as folder:
+        place = pathlib.Path(folder)
+        name = "\u00b2" + odd.LONG
+        (place / "top.asc").write_text(re.sub(r"(?m)^(\.sym [0-9]+) crc\[", r"\1 %s[" % name, entry("crc[5]")(checks.text_of("crc")).text()))
+        data = json.loads((work / "top.json").read_text())
+        nets = data["modules"]["crc"]["netnames"]
+        nets[name] = nets.pop("crc")
+        for each, net in nets.items():
+            net["hide_name"] = int(each != name)
+        (place / "top.json").write_text(json.dumps(data))
+        words = ["-p", work / "top.pcf", "top.json", "top.asc"]
+        expect(checks.tool("iceverify", words, place), 1, "differs: register %s[5]" % name, "next value", "where ")
+        nets[forged] = {**nets[name], "hide_name": 0}
+        nets[name]["hide_name"] = 1
+        (place / "top.json").write_text(json.dumps(data))
+        expect(checks.tool("iceverify", words, place, env={**os.environ, "PYTHONIOENCODING": "ascii"}), 1,
+               "differs: register \\xb2%s[5]" % seen, "next value", "where ")
+        data["modules"]["crc"]["cells"][forged] = {"type": "OTHER", "parameters": {}, "connections": {}, "attributes": {}}
+        (place / "cell.json").write_text(json.dumps(data))
+        run = checks.tool("iceverify", ["cell.json", "top.asc"], place)
+        expect(run, 1, "iceverify: the netlist's cell \u00b2%s has the type OTHER" % seen)
+        if len(run.stderr.splitlines()) != 1:
+            raise Failure("it says: %s" % run.stderr[:300])
+
+
+def check_time(checks):
+    """A proof that takes too long, or that abc gives up, isn't decided; what differs all the same is told."""
+    work = checks.folder_of("crc", "1k", 1)
+    changed = "case $2 in miter*) exit ;; esac\n%s \"$@\" | sed 's/Networks are equivalent/Networks are %s/'\n"
+    texts = {"slow": "sleep 600\n", "vague": changed % (shutil.which("yosys-abc"), "UNDECIDED"),
+             "silent": changed % (shutil.which("yosys-abc"), "NOT EQUIVALENT")}
+    with tempfile.TemporaryDirectory(dir=checks.folder) as folder:
+        wrong = pathlib.Path(folder, "wrong.asc")
+        wrong.write_text(entry("crc[5]")(checks.text_of("crc")).text())
+        slow, vague, silent = ({**os.environ, "PATH": "%s:%s" % (odd.programs(pathlib.Path(folder, name), yosys_abc=text), os.environ["PATH"])}
+                               for name, text in texts.items())
+        for around, text, seconds, status, said in (
+                (slow, "top.asc", 1, 7, ("not decided: ", " functions, in 1 second")), (slow, wrong, 1, 1, ("not decided: ", " in 1 second")),
+                (slow, wrong, 1, 1, ("differs: register crc[5]", "next value")), (vague, "top.asc", 60, 7, ("not decided: ", ", since abc gave up")),
+                (silent, "top.asc", 60, 1, ("some differ: ", " functions, and abc can't tell for which values"))):
+            start = time.monotonic()
+            run = checks.tool("iceverify", ["--timeout", str(seconds), "-p", "top.pcf", "top.json", text], work, env=around)
+            expect(run, status, *said)
+            if time.monotonic() - start > 60:
+                raise Failure("it takes %.0f s" % (time.monotonic() - start))
+
+
 def two_tops(text):
     """A netlist with two top modules."""
     data = json.loads(text)
@@ -307,6 +459,33 @@ def add_bad(checks):
             ("an unknown package", ["-d", "none"] + both, 1, "the device has no package none", {}),
             ("a folder that can't be", ["--log", "top.pcf/log"] + both, 4, "write failed: top.pcf/log", {})):
         checks.add("bad input: %s" % name, check_bad, checks, words, status, said, files)
+
+
+def add_odd(checks, is_short):
+    """Adds odd input, and odd ways to run it."""
+    both = ["-p", "top.pcf", "top.json", "top.asc"]
+    arguments = (both + [""], ["--timeout", "0"] + both, ["", "top.asc"], ["top.json", ""], ["--timeout=\u00b2"] + both,
+                 ["--timeout", odd.LONG] + both, ["--timeout", "1.5"] + both, ["--timeout", "1", "--timeout", "1"] + both)
+    for words in arguments[:2] if is_short else arguments:
+        checks.add("bad arguments: %s" % " ".join(word[:9] or "''" for word in words), check_bad, checks, words, 2, "usage: iceverify ")
+    for what, change, said in odd.NETLISTS:
+        if not is_short or what in SHORT_ODD:
+            checks.add("bad input: %s" % what, check_bad, checks, both, 1, said, {"top.json": change})
+    for design in ("kinds",) if is_short else ("kinds", "rams", "servo"):
+        checks.add("equal: numbers for bits in %s" % design, check_compat, checks, design)
+    checks.add("wrong: a start at 1 that is a number", check_compat, checks, "servo",
+               (odd.net("count", init=2), ("register count[1]", "value at the start: the netlist has 1, the file has 0")))
+    checks.add("equal: cells of a newer yosys, which is a script", check_still, checks, {"top.json": odd.changed(odd.scoped)}, (),
+               lambda folder: odd.programs(folder, yosys=odd.newer_yosys()))
+    checks.add("equal: lines of a pin file that name nothing", check_still, checks,
+               {"top.pcf": lambda text: "set_io -nowarn BOARD_CLK 1\nset_io LED 9999\n" + text})
+    checks.add("equal: numbers of nets that are none", check_still, checks,
+               {"top.asc": lambda text: text + ".sym \u00b2 more\n.sym %s more\n" % odd.LONG}, ["../crc_1k_1/top.asc"])
+    checks.add("inputs from pipes", check_pipes, checks)
+    checks.add("signals", check_signals, checks)
+    checks.add("files in the folder of --log", check_log, checks)
+    checks.add("names with odd characters", check_names, checks)
+    checks.add("a proof that takes too long", check_time, checks)
 
 
 def check_other_database(checks):
@@ -365,6 +544,7 @@ def add_all(checks, designs, is_short):
         checks.add("the forms of block RAMs", check_ram_forms, checks, 2000 if is_short else 20000)
     checks.add("pins the other way round", check_swapped_pins, checks)
     add_bad(checks)
+    add_odd(checks, is_short)
     checks.add("a database of another device", check_other_database, checks)
     checks.add("programs that are missing", check_missing, checks)
 

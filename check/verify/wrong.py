@@ -179,6 +179,15 @@ def set_for_reset(netlist):
     return netlist
 
 
+def rising_read(netlist):
+    """Makes a RAM whose ports have falling edges one that reads at rising ones."""
+    cell = cell_of_type(netlist, "rams", "SB_RAM40_4KNRNW")
+    cell["type"] = "SB_RAM40_4KNW"
+    for part in "connections", "port_directions":
+        cell[part]["RCLK"] = cell[part].pop("RCLKN")
+    return netlist
+
+
 def start_at_one(name, index=0):
     """Gives a net of the netlist an `init` of 1."""
     def change(netlist):
@@ -245,7 +254,7 @@ NETLISTS = [
     Wrong("a constant enable", "servo", netlist_cell("servo", ["SB_DFFE"], E=["1"]), ("register want[", "next value"), True),
     Wrong("a RAM's contents", "rams", netlist_cell("rams", ["SB_RAM40_4K"], INIT_7="1" + "0" * 255), ("RAM ", "contents at the start"), True),
     Wrong("a RAM's mode", "rams", netlist_cell("rams", ["SB_RAM40_4K"], READ_MODE="01"), ("RAM ", "bits of a word at the read port"), True),
-    Wrong("a RAM's edge", "rams", netlist_cell("rams", ["SB_RAM40_4KNRNW"], type="SB_RAM40_4KNW"), ("RAM ",), True),
+    Wrong("a RAM's edge", "rams", rising_read, ("RAM ", "edge of the read clock"), True),
     Wrong("a RAM's mask", "rams", netlist_cell("rams", ["SB_RAM40_4K"], WE=["1"]), ("RAM ", "write enable"), True),
     Wrong("a pin's type", "pins", pin_cell("pins", "shown_0", PIN_TYPE="011001"), ("register po_", "the netlist has no partner"), True),
     Wrong("a pin's edge", "pins", pin_cell("pins", "shown_0", NEG_TRIGGER="1"),

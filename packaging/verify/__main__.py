@@ -1,26 +1,28 @@
 """The tool iceverify: what is asked for, the run, and the verdict."""
 import os
+import re
 import shutil
-import signal
 import sys
 import tempfile
 from dataclasses import dataclass
 from pathlib import Path
 from typing import Dict, List, Optional
 
-from building import Builder, SWITCH, drop_idle
-from cells import RAMS, check_kind, kind_of, read_models
+from building import Builder, drop_idle
+from cells import RAMS, SWITCH, check_kind, check_model, kind_of, read_library, read_models
 from circuit import Circuit, Loop, order
 from comparing import Comparison, Difference
 from matching import Matcher
 from module import read_module
 from netlist import Netlist, read_netlist
 from programs import Tools
-from proving import Proof
-from stopping import MEMORY, REFUSED, READING, USAGE, WRITING, Stop
+from proving import NOT_DECIDED, Proof
+from stopping import MEMORY, OPEN, REFUSED, READING, USAGE, WRITING, Signalled, Stop, die, held, ignore_signals, take_signals, visible
 from texts import Place, read_package, read_pins, read_routed
 
-USAGE_LINE = "iceverify [-p PCF [-d PACKAGE]] [--log FOLDER] NETLIST TEXT [BITSTREAM]"
+USAGE_LINE = "iceverify [-p PCF [-d PACKAGE]] [--log FOLDER] [--timeout SECONDS] NETLIST TEXT [BITSTREAM]"
+OPTIONS = "-p", "-d", "--log", "--timeout"
+SECONDS = "60"
 PACKAGES = {"1k": "tq144", "8k": "ct256"}
 DATABASES = "/usr/share/fpga-icestorm/chipdb"
 
@@ -35,6 +37,7 @@ class Request:
     pins: Optional[str] = None
     package: Optional[str] = None
     log: Optional[str] = None
+    seconds: int = int(SECONDS)
 
 
 def request_of(words: List[str]) -> Request:
@@ -48,14 +51,14 @@ def request_of(words: List[str]) -> Request:
         if word == "--":
             names += left
             break
-        option = next((option for option in ("-p", "-d", "--log") if word == option or word.startswith(option)), None)
+        option = next((option for option in OPTIONS if word.startswith(option)), None)
         if option is None:
             if word.startswith("-") and word != "-":
                 raise wrong
             names.append(word)
             continue
         value = word[len(option):]
-        if option == "--log" and value:
+        if option.startswith("--") and value:
             if not value.startswith("="):
                 raise wrong
             value = value[1:]
@@ -64,9 +67,11 @@ def request_of(words: List[str]) -> Request:
         if not value or option in options:
             raise wrong
         options[option] = value
-    if len(names) not in (2, 3) or ("-d" in options and "-p" not in options):
+    seconds = options.get("--timeout", SECONDS)
+    if len(names) not in (2, 3) or "" in names or ("-d" in options and "-p" not in options) or not re.fullmatch("0*[1-9][0-9]{0,4}", seconds):
         raise wrong
-    return Request(names[0], names[1], names[2] if len(names) == 3 else None, options.get("-p"), options.get("-d"), options.get("--log"))
+    return Request(names[0], names[1], names[2] if len(names) == 3 else None, options.get("-p"), options.get("-d"), options.get("--log"),
+                   int(seconds))
 
 
 def database_of(device: str, share: Path) -> str:
@@ -83,7 +88,7 @@ def database_of(device: str, share: Path) -> str:
 
 def module_text(request: Request, database: str, share: Path, tools: Tools) -> str:
     """The module that icebox_vlog writes of the configuration. Raises Stop with what it says if it refuses it."""
-    image = str(Path(request.bitstream or request.text).absolute())
+    image = tools.path(request.bitstream or request.text)
     words = [str(tools.here / "icestorm"), "icebox_vlog", "--used-inputs", "--all-pins", "--register-clocks"]
     words += ["--layout", str((share / "silicon.layout").absolute())]
     ended = tools.run("icebox_vlog", words + ["--", str(Path(database).absolute()), image], "module.v")
@@ -94,8 +99,8 @@ def module_text(request: Request, database: str, share: Path, tools: Tools) -> s
     return ended.stdout.decode(errors="replace")
 
 
-def pins_of(request: Request, device: str, database: str, tools: Tools) -> Dict[Place, str]:
-    """The ports that the pin file names, by their places. Without a pin file there are none."""
+def pins_of(request: Request, device: str, database: str, netlist: Netlist, tools: Tools) -> Dict[Place, str]:
+    """The ports of the netlist that the pin file names, by their places. Without a pin file there are none."""
     if request.pins is None:
         return {}
     package = request.package or PACKAGES.get(device, "")
@@ -104,24 +109,26 @@ def pins_of(request: Request, device: str, database: str, tools: Tools) -> Dict[
             places = read_package(lines, package)
     except (OSError, ValueError):
         raise Stop(READING, "read failed: %s" % database) from None
-    return read_pins(tools.read(request.pins), places, package)
+    return read_pins(tools.read(request.pins), places, package, netlist.ports)
 
 
 def verify(request: Request, tools: Tools) -> int:
     """Compares, prints the verdict, and answers the exit status."""
     netlist = read_netlist(tools.read(request.netlist))
     for cell in netlist.cells:
-        if cell.type != SWITCH:
-            check_kind(cell, netlist.read)
+        check_kind(cell, netlist.read)
     routed = read_routed(tools.read(request.text), request.text)
     share = tools.here.parent / "share" / "icestorm"
     database = database_of(routed.device, share)
-    pins = pins_of(request, routed.device, database, tools)
+    pins = pins_of(request, routed.device, database, netlist, tools)
     tools.progress("icebox_vlog writes the module")
     module = read_module(module_text(request, database, share, tools))
     tools.progress("yosys reads the models of the cells")
+    library = read_library(tools)
+    for cell in netlist.cells:
+        check_model(cell, library[cell.type])
     kinds = list(dict.fromkeys(kind_of(cell) for cell in netlist.cells if cell.type not in RAMS and cell.type != SWITCH))
-    built = Builder(netlist, read_models(kinds, tools) if kinds else {}).build()
+    built = Builder(netlist, read_models(kinds, library, tools) if kinds else {}).build()
     check_loops(built.circuit, "netlist", lambda net: netlist.name(int(net[1:])) if net[1:].isdigit() else net)
     check_loops(module.circuit, "module", str)
     drop_idle(built.circuit)
@@ -132,9 +139,9 @@ def verify(request: Request, tools: Tools) -> int:
     comparison.tell_unmatched()
     tell_others(netlist, built, comparison)
     aside = comparison.tell_unshared()
-    proof = Proof(comparison, tools)
+    proof = Proof(comparison, tools, request.seconds)
     differences = comparison.differences + proof.differences()
-    return report(comparison, differences, aside, proof.undecided, bool(pins))
+    return report(comparison, differences, aside, proof, bool(pins))
 
 
 def check_loops(circuit: Circuit, what: str, shown) -> None:
@@ -160,10 +167,10 @@ def counted(count: int, what: str) -> str:
     return "%d %s%s" % (count, what, "" if count == 1 else "s")
 
 
-def report(comparison: Comparison, differences: List[Difference], aside: int, undecided: int, has_pins: bool) -> int:
-    """Prints the verdict, and answers the exit status. aside: how many functions read what has no partner. undecided: how many are open since
-    so many others differ. has_pins: whether there was a pin file."""
-    if not differences and not aside and not undecided:
+def report(comparison: Comparison, differences: List[Difference], aside: int, proof: Proof, has_pins: bool) -> int:
+    """Prints the verdict, and answers the exit status. aside: how many functions read what has no partner. has_pins: whether there was a pin
+    file."""
+    if not differences and not aside and not proof.left:
         ours = comparison.ours
         write_out("equal: %s, %s, %s\n" % (counted(len(ours.registers), "register"), counted(len(ours.outputs), "output"),
                                            counted(len(ours.memories), "RAM")))
@@ -171,9 +178,12 @@ def report(comparison: Comparison, differences: List[Difference], aside: int, un
     lines = [difference.line() for difference in differences]
     if aside:
         lines.append("not compared: %s, which read what has no partner" % counted(aside, "function"))
-    if undecided:
-        lines.append("not compared: %s, since so many others differ" % counted(undecided, "function"))
-    write_out("".join(line + "\n" for line in lines))
+    if proof.left:
+        lines.append("%s: %s, %s" % (proof.verdict, counted(proof.left, "function"), proof.reason))
+    write_out("".join(visible(line) + "\n" for line in lines))
+    if not differences and not aside and proof.verdict == NOT_DECIDED:
+        complain("whether the netlist and the file are equal isn't known")
+        return OPEN
     complain("the netlist and the file differ" + ("" if has_pins else "; a pin file by -p would say for sure which pin is which port"))
     return REFUSED
 
@@ -181,7 +191,8 @@ def report(comparison: Comparison, differences: List[Difference], aside: int, un
 def write_out(text: str) -> None:
     """Writes to standard output. Raises Stop if that fails."""
     try:
-        sys.stdout.write(text)  # Python has none if it is closed
+        sys.stdout.reconfigure(errors="backslashreplace")  # Python has none if it is closed
+        sys.stdout.write(text)
         sys.stdout.flush()
     except (OSError, AttributeError):
         sys.stdout = None
@@ -202,7 +213,7 @@ def folder_of(request: Request) -> str:
 def complain(line: str) -> None:
     """Writes a line to standard error, if there is one."""
     try:
-        os.write(2, ("iceverify: %s\n" % line).encode(errors="replace"))
+        os.write(2, ("iceverify: %s\n" % visible(line)).encode())
     except OSError:
         pass
 
@@ -216,14 +227,14 @@ def fill_streams() -> None:
             os.open(os.devnull, os.O_RDONLY)
 
 
-def run(words: List[str], here: Path) -> int:
-    """Runs the tool, and answers the exit status. here: the folder of the installed tools."""
-    folder = None
-    request = None
+def attempt(words: List[str], here: Path, folders: List[str]) -> int:
+    """Runs the tool, and answers the exit status. folders: where it notes the folders that are to be removed, which it does at the end."""
     try:
         request = request_of(words)
-        folder = folder_of(request)
-        tools = Tools(Path(folder).absolute(), here)
+        with held():
+            folder = folder_of(request)
+            folders += [folder] if request.log is None else []
+        tools = Tools(Path(folder).absolute(), here, request.log)
         tools.need(["yosys", "yosys-abc"])
         return verify(request, tools)
     except Stop as stop:
@@ -236,11 +247,31 @@ def run(words: List[str], here: Path) -> int:
         complain("it can't go on: %s: %s" % (type(error).__name__, error))
         return READING
     finally:
-        if folder and request and request.log is None:
-            shutil.rmtree(folder, ignore_errors=True)
+        ignore_signals()
+        remove(folders)
+
+
+def remove(folders: List[str]) -> None:
+    """Removes folders, with all that is in them."""
+    for folder in folders:
+        shutil.rmtree(folder, ignore_errors=True)
+
+
+def run(words: List[str], here: Path, is_interrupted: bool) -> int:
+    """Runs the tool, and answers the exit status, or below 0 the signal that ended it. here: the folder of the installed tools. is_interrupted:
+    whether SIGINT ends it, although it is ignored while Python starts."""
+    folders: List[str] = []
+    try:
+        take_signals(is_interrupted)
+        return attempt(words, here, folders)
+    except Signalled as signalled:
+        remove(folders)  # in case it came just before that would have been done
+        return -signalled.number
 
 
 if __name__ == "__main__":
     fill_streams()
-    signal.signal(signal.SIGTERM, lambda *_: sys.exit(143))
-    sys.exit(run(sys.argv[2:], Path(sys.argv[1])))
+    ended = run(sys.argv[3:], Path(sys.argv[2]), sys.argv[1] == "taken")
+    if ended < 0:
+        die(-ended)
+    sys.exit(ended)

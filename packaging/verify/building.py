@@ -2,12 +2,11 @@
 from dataclasses import dataclass, field
 from typing import Dict, List, Optional, Set
 
-from cells import PIN_REGISTERS, PINS, RAMS, CellModel, Kind, kind_of
+from cells import PIN_REGISTERS, PINS, RAMS, SWITCH, CellModel, Kind, kind_of
 from circuit import ONE, ZERO, Circuit, Function, Memory, MemoryPort, Output, Register, constants, order
 from netlist import Bit, Cell, Netlist, Port
 from stopping import REFUSED, Stop
 
-SWITCH = "$_TBUF_"
 GROUPS = (1, 0), (2, 0), (4, 1), (8, 3)  # of each mode of a block RAM: data bit D stands at bit G * D + O of its ports
 DEFAULTS = {"RCLKE": ONE, "WCLKE": ONE}  # of a block RAM's ports that aren't connected; all others are 0
 CHOICE = 0b11001010  # the table of: the second input where the third is 1, else the first
@@ -193,11 +192,12 @@ class Builder:
     def add_switch(self, cell: Cell):
         """Adds a tri-state buffer, which may only drive a port."""
         pins = {name: bits[0] for name, bits in cell.connections.items()}
-        port = self.ports_at.get(pins["Y"])
+        port = self.ports_at.get(pins.get("Y"))
         if port is None:
             raise Stop(REFUSED, "the netlist's tri-state buffer %s doesn't drive a port" % cell.name)
-        self.built.outputs_of.setdefault(pins["A"], []).append(port.name)
-        self.add_switched(port, net(pins["A"]), net(pins["E"]), cell)
+        value, enable = (pins.get(name, "x") for name in "AE")
+        self.built.outputs_of.setdefault(value, []).append(port.name)
+        self.add_switched(port, net(value), net(enable), cell)
 
     def finish_port(self, port: Port):
         """Adds an output, or an inout port that nothing drives, after all cells."""
@@ -215,7 +215,7 @@ class Builder:
 
     def mode(self, cell: Cell, name: str) -> int:
         """A parameter of a block RAM that is a mode."""
-        mode = number_of(dict(cell.parameters).get(name, 0), 32)
+        mode = number_of(dict(cell.parameters).get(name, "0"), 32)
         if mode not in range(4):
             raise Stop(REFUSED, "the netlist's block RAM %s has an unknown %s" % (cell.name, name))
         return mode
@@ -231,7 +231,7 @@ class Builder:
     def add_memory(self, cell: Cell):
         """Adds a block RAM."""
         parameters = dict(cell.parameters)
-        if parameters.get("INIT_FILE", "") not in ("", 0) and set(str(parameters["INIT_FILE"])) != {"0"}:
+        if parameters.get("INIT_FILE", "").strip(" 0"):
             raise Stop(REFUSED, "the netlist's block RAM %s has its contents in a file: %s" % (cell.name, parameters["INIT_FILE"]))
         read, write = (self.memory_port(cell, letter, edge) for letter, edge in zip("RW", RAMS[cell.type]))
         group, first = GROUPS[write.mode]
@@ -239,7 +239,7 @@ class Builder:
         write.mask = self.bits(cell, "MASK", 16) if write.mode == 0 else []
         words = []
         for part in "0123456789ABCDEF":
-            content = number_of(parameters.get("INIT_" + part, 0), 256)
+            content = number_of(parameters.get("INIT_" + part, "0"), 256)
             words += [content >> 16 * place & 0xffff for place in range(16)]
         group, first = GROUPS[read.mode]
         outputs = []
@@ -254,14 +254,11 @@ class Builder:
         self.circuit.memories[cell.name] = Memory(cell.name, read, write, words, outputs, cell.source)
 
 
-def number_of(value, width: int) -> int:
-    """The number of a parameter: a string of bits, the highest first, or a number. A bit that isn't given is 0, as nextpnr has it."""
-    if isinstance(value, int):
-        return value
-    text = "".join("1" if bit == "1" else "0" for bit in value) if set(value) <= set("01xz") else None
-    if not text or len(text) > max(width, 32):
-        raise Stop(REFUSED, "the netlist has a parameter of a block RAM that isn't a number: %s" % value[:40])
-    return int(text, 2)
+def number_of(value: str, width: int) -> int:
+    """The number of a parameter that is a string of bits, the highest first. A bit that isn't given is 0, as nextpnr has it."""
+    if len(value) > max(width, 32):
+        raise Stop(REFUSED, "the netlist has a parameter of a block RAM with more than %d bits" % max(width, 32))
+    return int("".join("1" if bit == "1" else "0" for bit in value), 2)
 
 
 def known_constants(circuit: Circuit, roots: List[str]) -> Dict[str, int]:

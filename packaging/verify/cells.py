@@ -8,7 +8,7 @@ from dataclasses import dataclass, field
 from typing import Dict, List, Optional, Set, Tuple
 
 from circuit import FALLING, RISING, Function
-from netlist import Bit, Cell
+from netlist import NOTHING, WORDS, Bit, Cell, number_bits
 from programs import Tools
 from stopping import READING, REFUSED, Stop
 
@@ -17,6 +17,8 @@ RAMS = {"SB_RAM40_4K": (RISING, RISING), "SB_RAM40_4KNR": (FALLING, RISING), "SB
 PINS = "SB_IO", "SB_GB_IO"
 FLIP_FLOPS = tuple("SB_DFF" + edge + kind for edge in ("", "N") for kind in ("", "E", "SR", "R", "SS", "S", "ESR", "ER", "ESS", "ES"))
 KNOWN = ("SB_LUT4", "SB_CARRY", "SB_GB") + PINS + FLIP_FLOPS
+SWITCH = "$_TBUF_"
+SWITCH_MODEL = {"ports": {name: {"bits": [place]} for place, name in enumerate("AEY", 2)}, "parameter_default_values": {}}
 # the registers of a pin's cell by their names in its model: what icebox_vlog calls those of a pin
 PIN_REGISTERS = {"din_q_0": "pi", "din_q_1": "pj", "clken_pulled_ri": "ci", "dout_q_0": "po", "dout_q_1": "pq", "clken_pulled_ro": "co",
                  "outena_q": "pe"}
@@ -61,20 +63,34 @@ def kind_of(cell: Cell) -> Kind:
 
 def pin_type(cell: Cell) -> str:
     """The PIN_TYPE of a pin's cell, the highest of its six bits first."""
-    value = dict(cell.parameters).get("PIN_TYPE", 0)
-    return (format(value, "b") if isinstance(value, int) else str(value)).lstrip("0").zfill(6)
+    return str(dict(cell.parameters).get("PIN_TYPE", "")).lstrip("0").zfill(6)
 
 
 def check_kind(cell: Cell, read: Set[Bit]) -> None:
     """Raises Stop if the cell isn't one whose meaning is known. read: the bits that something reads."""
-    if cell.type in RAMS:
-        return
-    where = " (%s)" % cell.source if cell.source else ""
-    if cell.type not in KNOWN:
-        raise Stop(REFUSED, "the netlist's cell %s%s has the type %s, which isn't known" % (cell.name, where, cell.type))
+    if cell.type not in KNOWN and cell.type not in RAMS and cell.type != SWITCH:
+        raise Stop(REFUSED, "the netlist's %s has the type %s, which isn't known" % (cell.shown(), cell.type))
+    for name, value in cell.parameters:
+        if not (isinstance(value, str) if name in WORDS else number_bits(value)):
+            raise Stop(REFUSED, "the netlist's %s has a parameter %s that isn't a %s: %s"
+                       % (cell.shown(), name, "word" if name in WORDS else "number", str(value)[:40]))
     fault = pin_fault(cell, read) if cell.type in PINS else ""
     if fault:
-        raise Stop(REFUSED, "the netlist's cell %s%s has %s, which isn't taken" % (cell.name, where, fault))
+        raise Stop(REFUSED, "the netlist's %s has %s, which isn't taken" % (cell.shown(), fault))
+
+
+def check_model(cell: Cell, model: dict) -> None:
+    """Raises Stop if the cell has a parameter or a port that its model hasn't, or more bits at a port. model: as yosys writes it."""
+    ports = {name: len(port["bits"]) for name, port in model["ports"].items()}
+    known = model.get("parameter_default_values")  # old versions of yosys don't write them
+    for name, _ in cell.parameters:
+        if known is not None and name not in known:
+            raise Stop(REFUSED, "the netlist's %s has a parameter %s, which its model hasn't" % (cell.shown(), name))
+    for name, bits in cell.connections.items():
+        if name not in ports:
+            raise Stop(REFUSED, "the netlist's %s has a port %s, which its model hasn't" % (cell.shown(), name))
+        if len(bits) > ports[name]:
+            raise Stop(REFUSED, "the netlist's %s has %d bits at its port %s, where its model has %d" % (cell.shown(), len(bits), name, ports[name]))
 
 
 def pin_fault(cell: Cell, read: Set[Bit]) -> str:
@@ -110,20 +126,17 @@ def instance(kind: Kind, ports: Dict[str, dict]) -> dict:
     """A module with a cell of a kind, and the ports of the cell that are connected."""
     type_name, parameters, connected = kind
     bits = {name: [place] for place, name in enumerate(connected, 2)}
-    for name in connected:
-        if name not in ports or len(ports[name]["bits"]) != 1:
-            raise Stop(REFUSED, "a cell %s of the netlist has a port %s, which its model hasn't" % (type_name, name))
     directions = {name: ports[name]["direction"] for name in connected}
     return {"ports": {name: {"direction": directions[name], "bits": bits[name]} for name in connected}, "netnames": {}, "attributes": {},
             "cells": {"cell": {"type": type_name, "parameters": dict(parameters), "attributes": {}, "port_directions": directions,
                                "connections": bits}}}
 
 
-READ_PORTS = """read_verilog -lib {cells}
-write_json {ports}
+READ_PORTS = """read_verilog -lib -nowb +/ice40/cells_sim.v
+write_json ports.json
 """
-READ_MODELS = """read_verilog {cells}
-read_json {kinds}
+READ_MODELS = """read_verilog cells.v
+read_json kinds.json
 hierarchy
 tribuf
 proc
@@ -131,22 +144,35 @@ flatten
 delete {types} $paramod*
 simplemap
 opt_clean
-write_json {models}
+write_json models.json
 """
 
 
-def read_models(kinds: List[Kind], tools: Tools) -> Dict[Kind, CellModel]:
-    """The models of kinds of cells, by a run of yosys."""
+def read_library(tools: Tools) -> Dict[str, dict]:
+    """The ports and parameters of all models, by the type of the cell, as yosys writes them: it knows where its models are."""
+    modules = json.loads(tools.yosys("ports", READ_PORTS))["modules"]
+    lacking = [name for name in (*KNOWN, *RAMS) if name not in modules]
+    if lacking:
+        raise Stop(READING, "cells_sim.v of yosys has no model of %s" % lacking[0])
+    return {**modules, SWITCH: SWITCH_MODEL}
+
+
+def library_text(library: Dict[str, dict], tools: Tools) -> str:
+    """The text of cells_sim.v, which yosys names as the source of its models."""
+    path = str(library["SB_IO"].get("attributes", {}).get("src", "")).rpartition(":")[0]
+    if not path:
+        raise Stop(READING, "yosys doesn't tell where its models are")
+    return tools.read(tools.folder / path)
+
+
+def read_models(kinds: List[Kind], library: Dict[str, dict], tools: Tools) -> Dict[Kind, CellModel]:
+    """The models of kinds of cells, by a run of yosys. library: what `read_library` gives."""
     types = sorted({type_name for type_name, _, _ in kinds})
     wanted = types + ["SB_IO"] * ("SB_GB_IO" in types and "SB_IO" not in types)
-    library = tools.data_folder() / "ice40" / "cells_sim.v"
-    cells = tools.write("cells.v", model_text(tools.read(library), wanted))
-    tools.yosys("ports", READ_PORTS.format(cells=cells.name, ports="ports.json"))
-    modules = json.loads((tools.folder / "ports.json").read_text())["modules"]
-    made = {"kind%d" % place: instance(kind, modules[kind[0]]["ports"]) for place, kind in enumerate(kinds)}
+    tools.write("cells.v", model_text(library_text(library, tools), wanted))
+    made = {"kind%d" % place: instance(kind, library[kind[0]]["ports"]) for place, kind in enumerate(kinds)}
     tools.write("kinds.json", json.dumps({"creator": "iceverify", "modules": made}))
-    tools.yosys("models", READ_MODELS.format(cells=cells.name, kinds="kinds.json", types=" ".join(wanted), models="models.json"))
-    modules = json.loads((tools.folder / "models.json").read_text())["modules"]
+    modules = json.loads(tools.yosys("models", READ_MODELS.format(types=" ".join(wanted))))["modules"]
     return {kind: Extraction(kind[0], modules["kind%d" % place]).model() for place, kind in enumerate(kinds)}
 
 
@@ -166,6 +192,8 @@ class Extraction:
         self.starts = {bit: int(start) for net in module["netnames"].values()
                        for bit, start in zip(net["bits"], reversed(net.get("attributes", {}).get("init", ""))) if start in "01"}
         for cell in module["cells"].values():
+            if cell["type"] in NOTHING:
+                continue
             self.take(cell["type"], {port: bits[0] for port, bits in cell["connections"].items()})
         for name, port in self.ports.items():
             if port["direction"] == "input":
@@ -188,7 +216,7 @@ class Extraction:
             self.registers[name] = {"gate": gate, **pins}
         elif gate == "$_DLATCH_P_" and pins["E"] == "1":  # a latch that is always open
             self.gates[pins["Q"]] = [pins["D"]], 0b10
-        elif gate == "$_TBUF_":
+        elif gate == SWITCH:
             self.switches[pins["Y"]] = pins
         else:
             raise Stop(REFUSED, "the model of %s has a cell %s, which isn't taken" % (self.type_name, gate))

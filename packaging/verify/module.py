@@ -65,7 +65,7 @@ def net(atom: str) -> str:
 
 def number(name: str) -> Optional[int]:
     """The number of the net whose wire has that name."""
-    return int(name[2:]) if re.fullmatch(r"n_\d+", name) else None
+    return int(name[2:]) if re.fullmatch("n_[0-9]{1,9}", name) else None
 
 
 class Reader:
@@ -310,7 +310,7 @@ def read_module(text: str) -> Module:
     for count, line in enumerate(lines[1:-1], 2):
         try:
             is_taken = line.startswith("  ") and reader.line(line[2:])
-        except (KeyError, IndexError):
+        except (KeyError, IndexError, ValueError):
             is_taken = False
         if not is_taken:
             raise Stop(REFUSED, "line %d of the module has a form that isn't known: %s" % (count, line.strip()[:60]))

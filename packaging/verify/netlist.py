@@ -9,17 +9,24 @@ from stopping import REFUSED, Stop
 
 Bit = Union[int, str]
 NOTHING = "$scopeinfo",  # cells without pins, which newer versions of yosys write
+CONSTANTS = "0", "1", "x", "z"
+WORDS = "IO_STANDARD", "INIT_FILE"  # the parameters that aren't numbers
 
 
 @dataclass(frozen=True)
 class Cell:
-    """A cell. connections: the bits at each of its ports, the lowest first. source: FILE:LINE, or nothing."""
+    """A cell. parameters: a number is a string of bits, the highest first. connections: the bits at each of its ports, the lowest first.
+    source: FILE:LINE, or nothing."""
 
     name: str
     type: str
     parameters: Tuple[Tuple[str, object], ...]
     connections: Dict[str, List[Bit]] = field(hash=False)
     source: str = ""
+
+    def shown(self) -> str:
+        """The cell by its name and its place in the source."""
+        return "cell %s%s" % (self.name, " (%s)" % self.source if self.source else "")
 
 
 @dataclass(frozen=True)
@@ -52,6 +59,8 @@ class Netlist:
 def bit_name(name: str, index: int, data: dict) -> str:
     """The name of one bit of a port or a net, as nextpnr has it: without an index if it is the only one."""
     count, offset = len(data["bits"]), data.get("offset", 0)
+    if type(offset) is not int:
+        raise ValueError(offset)
     if count == 1 and offset == 0:
         return name
     return "%s[%d]" % (name, offset + (count - 1 - index if data.get("upto") else index))
@@ -90,12 +99,32 @@ def visible_first(name: str, data: dict):
     return bool(data.get("hide_name")), name.startswith("$"), len(name), name
 
 
+def number_bits(value) -> str:
+    """A parameter or an attribute as bits, the highest first: a string of them, or a number of 32 bits, which yosys writes with `-compat-int`.
+    Nothing if it is neither."""
+    if type(value) is int and -(1 << 31) <= value < 1 << 32:
+        return format(value & 0xffffffff, "032b")
+    return value if isinstance(value, str) and re.fullmatch("[01xz]+", value) else ""
+
+
+def known_bits(bits: list, what: str) -> List[Bit]:
+    """The bits of a net, or at a port. Raises Stop if one is neither a number of a net nor a constant."""
+    if not isinstance(bits, list):
+        raise ValueError(bits)
+    for bit in bits:
+        if bit not in CONSTANTS and (type(bit) is not int or bit < 0):
+            raise Stop(REFUSED, "the netlist's %s has a bit that isn't known: %s" % (what, str(bit)[:40]))
+    return bits
+
+
 def add_names(netlist: Netlist, nets: dict) -> None:
-    """Takes the names of the bits of a module, and what its attributes say of them."""
+    """Takes the names of the bits of a module, and what its attributes say of them. Raises Stop if an `init` is no number."""
     for name, data in sorted(nets.items(), key=lambda item: visible_first(*item)):
         attributes = data.get("attributes", {})
-        start, source = str(attributes.get("init", "")), source_of(attributes)
-        for index, bit in enumerate(data["bits"]):
+        start, source = number_bits(attributes.get("init", "x")), source_of(attributes)
+        if not start:
+            raise Stop(REFUSED, "the netlist's net %s has an init that isn't a number: %s" % (name, str(attributes["init"])[:40]))
+        for index, bit in enumerate(known_bits(data["bits"], "net %s" % name)):
             full = bit_name(name, index, data)
             netlist.bits.setdefault(full, bit)
             if isinstance(bit, int):
@@ -117,11 +146,23 @@ def once(pairs: list) -> dict:
 def add_ports(netlist: Netlist, ports: dict) -> None:
     """Takes the ports of the top module, bit by bit. Raises Stop if two bits have one name."""
     for name, data in ports.items():
-        for index, bit in enumerate(data["bits"]):
+        for index, bit in enumerate(known_bits(data["bits"], "port %s" % name)):
             port = Port(bit_name(name, index, data), data["direction"], bit)
             if port.name in netlist.ports or port.direction not in ("input", "output", "inout"):
                 raise Stop(REFUSED, "the netlist has two ports %s, or one without a direction" % port.name)
             netlist.ports[port.name] = port
+
+
+def cell_of(name: str, data: dict) -> Cell:
+    """A cell, with numbers among its parameters as bits. Raises Stop if a bit at a port isn't known."""
+    if not isinstance(data["type"], str):
+        raise ValueError(data["type"])
+    parameters = {parameter: number_bits(value) or value for parameter, value in data["parameters"].items()}
+    cell = Cell(name, data["type"], tuple(sorted(parameters.items())), {}, source_of(data.get("attributes", {})))
+    for port, bits in data["connections"].items():
+        if known_bits(bits, "%s at its port %s" % (cell.shown(), port)):
+            cell.connections[port] = bits
+    return cell
 
 
 def find_read(netlist: Netlist) -> None:
@@ -142,9 +183,7 @@ def read_netlist(text: str) -> Netlist:
         add_ports(netlist, top["ports"])
         for name, data in top["cells"].items():
             if data["type"] not in NOTHING:
-                netlist.cells.append(Cell(name, data["type"], tuple(sorted(data["parameters"].items())),
-                                          {port: bits for port, bits in data["connections"].items() if bits},
-                                          source_of(data.get("attributes", {}))))
+                netlist.cells.append(cell_of(name, data))
         find_read(netlist)
     except json.JSONDecodeError as error:
         raise Stop(REFUSED, "the netlist isn't JSON: line %d: %s" % (error.lineno, error.msg)) from None

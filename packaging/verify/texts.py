@@ -1,7 +1,7 @@
 """Reads what iceverify needs of a routed text, of a pin file and of a chip database."""
 import re
 from dataclasses import dataclass
-from typing import Dict, Iterable, List, Tuple
+from typing import Container, Dict, Iterable, List, Tuple
 
 from stopping import REFUSED, Stop
 
@@ -19,11 +19,11 @@ class Routed:
 def read_routed(text: str, name: str) -> Routed:
     """The device and the names of nets of a routed text. Raises Stop if it has none."""
     device, names = "", {}
-    for line in text.splitlines():
+    for line in text.split("\n"):
         words = line.split(None, 2)
         if words[:1] == [".device"] and len(words) > 1 and not device:
             device = words[1]
-        elif words[:1] == [".sym"] and len(words) == 3 and words[1].isdigit():
+        elif words[:1] == [".sym"] and len(words) == 3 and re.fullmatch("[0-9]{1,9}", words[1]):
             names.setdefault(int(words[1]), []).append(words[2].rstrip())
     if not device:
         raise Stop(REFUSED, "%s names no device: it isn't what nextpnr writes with --asc" % name)
@@ -48,12 +48,12 @@ def read_package(database: Iterable[str], package: str) -> Dict[str, Place]:
     return places
 
 
-def read_pins(text: str, places: Dict[str, Place], package: str) -> Dict[Place, str]:
-    """The name of the port at each place that a pin file names. A line whose pin or name an earlier line has doesn't count. Raises Stop at its
-    first faulty line."""
+def read_pins(text: str, places: Dict[str, Place], package: str, known: Container[str]) -> Dict[Place, str]:
+    """The name of the port at each place that a pin file names. A line whose name isn't known doesn't count, nor does one whose pin or name an
+    earlier line has. Raises Stop at its first faulty line."""
     ports: Dict[Place, str] = {}
     given = set()
-    for count, line in enumerate(text.splitlines(), 1):
+    for count, line in enumerate(text.split("\n"), 1):
         words = line.split("#")[0].split()
         if not words or words[0] == "set_frequency":
             continue
@@ -63,6 +63,8 @@ def read_pins(text: str, places: Dict[str, Place], package: str) -> Dict[Place, 
         name, pin = named[:2]
         if not places:
             raise Stop(REFUSED, "pin file line %d: the device has no package %s" % (count, package))
+        if name not in known:
+            continue
         if pin not in places:
             raise Stop(REFUSED, "pin file line %d: the package %s has no pin %s" % (count, package, pin))
         if places[pin] not in ports and name not in given:

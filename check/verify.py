@@ -26,7 +26,7 @@ import sys
 import tempfile
 import time
 
-from modules.programs import TOP, install, missing, program
+from modules.programs import TOP, install, missing, program, stock
 
 sys.path.insert(0, str(TOP / "check" / "verify"))
 
@@ -43,7 +43,8 @@ SHORT_DESIGNS = ("crc", "1k", 1), ("servo", "1k", 1), ("rams", "1k", 1), ("pins"
 SHORT_WRONG = ("a bit of a LUT", "a table of zeros", "a link to a LUT", "an edge", "a carry's set bit", "an enable", "a RAM's contents",
                "a RAM's write mode", "a pin that can't be switched off", "a clock", "a start at 1", "a port more", "data that aren't inverted",
                "an enable of the other edge", "what comes to two buses", "the edge of a divided clock",
-               "the other edge of a register")
+               "the other edge of a register", "a column buffer", "an input buffer", "a pull-up more", "a RAM that is off",
+               "a bit without a meaning", "all column buffers", "an input buffer of an HX8K", "a pull-up of an HX8K")
 SHORT_ODD = "an init that isn't bits", "a bit with a point", "a table that isn't bits", "a parameter more", "a port of a RAM more", \
     "two bits at a port of one"
 WORKERS = min(4, os.cpu_count() or 1)
@@ -104,24 +105,25 @@ class Checks:
         return subprocess.run(command, cwd=work, capture_output=True, text=True, **more)
 
     def database(self, device):
+        """The chip database of a device; that of an HX8K, which is long, without its nets."""
         if device not in self.databases:
-            self.databases[device] = Database(database_path(device))
+            self.databases[device] = Database(database_path(device), device == "1k")
         return self.databases[device]
 
     def folder_of(self, design, device, seed):
         return self.folder / ("%s_%s_%d" % (design, device, seed))
 
-    def text_of(self, design):
-        """The text of a design on an HX1K, with the places of its pins."""
-        if design not in self.texts:
-            work = self.folder_of(design, "1k", 1)
-            text = Text((work / "top.asc").read_text(), self.database("1k"))
-            pins = package_pins(database_path("1k"), PACKAGES["1k"])
+    def text_of(self, design, device="1k"):
+        """The text of a design, with the places of its pins."""
+        if (design, device) not in self.texts:
+            work = self.folder_of(design, device, 1)
+            text = Text((work / "top.asc").read_text(), self.database(device))
+            pins = package_pins(database_path(device), PACKAGES[device])
             words = [line.split() for line in (work / "top.pcf").read_text().splitlines()]
-            text.pins = {name: tuple(int(part) for part in pins[pin].split("_")[1:]) for _, name, pin in words}
-            self.texts[design] = text
-        text = self.texts[design].copy()
-        text.pins = self.texts[design].pins
+            text.pins = {name: tuple(int(part) for part in pins[pin].split("_")[1:]) for *_, name, pin in words}
+            self.texts[design, device] = text
+        text = self.texts[design, device].copy()
+        text.pins = self.texts[design, device].pins
         return text
 
 
@@ -154,7 +156,7 @@ def check_edges(checks, device):
 
 def check_wrong(checks, wrong, by_bitstream=False):
     """Something wrong is told by its name."""
-    work = checks.folder_of(wrong.design, "1k", 1)
+    work = checks.folder_of(wrong.design, wrong.device, 1)
     with tempfile.TemporaryDirectory(dir=checks.folder) as folder:
         place = pathlib.Path(folder)
         netlist, words = work / "top.json", [work / "top.asc"]
@@ -162,7 +164,7 @@ def check_wrong(checks, wrong, by_bitstream=False):
             netlist = place / "wrong.json"
             netlist.write_text(json.dumps(wrong.change(json.loads((work / "top.json").read_text()))))
         else:
-            (place / "wrong.asc").write_text(wrong.change(checks.text_of(wrong.design)).text())
+            (place / "wrong.asc").write_text(wrong.change(checks.text_of(wrong.design, wrong.device)).text())
             words = [place / "wrong.asc"]
         if by_bitstream:
             checks.tool("icepack", ["wrong.asc", "wrong.bin"], place)
@@ -181,7 +183,8 @@ def check_wrong_module(checks, wrong):
         (prefix / "share").symlink_to(checks.prefix / "share")
         (prefix / "bin").mkdir()
         shutil.copy(checks.prefix / "bin/iceverify", prefix / "bin")
-        (prefix / "bin/icestorm").write_text("#!/bin/sh\nexec cat '%s'\n" % (prefix / "wrong.v"))
+        (prefix / "bin/icestorm").write_text("#!/bin/sh\n[ $1 = icebox_vlog ] || exec '%s' \"$@\"\nexec cat '%s'\n"
+                                             % (checks.prefix / "bin/icestorm", prefix / "wrong.v"))
         (prefix / "bin/icestorm").chmod(0o755)
         expect(checks.tool("iceverify", ["-p", "top.pcf", "top.json", "top.asc"], work, prefix), 1, *wrong.said)
 
@@ -222,6 +225,25 @@ def check_older(checks):
     synthesized("servo", work, ("10'd17", "10'd16"))
     newer = checks.folder_of("servo", "1k", 1)
     expect(checks.tool("iceverify", ["-p", newer / "top.pcf", "top.json", newer / "top.asc"], work), 1, "register count[0]", "next value")
+
+
+def with_contents(netlist, bit):
+    """Gives all bits of the RAMs of a netlist the same contents: 0, or x for open."""
+    for cell in netlist["modules"]["rams"]["cells"].values():
+        if cell["type"].startswith("SB_RAM40_4K"):
+            cell["parameters"].update({"INIT_" + digit: bit * 256 for digit in "0123456789ABCDEF"})
+    return netlist
+
+
+def check_unloaded(checks):
+    """A bitstream that loads no RAM contents is told where the netlist has some, though they are zeros, and is equal where it leaves them open."""
+    work = checks.folder_of("rams", "1k", 1)
+    netlist = json.loads((work / "top.json").read_text())
+    with tempfile.TemporaryDirectory(dir=checks.folder) as folder:
+        output_of([stock("icepack"), "-n", work / "top.asc", "bare.bin"], folder)
+        for bit, status, said in ("0", 1, "contents at the start: the file doesn't load them"), ("x", 0, "equal: "):
+            pathlib.Path(folder, "bare.json").write_text(json.dumps(with_contents(netlist, bit)))
+            expect(checks.tool("iceverify", ["-p", work / "top.pcf", "bare.json", work / "top.asc", "bare.bin"], folder), status, said)
 
 
 def check_swapped_pins(checks):
@@ -542,6 +564,10 @@ def add_all(checks, designs, is_short):
         checks.skip("the forms of block RAMs", lacking)
     else:
         checks.add("the forms of block RAMs", check_ram_forms, checks, 2000 if is_short else 20000)
+    if stock("icepack"):
+        checks.add("contents of RAMs that aren't loaded", check_unloaded, checks)
+    else:
+        checks.skip("contents of RAMs that aren't loaded", ["stock icepack"])
     checks.add("pins the other way round", check_swapped_pins, checks)
     add_bad(checks)
     add_odd(checks, is_short)

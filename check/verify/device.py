@@ -7,17 +7,20 @@ CARRY, SETS, AT_ONCE = 8, 18, 19
 
 
 class Database:
-    """functions: of each kind of tile, of each function, its bits as pairs of a row and a column. links: of each net that links lead to, the
-    tile, the bits, and of each of the values its source. nets: the number of each name in a tile."""
+    """functions: of each kind of tile, of each function, its bits as pairs of a row and a column. columns: of each tile, the one that has its
+    column buffers. enables: of each pin, the place whose bits IE and REN are its own. links: of each net that links lead to, the tile, the bits,
+    and of each of the values its source. nets: the number of each name in a tile. Without has_nets the last two are left out."""
 
-    def __init__(self, path):
-        self.functions, self.links, self.nets = {}, {}, {}
+    def __init__(self, path, has_nets=True):
+        self.functions, self.links, self.nets, self.columns, self.enables = {}, {}, {}, {}, {}
         statement, words = "", []
         with open(path) as lines:
             for line in lines:
                 if line.startswith("."):
                     words = line.split()
                     statement = words[0]
+                    if statement == ".net" and not has_nets:
+                        break
                     if statement in (".buffer", ".routing"):
                         link = ((int(words[1]), int(words[2])), bits_of(words[4:]), {})
                         self.links.setdefault(int(words[3]), []).append(link)
@@ -26,7 +29,12 @@ class Database:
 
     def take(self, statement, words, entry, line):
         """Takes a line below a statement."""
-        if statement == ".net":
+        if statement == ".colbuf":
+            self.columns[int(entry[2]), int(entry[3])] = int(entry[0]), int(entry[1])
+        elif statement == ".ieren":
+            place = tuple(int(word) for word in entry)
+            self.enables[place[:3]] = place[3:]
+        elif statement == ".net":
             self.nets[(int(entry[0]), int(entry[1]), entry[2])] = int(words[1])
         elif statement in (".buffer", ".routing"):
             self.links[int(words[3])][-1][2][entry[0]] = int(entry[1])
@@ -82,10 +90,18 @@ class Text:
 
     def link_on(self, net):
         """The tile and the bits that are 1 of the link to a net that is on, or None."""
-        for tile, bits, sources in self.database.links.get(net, []):
-            if "".join(str(self.bit(tile, place)) for place in bits) in sources:
-                return tile, [place for place in bits if self.bit(tile, place)]
+        for link in self.database.links.get(net, []):
+            if self.values(link) in link[2]:
+                return link[0], [place for place in link[1] if self.bit(link[0], place)]
         return None
+
+    def source(self, net):
+        """The source of the link to a net that is on."""
+        return next(link[2][self.values(link)] for link in self.database.links[net] if self.values(link) in link[2])
+
+    def values(self, link):
+        """The values of the bits of a link."""
+        return "".join(str(self.bit(link[0], place)) for place in link[1])
 
     def net(self, tile, name):
         return self.database.nets.get((*tile, name))

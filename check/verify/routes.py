@@ -12,6 +12,7 @@ EQUAL = "crc", "servo", "memories", "rams", "pins", "kinds", "buses", "globals",
 APART = "pins", "kinds"  # the designs of whose pins no two are in one tile
 # a port that needs a pin which drives a global net, one that needs the first pin of a pair, and one that no pin file names
 GLOBAL_PORT, PAIR_PORT, FREE_PORT = "pad", "pair", "unused"
+PULLED_PORT = "off"  # a port whose pin has a pull-up
 
 
 def database_path(device):
@@ -59,6 +60,7 @@ def pinned(name, device, work):
         pins = {pin: place for pin, place in pins.items() if place.rpartition("_")[0] != tile}
     chosen.update(chosen_pins([port for port in names if port not in chosen and port != FREE_PORT], pins, name in APART))
     write_pins(chosen, work)
+    (work / "top.pcf").write_text((work / "top.pcf").read_text().replace("set_io %s " % PULLED_PORT, "set_io -pullup yes %s " % PULLED_PORT))
 
 
 def routed(name, device, seed, source, work):

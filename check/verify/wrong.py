@@ -11,13 +11,14 @@ from device import AT_ONCE, CARRY, ENTRIES, SETS
 class Wrong:
     """Something that is wrong. what: in words. design: the name of the design. change: makes of a Text, of a netlist as a dict, or of a module
     and the places of the design's ports as X_Y_N, the wrong one. said: words that a line about it has. is_netlist: whether the netlist is changed
-    and not the text."""
+    and not the text. device: that of the text; of an HX8K the text has no nets."""
 
     what: str
     design: str
     change: Callable
     said: tuple
     is_netlist: bool = False
+    device: str = "1k"
 
 
 def entry(name, number=0):
@@ -108,6 +109,52 @@ def pin_link_off(port, name):
         link_tile, bits = text.link_on(text.net(tile, name))
         return text.flip(link_tile, *bits)
     return change
+
+
+def column_off(net, tile_of):
+    """Turns off the column buffer of the global net that a net of a tile comes from. `tile_of` gives the tile of a Text."""
+    def change(text):
+        tile = tile_of(text)
+        names = [text.net(tile, "glb_netwk_%d" % number) for number in range(8)]
+        column = text.database.columns[tile]
+        return text.flip(column, *text.function(column, "ColBufCtrl.glb_netwk_%d" % names.index(text.source(text.net(tile, net)))))
+    return change
+
+
+def all_columns_off(text):
+    """Turns off the column buffers of all tiles."""
+    for tile in sorted(set(text.database.columns.values()) & set(text.tiles)):
+        text.flip(tile, *[text.function(tile, "ColBufCtrl.glb_netwk_%d" % number)[0] for number in range(8)])
+    return text
+
+
+def pin_setting(port, name):
+    """Turns the bit of the pin of a port that is called after IoCtrl.NAME."""
+    def change(text):
+        x, y, number = text.database.enables[text.pins[port]]
+        return text.flip((x, y), *text.function((x, y), "IoCtrl.%s_%d" % (name, number)))
+    return change
+
+
+def bit_of(name, row, column):
+    """Turns a bit of the tile of a register."""
+    return lambda text: text.flip(text.cell_of(name)[:2], (row, column))
+
+
+def extra_bit(text):
+    """Sets an extra bit."""
+    text.lines.append(".extra_bit 0 0 0")
+    return text
+
+
+def link_from_nowhere(text):
+    """Gives the bits of a link that is off a value that has no source."""
+    for _, links in sorted(text.database.links.items()):
+        for tile, bits, sources in links:
+            value = "1" + "0" * (len(bits) - 1)
+            if "1" not in text.values((tile, bits, sources)) and value not in sources:
+                return text.flip(tile, bits[0])
+    raise KeyError("a link with a value that has no source")
 
 
 def cell_of_type(netlist, design, *types):
@@ -246,6 +293,28 @@ TEXTS = [
     Wrong("a bus without its register", "kinds", pin_type("b2", 0), ("register din_q_0 of the pin cell bus_2", "no partner")),
     Wrong("the edge of a divided clock", "dividers", tile_function("late[0]", "NegClk"), ("register late[0]", "edge of the clock")),
     Wrong("a divided clock that is off", "dividers", link_off("late[2]", "clk"), ("register late[2]", "clock")),
+    Wrong("a column buffer", "crc", column_off("lutff_global/clk", lambda text: text.cell_of("full")[:2]),
+          ("column buffer of glb_netwk_", "it is off, and tile ")),
+    Wrong("the column buffer of a RAM's clock", "rams", column_off("ram/RCLK", lambda text: (min(text.rams)[0], min(text.rams)[1] + 1)),
+          ("column buffer of glb_netwk_", "it is off, and tile ")),
+    Wrong("the column buffer of a pin's clock", "pins", column_off("io_global/outclk", lambda text: text.pins["o0"][:2]),
+          ("column buffer of glb_netwk_", "it is off, and tile ")),
+    Wrong("an input buffer", "crc", pin_setting("clk", "IE"), ("input buffer of clk at io_", "it is off, and tile ")),
+    Wrong("the input buffer of a global pin", "globals", pin_setting("pad", "IE"), ("input buffer of pad at io_", "it is off, and glb_netwk_")),
+    Wrong("the input buffer of a pin that is read back", "kinds", pin_setting("back", "IE"), ("input buffer of back at io_", "it is off, and tile ")),
+    Wrong("a pull-up more", "crc", pin_setting("rst", "REN"), ("pull-up of rst at io_", "the netlist has it off, the file has it on")),
+    Wrong("a pull-up less", "pins", pin_setting("t1", "REN"), ("pull-up of t1 at io_", "(top.v:", "the netlist has it on, the file has it off")),
+    Wrong("a pull-up of the pin file less", "pins", pin_setting("off", "REN"),
+          ("pull-up of off at io_", "the pin file has it on, the file has it off")),
+    Wrong("a pin in place of a pair", "kinds", pin_function("pair", "IoCtrl.LVDS"), ("pair of pins with pair at io_", "the file has it off")),
+    Wrong("a RAM that is off", "rams", ram_function("ramb", "RamConfig.PowerUp"), ("RAM ", "power-up", "the file has it off")),
+    Wrong("a bit without a meaning", "crc", bit_of("full", 11, 49), ("bit B11[49] of logic tile ", "the chip database knows no such bit")),
+    Wrong("an extra bit without a meaning", "crc", extra_bit, ("extra bit 0 0 0", "the chip database knows no such bit")),
+    Wrong("a link from nowhere", "crc", link_from_nowhere, ("bit B", "the chip database knows no such bit")),
+    Wrong("all column buffers", "machine", all_columns_off, ("column buffer of glb_netwk_", "it is off, and tile "), device="8k"),
+    Wrong("an input buffer of an HX8K", "machine", pin_setting("clk", "IE"), ("input buffer of clk at io_", "it is off, and tile "), device="8k"),
+    Wrong("a pull-up of an HX8K", "machine", pin_setting("go", "REN"), ("pull-up of go at io_", "the file has it on"), device="8k"),
+    Wrong("a RAM that is off in an HX8K", "rams", ram_function("ramb", "RamConfig.PowerUp"), ("RAM ", "the file has it off"), device="8k"),
 ]
 NETLISTS = [
     Wrong("another table", "crc", netlist_cell("crc", ["SB_LUT4"], LUT_INIT="0" * 16), ("differs: ",), True),
@@ -259,6 +328,9 @@ NETLISTS = [
     Wrong("a pin's type", "pins", pin_cell("pins", "shown_0", PIN_TYPE="011001"), ("register po_", "the netlist has no partner"), True),
     Wrong("a pin's edge", "pins", pin_cell("pins", "shown_0", NEG_TRIGGER="1"),
           ("register dout_q_0 of the pin cell shown_0", "edge of the clock"), True),
+    Wrong("a pin's pull-up", "pins", pin_cell("pins", "switched_1", PULLUP="0"), ("pull-up of t1 at io_", "the file has it on"), True),
+    Wrong("a pair of pins", "kinds", pin_cell("kinds", "of_two", IO_STANDARD="SB_LVCMOS"),
+          ("pair of pins with pair at io_", "the file has it on"), True),
     Wrong("a start at 1", "servo", start_at_one("slow"), ("differs: ", "start"), True),
     Wrong("a port more", "crc", extra_port, ("output more", "no partner"), True),
     Wrong("a port less", "crc", no_port, ("of the file", "the netlist has no partner"), True),

@@ -6,17 +6,20 @@ import sys
 import tempfile
 from dataclasses import dataclass
 from pathlib import Path
-from typing import Dict, List, Optional
+from typing import Dict, List, Optional, Tuple
 
 from building import Builder, drop_idle
 from cells import RAMS, SWITCH, check_kind, check_model, kind_of, read_library, read_models
+from chip import read_chip
 from circuit import Circuit, Loop, order
 from comparing import Comparison, Difference
+from image import read_image
 from matching import Matcher
 from module import read_module
 from netlist import Netlist, read_netlist
 from programs import Tools
 from proving import NOT_DECIDED, Proof
+from settings import Settings, places_of, read_pulled
 from stopping import MEMORY, OPEN, REFUSED, READING, USAGE, WRITING, Signalled, Stop, die, held, ignore_signals, take_signals, visible
 from texts import Place, read_package, read_pins, read_routed
 
@@ -25,6 +28,17 @@ OPTIONS = "-p", "-d", "--log", "--timeout"
 SECONDS = "60"
 PACKAGES = {"1k": "tq144", "8k": "ct256"}
 DATABASES = "/usr/share/fpga-icestorm/chipdb"
+# runs icebox_vlog and icebox_explain side by side: both read the whole database. The words: the program, the layout, the database, the image
+BOTH = """"$1" icebox_explain --layout "$2" -- "$3" "$4" >explained.txt 2>icebox_explain.log &
+"$1" icebox_vlog --used-inputs --all-pins --register-clocks --layout "$2" -- "$3" "$4"
+status=$?
+wait $!
+explained=$?
+[ $status -eq 0 ] || exit $status
+[ $explained -eq 0 ] || cat icebox_explain.log >&2
+exit $explained
+"""
+NEVER_COMPARED = "never compared: timing, power-up, analogue settings of pins"
 
 
 @dataclass
@@ -86,30 +100,33 @@ def database_of(device: str, share: Path) -> str:
     raise Stop(READING, "there is no %s in %s" % (name, folder if folder else "%s or %s" % (share / "chipdb", DATABASES)))
 
 
-def module_text(request: Request, database: str, share: Path, tools: Tools) -> str:
-    """The module that icebox_vlog writes of the configuration. Raises Stop with what it says if it refuses it."""
-    image = tools.path(request.bitstream or request.text)
-    words = [str(tools.here / "icestorm"), "icebox_vlog", "--used-inputs", "--all-pins", "--register-clocks"]
-    words += ["--layout", str((share / "silicon.layout").absolute())]
-    ended = tools.run("icebox_vlog", words + ["--", str(Path(database).absolute()), image], "module.v")
+def texts_of(request: Request, database: str, share: Path, tools: Tools) -> Tuple[str, str]:
+    """The module that icebox_vlog writes of the configuration, and what icebox_explain says of it. Raises Stop with what one of them says if it
+    refuses it."""
+    words = [str(tools.here / "icestorm"), str((share / "silicon.layout").absolute()), str(Path(database).absolute())]
+    explained = tools.claim("explained.txt")
+    tools.claim("icebox_explain.log")
+    ended = tools.run("icebox_vlog", ["sh", "-c", BOTH, "sh"] + words + [tools.path(request.bitstream or request.text)], "module.v")
     if ended.returncode != 0:
         said = ended.stderr.decode(errors="replace").strip().splitlines()
         status = ended.returncode if 0 < ended.returncode <= 6 else READING
         raise Stop(status, said[-1] if said else "icebox_vlog failed")
-    return ended.stdout.decode(errors="replace")
+    return ended.stdout.decode(errors="replace"), tools.read(explained)
 
 
-def pins_of(request: Request, device: str, database: str, netlist: Netlist, tools: Tools) -> Dict[Place, str]:
-    """The ports of the netlist that the pin file names, by their places. Without a pin file there are none."""
+def pins_of(request: Request, device: str, database: str, netlist: Netlist, tools: Tools) -> Tuple[Dict[Place, str], Optional[Dict[str, bool]]]:
+    """The ports of the netlist that the pin file names, by their places, and which of them it gives a pull-up or none. Without a pin file there
+    are none."""
     if request.pins is None:
-        return {}
+        return {}, None
     package = request.package or PACKAGES.get(device, "")
     try:
         with open(database, encoding="utf-8", errors="replace") as lines:
             places = read_package(lines, package)
     except (OSError, ValueError):
         raise Stop(READING, "read failed: %s" % database) from None
-    return read_pins(tools.read(request.pins), places, package, netlist.ports)
+    text = tools.read(request.pins)
+    return read_pins(text, places, package, netlist.ports), read_pulled(text)
 
 
 def verify(request: Request, tools: Tools) -> int:
@@ -120,9 +137,11 @@ def verify(request: Request, tools: Tools) -> int:
     routed = read_routed(tools.read(request.text), request.text)
     share = tools.here.parent / "share" / "icestorm"
     database = database_of(routed.device, share)
-    pins = pins_of(request, routed.device, database, netlist, tools)
-    tools.progress("icebox_vlog writes the module")
-    module = read_module(module_text(request, database, share, tools))
+    pins, pulled = pins_of(request, routed.device, database, netlist, tools)
+    tools.progress("icebox_vlog writes the module, and icebox_explain lists the settings")
+    text, explained = texts_of(request, database, share, tools)
+    module = read_module(text)
+    image = read_image(explained, tools.path(request.bitstream or request.text))
     tools.progress("yosys reads the models of the cells")
     library = read_library(tools)
     for cell in netlist.cells:
@@ -139,9 +158,12 @@ def verify(request: Request, tools: Tools) -> int:
     comparison.tell_unmatched()
     tell_others(netlist, built, comparison)
     aside = comparison.tell_unshared()
+    places = places_of(pins, partners, comparison.differences)
+    settings = Settings(routed.device, read_chip(database), image, netlist, built, pulled, places)
+    found = settings.differences(partners.memories)
     proof = Proof(comparison, tools, request.seconds)
-    differences = comparison.differences + proof.differences()
-    return report(comparison, differences, aside, proof, bool(pins))
+    differences = comparison.differences + found + proof.differences()
+    return report(comparison, settings, differences, aside, proof, bool(pins))
 
 
 def check_loops(circuit: Circuit, what: str, shown) -> None:
@@ -167,13 +189,13 @@ def counted(count: int, what: str) -> str:
     return "%d %s%s" % (count, what, "" if count == 1 else "s")
 
 
-def report(comparison: Comparison, differences: List[Difference], aside: int, proof: Proof, has_pins: bool) -> int:
+def report(comparison: Comparison, settings: Settings, differences: List[Difference], aside: int, proof: Proof, has_pins: bool) -> int:
     """Prints the verdict, and answers the exit status. aside: how many functions read what has no partner. has_pins: whether there was a pin
     file."""
     if not differences and not aside and not proof.left:
         ours = comparison.ours
-        write_out("equal: %s, %s, %s\n" % (counted(len(ours.registers), "register"), counted(len(ours.outputs), "output"),
-                                           counted(len(ours.memories), "RAM")))
+        counts = {"register": len(ours.registers), "output": len(ours.outputs), "RAM": len(ours.memories), **settings.counts}
+        write_out("equal: %s\n%s\n" % (", ".join(counted(count, what) for what, count in counts.items()), NEVER_COMPARED))
         return 0
     lines = [difference.line() for difference in differences]
     if aside:

@@ -41,7 +41,8 @@ class Port:
 @dataclass
 class Netlist:
     """bits: of each name of a bit. names: of each bit, the one to show first. starts: of each bit with an `init`, 0 or 1.
-    sources: FILE:LINE of the declaration of each bit, where it has one. read: the bits that something reads."""
+    sources: FILE:LINE of the declaration of each bit, where it has one. read: the bits that something reads.
+    pulled: of each bit, and of each name of one, with an attribute PULLUP, whether it is on."""
 
     cells: List[Cell]
     ports: Dict[str, Port]
@@ -50,6 +51,7 @@ class Netlist:
     starts: Dict[Bit, int]
     sources: Dict[Bit, str]
     read: Set[Bit] = field(default_factory=set)
+    pulled: Dict[Bit, bool] = field(default_factory=dict)
 
     def name(self, bit: Bit) -> str:
         """The name of a bit that tells most to a reader."""
@@ -135,6 +137,14 @@ def add_names(netlist: Netlist, nets: dict) -> None:
                 netlist.starts[bit] = max(netlist.starts.get(bit, 0), int(start[::-1][index]))
 
 
+def find_pulled(netlist: Netlist, nets: dict) -> None:
+    """Finds what attributes PULLUP say. Of several names of a bit the last one decides, as in nextpnr."""
+    for name, data in sorted(nets.items()):
+        if "PULLUP" in data.get("attributes", {}):
+            for index, bit in enumerate(data["bits"]):
+                netlist.pulled[bit] = netlist.pulled[bit_name(name, index, data)] = is_set(data["attributes"], "PULLUP")
+
+
 def once(pairs: list) -> dict:
     """An object of JSON, in which no name may come twice."""
     found = dict(pairs)
@@ -180,6 +190,7 @@ def read_netlist(text: str) -> Netlist:
         top = top_module(json.loads(text, object_pairs_hook=once))
         netlist = Netlist([], {}, {}, {}, {}, {})
         add_names(netlist, top["netnames"])
+        find_pulled(netlist, top["netnames"])
         add_ports(netlist, top["ports"])
         for name, data in top["cells"].items():
             if data["type"] not in NOTHING:

@@ -78,8 +78,8 @@ A LUT uses an input if changing that input alone can change its value. With
 doesn't use, and 1'b0 is written in its place. The module has the same values
 as without.
 
-What the database doesn't describe isn't shown, nor is SB_WARMBOOT: a design that
-reboots the chip is written as one that doesn't.
+What the database doesn't describe isn't shown, nor is SB_WARMBOOT: a design
+that reboots the chip is written as one that doesn't.
 
 In a pin file a line `set_io NAME PIN` gives the port at PIN a name: NAME, with
 _ for each byte that is no letter, digit or _, and without _ at the end. p_

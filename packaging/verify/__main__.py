@@ -10,7 +10,7 @@ from typing import Dict, List, Optional, Tuple
 
 from building import Builder, drop_idle
 from cells import RAMS, SWITCH, check_kind, check_model, kind_of, read_library, read_models
-from chip import read_chip
+from chip import Chip, Reading
 from circuit import Circuit, Loop, order
 from comparing import Comparison, Difference
 from image import read_image
@@ -100,18 +100,20 @@ def database_of(device: str, share: Path) -> str:
     raise Stop(READING, "there is no %s in %s" % (name, folder if folder else "%s or %s" % (share / "chipdb", DATABASES)))
 
 
-def texts_of(request: Request, database: str, share: Path, tools: Tools) -> Tuple[str, str]:
-    """The module that icebox_vlog writes of the configuration, and what icebox_explain says of it. Raises Stop with what one of them says if it
-    refuses it."""
+def texts_of(request: Request, database: str, share: Path, tools: Tools) -> Tuple[str, str, Chip]:
+    """The module that icebox_vlog writes of the configuration, what icebox_explain says of it, and what the database says of settings. Raises Stop
+    with what one of them says if it refuses it."""
     words = [str(tools.here / "icestorm"), str((share / "silicon.layout").absolute()), str(Path(database).absolute())]
     explained = tools.claim("explained.txt")
     tools.claim("icebox_explain.log")
-    ended = tools.run("icebox_vlog", ["sh", "-c", BOTH, "sh"] + words + [tools.path(request.bitstream or request.text)], "module.v")
+    reading = Reading(database)
+    words.append(tools.path(request.bitstream or request.text))
+    ended = tools.run("icebox_vlog", ["sh", "-c", BOTH, "sh"] + words, "module.v", meanwhile=reading.read)
     if ended.returncode != 0:
         said = ended.stderr.decode(errors="replace").strip().splitlines()
         status = ended.returncode if 0 < ended.returncode <= 6 else READING
         raise Stop(status, said[-1] if said else "icebox_vlog failed")
-    return ended.stdout.decode(errors="replace"), tools.read(explained)
+    return ended.stdout.decode(errors="replace"), tools.read(explained), reading.result()
 
 
 def pins_of(request: Request, device: str, database: str, netlist: Netlist, tools: Tools) -> Tuple[Dict[Place, str], Optional[Dict[str, bool]]]:
@@ -139,7 +141,7 @@ def verify(request: Request, tools: Tools) -> int:
     database = database_of(routed.device, share)
     pins, pulled = pins_of(request, routed.device, database, netlist, tools)
     tools.progress("icebox_vlog writes the module, and icebox_explain lists the settings")
-    text, explained = texts_of(request, database, share, tools)
+    text, explained, chip = texts_of(request, database, share, tools)
     module = read_module(text)
     image = read_image(explained, tools.path(request.bitstream or request.text))
     tools.progress("yosys reads the models of the cells")
@@ -159,7 +161,7 @@ def verify(request: Request, tools: Tools) -> int:
     tell_others(netlist, built, comparison)
     aside = comparison.tell_unshared()
     places = places_of(pins, partners, comparison.differences)
-    settings = Settings(routed.device, read_chip(database), image, netlist, built, pulled, places)
+    settings = Settings(routed.device, chip, image, netlist, built, pulled, places)
     found = settings.differences(partners.memories)
     proof = Proof(comparison, tools, request.seconds)
     differences = comparison.differences + found + proof.differences()

@@ -3,7 +3,7 @@ global nets and the inputs have in each tile."""
 import mmap
 import re
 from dataclasses import dataclass, field
-from typing import Dict, Iterator, List, Tuple
+from typing import Dict, Iterator, List, Optional, Tuple
 
 from stopping import READING, REFUSED, Stop
 from texts import Place
@@ -53,6 +53,28 @@ def read_head(path: str) -> bytes:
         head = data[:data.find(b"\n.buffer ")]
         device = re.search(rb"^\.device \w+ \d+ \d+ (\d+)$", head, re.M)
         return head if device and int(device.group(1)) == head.count(b"\n.net ") else data[:]
+
+
+class Reading:
+    """Reads a chip database while something else goes on. What it says, or what is wrong with it, comes when it is asked for."""
+
+    def __init__(self, path: str):
+        self.path = path
+        self.chip: Optional[Chip] = None
+        self.stop: Optional[Stop] = None
+
+    def read(self) -> None:
+        """Reads it."""
+        try:
+            self.chip = read_chip(self.path)
+        except Stop as stop:
+            self.stop = stop
+
+    def result(self) -> Chip:
+        """What it says. Raises Stop if it couldn't be read."""
+        if self.chip is None:
+            raise self.stop
+        return self.chip
 
 
 def read_chip(path: str) -> Chip:

@@ -6,7 +6,7 @@ import signal
 import subprocess
 import sys
 from pathlib import Path
-from typing import Dict, List, Optional, Set
+from typing import Callable, Dict, List, Optional, Set
 
 from stopping import MEMORY, READING, TOO_LONG, WRITING, Stop, held
 
@@ -88,14 +88,17 @@ class Tools:
         """Writes a text into the folder."""
         return self.write_bytes(name, text.encode("utf-8", errors="backslashreplace"))
 
-    def run(self, name: str, words: List[str], output: str = "", seconds: Optional[float] = None) -> subprocess.CompletedProcess:
+    def run(self, name: str, words: List[str], output: str = "", seconds: Optional[float] = None,
+            meanwhile: Callable[[], None] = lambda: None) -> subprocess.CompletedProcess:
         """Runs a program in the folder, and keeps what it says as NAME.log there; its standard output in a file of its own, if that is named.
-        Raises subprocess.TimeoutExpired if it takes more than so many seconds. However this ends, the program has ended, and all that it began."""
+        `meanwhile` is called while it runs. Raises subprocess.TimeoutExpired if it takes more than so many seconds. However this ends, the program
+        has ended, and all that it began."""
         process = None
         try:
             with held():
                 process = subprocess.Popen(words, cwd=self.folder, stdin=subprocess.DEVNULL, stdout=subprocess.PIPE, stderr=subprocess.PIPE,
                                            start_new_session=True)
+            meanwhile()
             out, errors = process.communicate(timeout=seconds)
         except OSError:
             raise Stop(READING, "it needs %s, which can't be run" % words[0]) from None

@@ -100,7 +100,7 @@ declare and that no other wire has. A bitstream has no such lines, so its list
 is empty.
 
 Examples: icebox_vlog --used-inputs -n blink chipdb-1k.txt blink.asc >blink.v
-          icebox_vlog --names blink.names chipdb-1k.txt blink.asc >blink.v
+          icebox_vlog --used-inputs --names b.names chipdb-1k.txt b.asc >b.v
 
 Limits: a database has at most 268435456 bytes, an image 16777216, a layout file
 65536, PCF 1048576.

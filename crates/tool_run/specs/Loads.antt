@@ -42,8 +42,8 @@ pub record FailsToLoad {I : Type 0} (contents : Option FileMap) (steady : Bool) 
   pub lacks : steady ≡ true → MatchOption need.name (Unit {0}) (λ name. LacksFile contents name)
   pub untried : is_stream need.name ≡ false → new_input ≡ input
 
--- a need passes its limit: it was reached, has more bytes, and so many were read that one was past the limit. If it is a file, standard
--- input wasn't tried
+-- a need passes its limit: it was reached, has more bytes, and more bytes than the limit were read on its side, from the files together or from
+-- standard input. If it is a file, standard input wasn't tried
 pub record PassesLimit {I : Type 0} (contents : Option FileMap) (left : I → Option (List ℕ)) (reads : I → Counts) (needs : List Need) (loads new_loads : Counts) (input new_input : I) (need : Need) : Type 0 where
   pub reached : Reaches contents (left input) needs need
   pub gave : SourceGave (need.limit + 1) need loads new_loads (reads input) (reads new_input)

@@ -107,7 +107,7 @@ module _ {F I O E : Type 0} where
         ⊎ (Makes by task old Quiet × (new.errors ≡ old.errors))
     -- 2: the tool doesn't take the command line, and its line says so
     pub usage : status ≡ 2 → (said : List ℕ) × Makes by task old (UsageError said) × Says by old new (line_of task.tool_name said)
-    -- 6: a need passes its limit, one byte past it was read, and its line says so
+    -- 6: a need passes its limit, and its line says so
     pub longer : status ≡ 6 → (need : Need)
         × PassesLimit (by.contents old.files) by.left by.reads task.needs (by.loads old.files) (by.loads new.files) old.input new.input need
         × Says by old new (line_of task.tool_name (too_long need))

@@ -187,6 +187,9 @@ def try_arguments(tries):
     gets(["iceunpack", "-vv", "a.bin", "-v"], layout + ["a.bin"])
     gets(["icemulti", "-o", "-v", "-v", "a.bin"], ["--as-stock", "-o", "-v", "a.bin"])
     gets(["icemulti", "-v", "-p0", "--", "-v"], ["--as-stock", "-p0", "--", "-v"])
+    gets(["icepack", "-vs", "a.asc"], layout + ["-s", "a.asc"])
+    gets(["icemulti", "-vo", "v.bin", "-cv", "a.bin"], ["--as-stock", "-o", "v.bin", "-c", "a.bin"])
+    gets(["icemulti", "-ov.bin", "a.bin"], ["--as-stock", "-ov.bin", "a.bin"])
     gets(["icebram", "-v", "-g", "16", "256"], ["--by-mode", "-g", "16", "256"])
     gets(["icebram", "-g", "-s", "-v", "16", "256"], ["--by-mode", "-g", "-s", "-v", "16", "256"])
     gets(["icebox_vlog", "-v", "a.asc"], vlog + [small, "-v", "a.asc"])
@@ -383,6 +386,8 @@ def try_helps(tries, prefix):
     subprocess.run([tries.program, "icepack", "--layout", layout, "blink.asc", "blink.bin"], cwd=image, check=True)
     chip = (image / "blink.bin").read_bytes()
     text = subprocess.run([tries.program, "iceunpack", "--layout", layout, "blink.bin"], cwd=image, check=True, capture_output=True).stdout
+    told = help_of([prefix / "bin/icestorm"])
+    tries.tell("icestorm --help", "its example names a layout file" if "silicon.layout" in told else "")
     for tool in TOOLS:
         told = help_of([prefix / "bin" / tool])
         long = [line for line in told.splitlines() if len(line) > 80]

@@ -70,9 +70,9 @@ note() {
   esac
 }
 
-# print_help: the program's help of the tool, whose examples need no layout file here, and the note
+# print_help [TOOL]: the program's help, or that of a tool, whose examples need no layout file here, and the note
 print_help() {
-  text=$("$program" "$tool" --help) || exit
+  text=$("$program" "$@" --help) || exit
   text=$(printf '%s\n' "$text" | sed 's/ --layout silicon\.layout / /' && note | fold -s -w 80 | sed 's/ *$//')
   printf '%s\n' "$text" 2>/dev/null || {
     printf '%s: write failed: standard output\n' "$tool" >&2
@@ -105,10 +105,26 @@ look_at_option() {
     layouts=$((layouts + 1))
     [ "$layouts,$word" != 1,--layout=standard ] || ! has layout || kept=no standard=yes
     ;;
+  --*) ;;
+  *v*) ! has verbose || take_out_verbose ;;
   esac
-  case ${word#-} in *[!v]*) ;; *) ! has verbose || kept=no ;; esac
   case " $values " in *" $word "*) is_value=yes ;; esac
   given="$given$word "
+}
+
+# take_out_verbose: takes -v out of a word of short options; what stands behind an option with a value is the value
+take_out_verbose() {
+  rest=${word#-} word=-
+  while [ -n "$rest" ]; do
+    letter=${rest%"${rest#?}"} rest=${rest#?}
+    [ "$letter" = v ] || word=$word$letter
+    case " $values " in *" -$letter "*)
+      word=$word$rest
+      break
+      ;;
+    esac
+  done
+  [ "$word" != - ] || kept=no
 }
 
 # is_given OPTION: whether an option, or one that begins so, stands among the arguments, before any --
@@ -225,7 +241,14 @@ run() {
 }
 
 if [ -z "$tool" ]; then
-  know "${1-}" || exec "$program" "$@"
+  know "${1-}" || case $#,${1-} in
+  1,--help)
+    tool=icestorm
+    print_help
+    exit
+    ;;
+  *) exec "$program" "$@" ;;
+  esac
   tool=$1
   shift
 else
@@ -234,7 +257,7 @@ fi
 
 case $#,${1-} in
 1,--help)
-  print_help
+  print_help "$tool"
   exit
   ;;
 1,--version) exec "$program" "$tool" --version ;;

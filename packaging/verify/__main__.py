@@ -38,7 +38,7 @@ explained=$?
 [ $explained -eq 0 ] || cat icebox_explain.log >&2
 exit $explained
 """
-NEVER_COMPARED = "never compared: timing, power-up, analogue settings of pins"
+NEVER_COMPARED = "never compared: timing, power-up, warm boot, analogue settings of pins"
 
 
 @dataclass
